@@ -1,0 +1,40 @@
+-- Document 01, "Refusal numbers": the table, row by row.
+use Prim.Native.Nat.{ℕ}
+use Rattle.refusal.specs.declared.Refusal.{Refusal}
+use Rattle.refusal.specs.declared.Refusal.the-variants.{RoomFull, AlreadySeated, NotSeated, PacketSize, UnexpectedKind, WrongLength, ZeroPing, NoSuchRoute, NotConnected, OutputTooShort, RoomNotWhole, ListSize, KeyNotHeld, ListNotWhole, UnknownFamily, NodeCutShort, BytesAfterNodes}
+
+abbrev pub refusalNumber : Refusal → ℕ
+-- "arrival with all 40 seats taken"
+refusalNumber RoomFull = 1
+-- "arrival of a key already seated"
+refusalNumber AlreadySeated = 2
+-- "seat above 39, or empty"
+refusalNumber NotSeated = 3
+-- "packet of 0 or more than 2,032 bytes"
+refusalNumber PacketSize = 4
+-- "a kind this end does not take"
+refusalNumber UnexpectedKind = 5
+-- "wrong length for the kind"
+refusalNumber WrongLength = 6
+-- "ping number 0"
+refusalNumber ZeroPing = 7
+-- "room: number names no route; laptop's end: answer with 1 to 15, or kind 2 or 3 below 16"
+refusalNumber NoSuchRoute = 8
+-- "data on a waiting route"
+refusalNumber NotConnected = 9
+-- "lent output too short"
+refusalNumber OutputTooShort = 10
+-- "room not whole"
+refusalNumber RoomNotWhole = 11
+-- "list size not 1 to 16"
+refusalNumber ListSize = 12
+-- "key to remove is not held"
+refusalNumber KeyNotHeld = 13
+-- "list longer than its size, not strictly rising in distance, or holding an unknown family"
+refusalNumber ListNotWhole = 14
+-- "unknown family byte"
+refusalNumber UnknownFamily = 15
+-- "node cut short"
+refusalNumber NodeCutShort = 16
+-- "bytes left after four nodes"
+refusalNumber BytesAfterNodes = 17
