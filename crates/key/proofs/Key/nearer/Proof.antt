@@ -1,0 +1,89 @@
+-- `Key::nearer` meets its contract. The invariant: the bytes not yet compared decide. Assumes nothing.
+use mathlib.Core.Path.{_≡_, _∙_, sym}
+use Prim.Native.Nat.{_-_, _≤_}
+use native.Mathlib.Omega.{arith}
+use lib.ListN.{length-map}
+use Rattle.key.specs.Keys.{IsKey, nearer}
+use Rattle.key.proofs.Distance.{nearerFrom, from-start, byte-decides, byte-same, bytes-end}
+use Rattle.key.proofs.Owned.{each-byte}
+use Rattle.key.proofs.Key.nearer.Statement.{statement}
+use Rattle.key.proofs.Key.nearer.Tie as tie
+
+abbrev Inv-loop : tie.InvT-loop
+Inv-loop self a b i₀ i = (i ≤ 32) × (nearer (self .0) (a .0) (b .0) ≡ nearerFrom i (self .0) (a .0) (b .0))
+
+abbrev μ-loop : tie.MeasureT-loop
+μ-loop self a b i₀ i = 32 - i
+
+known-t1 : (s : tie.Start Inv-loop μ-loop) → IsKey (s .args .t1 .0)
+known-t1 s =
+    let g = s .good .0 .1 .1 .0 in
+    record { long = sym (length-map (s .args .t1 .0) _) ∙ g .1 .0 .1; bytes = each-byte (s .args .t1 .0) (g .0) (g .1 .1) }
+
+known-t2 : (s : tie.Start Inv-loop μ-loop) → IsKey (s .args .t2 .0)
+known-t2 s =
+    let g = s .good .1 .0 .1 .1 .0 in
+    record { long = sym (length-map (s .args .t2 .0) _) ∙ g .1 .0 .1; bytes = each-byte (s .args .t2 .0) (g .0) (g .1 .1) }
+
+known-t3 : (s : tie.Start Inv-loop μ-loop) → IsKey (s .args .t3 .0)
+known-t3 s =
+    let g = s .good .1 .1 .0 .1 .1 .0 in
+    record { long = sym (length-map (s .args .t3 .0) _) ∙ g .1 .0 .1; bytes = each-byte (s .args .t3 .0) (g .0) (g .1 .1) }
+
+loop-holds : tie.Need-loop-holds Inv-loop μ-loop
+loop-holds c = (omega arith, from-start (c .args .t1 .0) (c .args .t2 .0) (c .args .t3 .0))
+
+element-copy-out-to-a : tie.Need-element-copy-out-to-a Inv-loop μ-loop
+element-copy-out-to-a c = omega arith
+
+element-copy-out-to-a-2 : tie.Need-element-copy-out-to-a-2 Inv-loop μ-loop
+element-copy-out-to-a-2 c = omega arith
+
+element-copy-out-to-b : tie.Need-element-copy-out-to-b Inv-loop μ-loop
+element-copy-out-to-b c = omega arith
+
+element-copy-out-to-b-2 : tie.Need-element-copy-out-to-b-2 Inv-loop μ-loop
+element-copy-out-to-b-2 c = omega arith
+
+returns : tie.Need-returns Inv-loop μ-loop
+returns c =
+    let l = c .before .before .before .before .before .before .loop in
+    let s = c .before .before .before .before .before .before .before in
+    let h = c .before .before .before .before .before .loop-test .taken in
+    sym (l .inv .1 ∙ byte-decides (s .args .t1 .0) (s .args .t2 .0) (s .args .t3 .0) (known-t1 s) (known-t2 s) (known-t3 s) (l .i) h (c .if1 .taken))
+
+add-i : tie.Need-add-i Inv-loop μ-loop
+add-i c = omega arith
+
+loop-less : tie.Need-loop-less Inv-loop μ-loop
+loop-less c = omega arith
+
+loop-again : tie.Need-loop-again Inv-loop μ-loop
+loop-again c =
+    let l = c .before .before .before .before .before .before .loop in
+    let s = c .before .before .before .before .before .before .before in
+    let h = c .before .before .before .before .before .loop-test .taken in
+    (omega arith, l .inv .1 ∙ byte-same (s .args .t1 .0) (s .args .t2 .0) (s .args .t3 .0) (known-t1 s) (known-t2 s) (known-t3 s) (l .i) h (c .if1 .left))
+
+returns-2 : tie.Need-returns-2 Inv-loop μ-loop
+returns-2 c =
+    let l = c .before .loop in
+    let s = c .before .before in
+    sym (l .inv .1 ∙ bytes-end (s .args .t1 .0) (s .args .t2 .0) (s .args .t3 .0) (known-t1 s) (known-t2 s) (known-t3 s) (l .i) (c .loop-test .left))
+
+pub nearer-spec : {M : Type 1} → statement M
+nearer-spec =
+    tie.close
+    (tie.spec
+    Inv-loop
+    μ-loop
+    loop-holds
+    element-copy-out-to-a
+    element-copy-out-to-a-2
+    element-copy-out-to-b
+    element-copy-out-to-b-2
+    returns
+    add-i
+    loop-less
+    loop-again
+    returns-2)
