@@ -1,0 +1,42 @@
+-- Laws of the places in a packet: its first byte and the rest, its tail as a part, and lists of few bytes. Assumes nothing.
+use mathlib.Core.Path.{_≡_, _∙_, refl, sym, ap}
+use mathlib.Core.List.{List, [], _∷_}
+use Prim.Native.Nat.{ℕ, _-_, _<_, _≤_, _^_}
+use native.Mathlib.Omega.{arith}
+use lib.ListN.{length, getD, take, drop, length-drop}
+use lib.Seq.{take-all, take-length}
+use borrow.Author.Tests.{le-leb}
+use Rattle.wire.specs.Numbers.{Bytes, numberOf, bytesOf}
+use Rattle.wire.proofs.Numbers.{bytesOf-number, number-bytesOf, length-bytesOf}
+use Rattle.packet.specs.Table.{kindOf, bodyOf}
+use Rattle.packet.specs.Parts.{partOf}
+
+pub kind-and-body : (bytes : List ℕ) → 1 ≤ length bytes → bytes ≡ kindOf bytes ∷ bodyOf bytes
+unfolding kindOf bodyOf
+kind-and-body [] h = absurd (omega arith)
+kind-and-body (b ∷ bs) h = refl
+
+pub length-body : (bytes : List ℕ) → length (bodyOf bytes) ≡ length bytes - 1
+unfolding bodyOf
+length-body bytes = length-drop 1 bytes
+
+-- all bytes from a place on, as a part
+pub part-tail : (bytes : List ℕ) (at : ℕ) → at ≤ length bytes → partOf bytes (record { start = at; length = length (drop at bytes) }) ≡ drop at bytes
+unfolding partOf
+part-tail bytes at h =
+    let e = length-drop at bytes in
+    simp (le-leb at (length bytes) h, le-leb (length (drop at bytes)) (length bytes - at) (omega arith)) (take-length (drop at bytes))
+
+pub one-byte : (bytes : List ℕ) → length bytes ≡ 1 → bytes ≡ getD bytes 0 0 ∷ []
+one-byte [] e = absurd (omega arith)
+one-byte (x ∷ []) e = refl
+one-byte (x ∷ y ∷ bytes) e = absurd (omega arith)
+
+-- eight bytes are those of their number, and a number of 64 bits is that of its eight bytes
+pub word-bytes : (bytes : List ℕ) → length bytes ≡ 8 → Bytes bytes → bytesOf 8 (numberOf (take 8 bytes)) ≡ bytes
+word-bytes bytes e s =
+    ap (λ (l : List ℕ). bytesOf 8 (numberOf l)) (take-all 8 bytes (omega arith))
+    ∙ ap (λ (n : ℕ). bytesOf n (numberOf bytes)) (sym e) ∙ bytesOf-number bytes s
+
+pub word-number : (n : ℕ) → n < 2 ^ 64 → numberOf (take 8 (bytesOf 8 n)) ≡ n
+word-number n h = ap numberOf (take-all 8 (bytesOf 8 n) (let e = length-bytesOf 8 n in omega arith)) ∙ number-bytesOf 8 n h

@@ -1,0 +1,102 @@
+-- Laws of the relay's reader: which kinds it takes, and that its answer as code stands for the packet read. Assumes nothing.
+use mathlib.Core.Path.{_≡_, _∙_, sym, ap, ap₂}
+use mathlib.Core.Bool.{true}
+use mathlib.Core.List.{List}
+use mathlib.Core.Logic.{⊎-elim}
+use Prim.Native.Nat.{ℕ, _≤_}
+use native.Mathlib.Omega.{arith}
+use lib.Dec.{eqb, leb}
+use lib.ListN.{length, drop, length-drop}
+use lib.Seq.{drop-drop}
+use borrow.Author.Tests.{eqb-true, leb-true}
+use Rattle.refusal.specs.declared.Refusal.{Refusal}
+use Rattle.packet.specs.declared.relay.ClientPacket.{ClientPacket}
+use Rattle.packet.specs.declared.relay.RelayRead.{RelayRead}
+use Rattle.packet.specs.declared.relay.RelayRead.the-variants.{Packet, Refused}
+use Rattle.packet.specs.Read.{packet, refused}
+use Rattle.packet.specs.Table.{kindOf, bodyOf, relayTakes}
+use Rattle.packet.specs.FromClient.{FromClient, routingRequest, oobSend, routedData, fromClient, relayRead}
+use Rattle.packet.specs.RelayReads.{RelayReads, clientPacketOf, relayReadOf, shownClient, shownRelayRead}
+use Rattle.packet.proofs.KindLaws.{or-true, from-client-data, size-bounds, length-request, length-oob-send}
+use Rattle.key.proofs.Lent.{key-whole}
+use Rattle.packet.proofs.CheckLaws.{Passes, passes, Checks, pass, fail, checks}
+use Rattle.packet.proofs.PartLaws.{part-tail}
+
+-- ---- the kinds that the relay takes
+
+pub data RelayKind (k : ℕ) : Type 0 where
+  is-request : k ≡ 0 → RelayKind k
+  is-drop : k ≡ 3 → RelayKind k
+  is-ping : k ≡ 4 → RelayKind k
+  is-pong : k ≡ 5 → RelayKind k
+  is-oob : k ≡ 6 → RelayKind k
+  is-data : 16 ≤ k → RelayKind k
+
+pub relay-kind : (k : ℕ) → relayTakes k ≡ true → RelayKind k
+unfolding relayTakes
+relay-kind k h =
+    ⊎-elim (λ (e : eqb k 0 ≡ true). is-request (eqb-true k 0 e)) (λ (r : _ ≡ true).
+    ⊎-elim (λ (e : eqb k 3 ≡ true). is-drop (eqb-true k 3 e)) (λ (r : _ ≡ true).
+    ⊎-elim (λ (e : eqb k 4 ≡ true). is-ping (eqb-true k 4 e)) (λ (r : _ ≡ true).
+    ⊎-elim (λ (e : eqb k 5 ≡ true). is-pong (eqb-true k 5 e)) (λ (r : _ ≡ true).
+    ⊎-elim (λ (e : eqb k 6 ≡ true). is-oob (eqb-true k 6 e)) (λ (r : leb 16 k ≡ true). is-data (leb-true 16 k r))
+    (or-true _ _ r)) (or-true _ _ r)) (or-true _ _ r)) (or-true _ _ r)) (or-true _ _ h)
+
+-- ---- a packet that the relay takes
+
+module _ (bytes : List ℕ) (taken : Passes relayTakes bytes) where
+  pub relay-takes : relayRead bytes ≡ packet (fromClient (kindOf bytes) (bodyOf bytes))
+  unfolding relayRead
+  relay-takes = passes relayTakes bytes (packet (fromClient (kindOf bytes) (bodyOf bytes))) taken
+
+  -- each place in the answer holds what was read there
+  shown-is-read : RelayKind (kindOf bytes) → clientPacketOf bytes (shownClient (fromClient (kindOf bytes) (bodyOf bytes))) ≡ fromClient (kindOf bytes) (bodyOf bytes)
+  unfolding fromClient shownClient clientPacketOf bodyOf
+  shown-is-read (is-request e) =
+      let h = length-request (kindOf bytes) (length bytes) (taken .long) e in
+      let l = length-drop 1 bytes in
+      rw e (ap routingRequest (key-whole (drop 1 bytes) (omega arith)))
+  shown-is-read (is-drop e) = rw e
+  shown-is-read (is-ping e) = rw e
+  shown-is-read (is-pong e) = rw e
+  shown-is-read (is-oob e) =
+      let h = length-oob-send (kindOf bytes) (length bytes) (taken .long) e in
+      let l = length-drop 1 bytes in
+      let d : drop 32 (drop 1 bytes) ≡ drop 33 bytes = drop-drop 32 1 bytes in
+      rw (e, d) (ap₂ oobSend (key-whole (drop 1 bytes) (omega arith)) (part-tail bytes 33 (omega arith)))
+  shown-is-read (is-data h) =
+      let s = size-bounds (length bytes) (taken .size) in
+      rw (from-client-data (kindOf bytes) (drop 1 bytes) (omega arith)) (ap (routedData (kindOf bytes)) (part-tail bytes 1 (omega arith)))
+
+-- ---- the answer as code stands for the packet read
+
+accepted-means : (bytes : List ℕ) (p : FromClient) → relayRead bytes ≡ packet p → clientPacketOf bytes (shownClient p) ≡ p
+    → relayReadOf bytes (shownRelayRead (relayRead bytes)) ≡ relayRead bytes
+unfolding relayReadOf shownRelayRead
+accepted-means bytes p e h = rw e (ap packet h)
+
+refused-means : (bytes : List ℕ) (why : Refusal) → relayRead bytes ≡ refused why → relayReadOf bytes (shownRelayRead (relayRead bytes)) ≡ relayRead bytes
+unfolding relayReadOf shownRelayRead
+refused-means bytes why e = rw e
+
+pub relay-shown-means : (bytes : List ℕ) → relayReadOf bytes (shownRelayRead (relayRead bytes)) ≡ relayRead bytes
+unfolding relayRead
+relay-shown-means bytes = go (checks relayTakes bytes (packet (fromClient (kindOf bytes) (bodyOf bytes))))
+  where
+    go : Checks relayTakes bytes (packet (fromClient (kindOf bytes) (bodyOf bytes))) → relayReadOf bytes (shownRelayRead (relayRead bytes)) ≡ relayRead bytes
+    go (pass taken) =
+        accepted-means bytes (fromClient (kindOf bytes) (bodyOf bytes)) (relay-takes bytes taken) (shown-is-read bytes taken (relay-kind (kindOf bytes) (taken .kind)))
+    go (fail why e) = refused-means bytes why e
+
+-- an answer with the right places stands for the packet read
+pub relay-reads : (bytes : List ℕ) (answer : RelayRead) → answer ≡ shownRelayRead (relayRead bytes) → RelayReads bytes answer
+relay-reads bytes answer e = record { means = ap (relayReadOf bytes) e ∙ relay-shown-means bytes; exact = e }
+
+pub relay-reads-refused : (bytes : List ℕ) (why : Refusal) → relayRead bytes ≡ refused why → RelayReads bytes (Refused why)
+unfolding shownRelayRead
+relay-reads-refused bytes why e = relay-reads bytes (Refused why) (sym (ap shownRelayRead e))
+
+pub relay-reads-packet : (bytes : List ℕ) (shown : ClientPacket) → Passes relayTakes bytes → shown ≡ shownClient (fromClient (kindOf bytes) (bodyOf bytes))
+    → RelayReads bytes (Packet shown)
+unfolding shownRelayRead
+relay-reads-packet bytes shown taken e = relay-reads bytes (Packet shown) (ap Packet e ∙ sym (ap shownRelayRead (relay-takes bytes taken)))

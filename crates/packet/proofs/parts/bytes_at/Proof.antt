@@ -1,0 +1,62 @@
+-- `packet::parts::bytes_at` meets its contract: at each `return` the tests that led there say which case of `partOf` holds. Assumes nothing.
+use borrow.Author.Needs.{needs}
+use borrow.Author.Tests.{le-leb, lt-leb}
+use native.Mathlib.Nat.{add-sub-cancel-left}
+use mathlib.Core.Path.{ap}
+use Prim.Native.Nat.{ℕ}
+use lib.ListN.{take, drop}
+use denote.Ref.{now}
+use Rattle.packet.specs.Parts.{partOf}
+use Rattle.packet.proofs.parts.bytes_at.Statement.{statement}
+use Rattle.packet.proofs.parts.bytes_at.Tie as tie
+
+sub-if2 : tie.Need-sub-if2
+sub-if2 c = search needs
+
+add-result : tie.Need-add-result
+add-result c = search needs
+
+sub-result : tie.Need-sub-result
+sub-result c = search needs
+
+part-result-start : tie.Need-part-result-start
+part-result-start c = search needs
+
+part-result-end : tie.Need-part-result-end
+part-result-end c = search needs
+
+slice-aggregate-result : tie.Need-slice-aggregate-result
+slice-aggregate-result c = search needs
+
+slice-aggregate-result-2 : tie.Need-slice-aggregate-result-2
+slice-aggregate-result-2 c = search needs
+
+returns : tie.Need-returns
+unfolding partOf
+returns c =
+    let a = c .before .before .before .args in
+    simp (le-leb _ _ (c .before .before .if1 .taken), le-leb _ _ (c .before .if2 .taken))
+    (ap (λ (k : ℕ). take k (drop (a .part .start) (now (a .packet)))) (add-sub-cancel-left (a .part .start) (a .part .length)))
+
+returns-2 : tie.Need-returns-2
+unfolding partOf
+returns-2 c = simp (le-leb _ _ (c .before .before .if1 .taken), lt-leb _ _ (c .before .if2 .left))
+
+returns-3 : tie.Need-returns-3
+unfolding partOf
+returns-3 c = simp (lt-leb _ _ (c .before .if1 .left))
+
+pub bytes-at-spec : {M : Type 1} → statement M
+bytes-at-spec =
+    tie.close
+    (tie.spec
+    sub-if2
+    add-result
+    sub-result
+    part-result-start
+    part-result-end
+    slice-aggregate-result
+    slice-aggregate-result-2
+    returns
+    returns-2
+    returns-3)

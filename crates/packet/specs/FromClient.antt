@@ -1,0 +1,50 @@
+-- What a client sends, its bytes, and how the relay reads them. Document 01, "Relay packets"; document 001, "Encrypted payload types".
+use mathlib.Core.Bool.{cond}
+use mathlib.Core.List.{List, [], _∷_, _++_}
+use Prim.Native.Nat.{ℕ, _<_, _^_}
+use lib.Dec.{eqb}
+use lib.ListN.{getD, take, drop}
+use Rattle.wire.specs.Numbers.{Bytes, numberOf, bytesOf}
+use Rattle.key.specs.Keys.{IsKey}
+use Rattle.packet.specs.Read.{Read, packet}
+use Rattle.packet.specs.Table.{kindOf, bodyOf, relayTakes, checked}
+
+pub data FromClient : Type 0 where
+  routingRequest : List ℕ → FromClient
+  dropRoute : ℕ → FromClient
+  ping : ℕ → FromClient
+  pong : ℕ → FromClient
+  oobSend : List ℕ → List ℕ → FromClient
+  routedData : ℕ → List ℕ → FromClient
+
+-- the table's third column, "Bytes"
+unfoldable pub clientBytes : FromClient → List ℕ
+clientBytes (routingRequest key) = 0 ∷ key
+clientBytes (dropRoute number) = 3 ∷ number ∷ []
+clientBytes (ping n) = 4 ∷ bytesOf 8 n
+clientBytes (pong n) = 5 ∷ bytesOf 8 n
+clientBytes (oobSend key bytes) = 6 ∷ (key ++ bytes)
+clientBytes (routedData number bytes) = number ∷ bytes
+
+-- the same column read: what the bytes after a kind are
+unfoldable pub fromClient : ℕ → List ℕ → FromClient
+fromClient kind body =
+    cond (eqb kind 0) (routingRequest (take 32 body))
+    (cond (eqb kind 3) (dropRoute (getD body 0 0))
+    (cond (eqb kind 4) (ping (numberOf (take 8 body)))
+    (cond (eqb kind 5) (pong (numberOf (take 8 body)))
+    (cond (eqb kind 6) (oobSend (take 32 body) (drop 32 body))
+    (routedData kind body)))))
+
+-- the relay's reader: checks 4 to 7; it "judges no route number"
+unfoldable pub relayRead : List ℕ → Read FromClient
+relayRead bytes = checked relayTakes bytes (packet (fromClient (kindOf bytes) (bodyOf bytes)))
+
+-- values that the fields of a packet can have: keys of 32 bytes, numbers of one byte, ping numbers of eight, bytes
+unfoldable pub FitsClient : FromClient → Type 0
+FitsClient (routingRequest key) = IsKey key
+FitsClient (dropRoute number) = number < 256
+FitsClient (ping n) = n < 2 ^ 64
+FitsClient (pong n) = n < 2 ^ 64
+FitsClient (oobSend key bytes) = IsKey key × Bytes bytes
+FitsClient (routedData number bytes) = (number < 256) × Bytes bytes

@@ -1,0 +1,70 @@
+-- The relay's reader as code: for each case of its answer, document 01's packet or refusal.
+use mathlib.Core.List.{List, []}
+use mathlib.Core.Path.{_≡_}
+use Prim.Native.Nat.{ℕ}
+use lib.ListN.{length, drop, replicate}
+use Rattle.key.specs.Keys.{keyOf}
+use Rattle.packet.specs.declared.relay.ClientPacket.{ClientPacket}
+use Rattle.packet.specs.declared.relay.ClientPacket.the-variants.{RoutingRequest, DropRoute, Ping, Pong, OobSend, Data}
+use Rattle.packet.specs.declared.relay.RelayRead.{RelayRead}
+use Rattle.packet.specs.declared.relay.RelayRead.the-variants.{Packet, Refused}
+use Rattle.packet.specs.Read.{Read, packet, refused}
+use Rattle.packet.specs.FromClient.{FromClient, routingRequest, dropRoute, ping, pong, oobSend, routedData, relayRead}
+use Rattle.packet.specs.Parts.{partOf}
+
+-- the packet that a case stands for, in the lent bytes
+unfoldable pub clientPacketOf : List ℕ → ClientPacket → FromClient
+clientPacketOf bytes (RoutingRequest key) = routingRequest (keyOf (drop key bytes))
+clientPacketOf bytes (DropRoute number) = dropRoute (number .0)
+clientPacketOf bytes (Ping n) = ping n
+clientPacketOf bytes (Pong n) = pong n
+clientPacketOf bytes (OobSend key part) = oobSend (keyOf (drop key bytes)) (partOf bytes part)
+clientPacketOf bytes (Data number part) = routedData (number .0) (partOf bytes part)
+
+unfoldable pub relayReadOf : List ℕ → RelayRead → Read FromClient
+relayReadOf bytes (Packet shown) = packet (clientPacketOf bytes shown)
+relayReadOf bytes (Refused why) = refused why
+
+-- where the parts of a packet stand: a key after the kind, a payload after the kind or after the key
+unfoldable pub shownClient : FromClient → ClientPacket
+shownClient (routingRequest key) = RoutingRequest 1
+shownClient (dropRoute number) = DropRoute (record { 0 = number })
+shownClient (ping n) = Ping n
+shownClient (pong n) = Pong n
+shownClient (oobSend key bytes) = OobSend 1 (record { start = 33; length = length bytes })
+shownClient (routedData number bytes) = Data (record { 0 = number }) (record { start = 1; length = length bytes })
+
+unfoldable pub shownRelayRead : Read FromClient → RelayRead
+shownRelayRead (packet p) = Packet (shownClient p)
+shownRelayRead (refused why) = Refused why
+
+-- the reader's answer: it stands for what document 01 has the relay read, and each place is the packet's own
+pub record RelayReads (bytes : List ℕ) (answer : RelayRead) : Type 0 where
+  pub means : relayReadOf bytes answer ≡ relayRead bytes
+  pub exact : answer ≡ shownRelayRead (relayRead bytes)
+
+-- "the data is shown as part of the lent packet": the payload of a packet that has one
+unfoldable pub payloadFromClient : FromClient → List ℕ
+payloadFromClient (routingRequest key) = []
+payloadFromClient (dropRoute number) = []
+payloadFromClient (ping n) = []
+payloadFromClient (pong n) = []
+payloadFromClient (oobSend key bytes) = bytes
+payloadFromClient (routedData number bytes) = bytes
+
+unfoldable pub relayPayload : Read FromClient → List ℕ
+relayPayload (packet p) = payloadFromClient p
+relayPayload (refused why) = []
+
+-- the key of a packet that has one
+unfoldable pub keyFromClient : FromClient → List ℕ
+keyFromClient (routingRequest key) = key
+keyFromClient (dropRoute number) = replicate 32 0
+keyFromClient (ping n) = replicate 32 0
+keyFromClient (pong n) = replicate 32 0
+keyFromClient (oobSend key bytes) = key
+keyFromClient (routedData number bytes) = replicate 32 0
+
+unfoldable pub relayKey : Read FromClient → List ℕ
+relayKey (packet p) = keyFromClient p
+relayKey (refused why) = replicate 32 0

@@ -1,0 +1,104 @@
+// The relay's end: how it reads what clients send.
+ghost use mathlib.Core.Path.{_≡_};
+ghost use mathlib.Core.Bool.{true};
+ghost use lib.ListN.{length, drop};
+ghost use Rattle.packet.specs.FromClient.{relayRead, fromClient};
+ghost use Rattle.packet.specs.Table.{lengthRight};
+ghost use Rattle.packet.specs.RelayReads.{RelayReads, shownClient, relayPayload, relayKey};
+use crate::kind;
+use crate::parts;
+use crate::parts::ConnectionNumber;
+use crate::parts::Part;
+use key::Key;
+use refusal::Refusal;
+
+// What a client sends: numbers as they are, keys and payloads by their place in the packet.
+pub enum ClientPacket {
+    RoutingRequest { key: usize },
+    DropRoute(ConnectionNumber),
+    Ping(u64),
+    Pong(u64),
+    OobSend { key: usize, payload: Part },
+    Data(ConnectionNumber, Part),
+}
+
+pub enum RelayRead {
+    Packet(ClientPacket),
+    Refused(Refusal),
+}
+
+// Reads a packet from a client. Refusals 4, 5, 6, 7, in this order.
+pub fn read(packet: &[u8]) -> RelayRead
+    ensures { λ r. ⌜ RelayReads (now (packet .entry)) r ⌝ }
+{
+    let size = packet.len();
+    if !kind::size_right(size) {
+        return RelayRead::Refused(Refusal::PacketSize);
+    }
+    let kind = packet[0];
+    if !kind::relay_takes(kind) {
+        return RelayRead::Refused(Refusal::UnexpectedKind);
+    }
+    if !kind::length_right(kind, size) {
+        return RelayRead::Refused(Refusal::WrongLength);
+    }
+    if !kind::ping_right(kind, &packet[1..]) {
+        return RelayRead::Refused(Refusal::ZeroPing);
+    }
+    RelayRead::Packet(shown(kind, packet))
+}
+
+// Where the parts of a packet of the right length stand.
+fn shown(kind: u8, packet: &[u8]) -> ClientPacket
+    requires { ⌜ lengthRight kind (length (now packet)) ≡ true ⌝ }
+    ensures { λ r. ⌜ r ≡ shownClient (fromClient kind (drop 1 (now (packet .entry)))) ⌝ }
+{
+    match kind {
+        kind::REQUEST => ClientPacket::RoutingRequest { key: 1 },
+        kind::DISCONNECT => ClientPacket::DropRoute(ConnectionNumber(packet[1])),
+        kind::PING => ClientPacket::Ping(wire::read_number(&packet[1..])),
+        kind::PONG => ClientPacket::Pong(wire::read_number(&packet[1..])),
+        kind::OOB_SEND => ClientPacket::OobSend {
+            key: 1,
+            payload: Part {
+                start: 33,
+                length: packet.len() - 33,
+            },
+        },
+        _ => ClientPacket::Data(
+            ConnectionNumber(kind),
+            Part {
+                start: 1,
+                length: packet.len() - 1,
+            },
+        ),
+    }
+}
+
+// The payload of a data packet or an out-of-band send, as a part of the lent packet; the empty part where there is none.
+pub fn payload(packet: &[u8]) -> &[u8]
+    ensures { λ r. ⌜ now r ≡ relayPayload (relayRead (now (packet .entry))) ⌝ }
+{
+    let RelayRead::Packet(read) = read(packet) else {
+        return &packet[..0];
+    };
+    match read {
+        ClientPacket::OobSend { key: _, payload } => parts::bytes_at(packet, payload),
+        ClientPacket::Data(_, payload) => parts::bytes_at(packet, payload),
+        _ => &packet[..0],
+    }
+}
+
+// The key of a routing request or an out-of-band send, by value; the key of zeros where there is none.
+pub fn key(packet: &[u8]) -> Key
+    ensures { λ r. ⌜ r .0 ≡ relayKey (relayRead (now (packet .entry))) ⌝ }
+{
+    let RelayRead::Packet(read) = read(packet) else {
+        return Key([0u8; 32]);
+    };
+    match read {
+        ClientPacket::RoutingRequest { key } => parts::key_at(packet, key),
+        ClientPacket::OobSend { key, payload: _ } => parts::key_at(packet, key),
+        _ => Key([0u8; 32]),
+    }
+}
