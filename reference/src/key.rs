@@ -1,0 +1,75 @@
+//! Keys and the distance of two keys.
+
+/// A key is 32 bytes. The key of 32 zero bytes is a key like any other.
+pub type Key = [u8; 32];
+
+/// The distance of two keys: their XOR.
+///
+/// The 32 bytes are one 256-bit number with its highest byte first, so two
+/// distances compare as numbers when they are compared as arrays.
+pub fn distance(a: &Key, b: &Key) -> [u8; 32] {
+    let mut xor = [0; 32];
+    for place in 0..32 {
+        xor[place] = a[place] ^ b[place];
+    }
+    xor
+}
+
+/// Whether `a` is strictly nearer to `target` than `b` is.
+pub fn nearer(target: &Key, a: &Key, b: &Key) -> bool {
+    distance(target, a) < distance(target, b)
+}
+
+#[cfg(test)]
+mod tests {
+    use super::*;
+
+    /// A key that is zero but for its last byte.
+    fn ending(last: u8) -> Key {
+        let mut key = [0; 32];
+        key[31] = last;
+        key
+    }
+
+    #[test]
+    fn distance_is_xor_and_not_subtraction() {
+        let target = ending(0x08);
+        assert_eq!(distance(&target, &ending(0x0c)), ending(4));
+        assert_eq!(distance(&target, &ending(0x07)), ending(15));
+        assert!(nearer(&target, &ending(0x0c), &ending(0x07)));
+        assert!(!nearer(&target, &ending(0x07), &ending(0x0c)));
+    }
+
+    #[test]
+    fn distance_has_its_highest_byte_first() {
+        let target = [0; 32];
+        let mut high = [0; 32];
+        high[0] = 1;
+        let low = ending(0xff);
+        assert!(nearer(&target, &low, &high));
+        assert!(!nearer(&target, &high, &low));
+    }
+
+    #[test]
+    fn distance_is_the_same_both_ways_and_zero_to_itself() {
+        let a = [0x11; 32];
+        let b = [0x22; 32];
+        assert_eq!(distance(&a, &b), [0x33; 32]);
+        assert_eq!(distance(&b, &a), [0x33; 32]);
+        assert_eq!(distance(&a, &a), [0; 32]);
+    }
+
+    #[test]
+    fn no_key_is_nearer_than_itself() {
+        let key = [0x22; 32];
+        assert!(!nearer(&[0x11; 32], &key, &key));
+        assert!(!nearer(&key, &key, &key));
+    }
+
+    #[test]
+    fn the_target_is_nearest_to_itself() {
+        let target = [0x11; 32];
+        assert!(nearer(&target, &target, &[0x22; 32]));
+        assert!(!nearer(&target, &[0x22; 32], &target));
+    }
+}

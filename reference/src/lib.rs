@@ -1,0 +1,9 @@
+//! A second program for the rules of the relay, written for comparison.
+//!
+//! It is meant to be easy to check by reading: it copies freely, searches from
+//! front to back and follows the written rules in their own order. A refusal
+//! is the number that the rules give it, as a plain `u8`.
+
+pub mod key;
+pub mod packet;
+pub mod refusal;
