@@ -1,0 +1,12 @@
+//! Compares the library with the reference program on generated inputs.
+//!
+//! There is one test for each area. Each says on standard output how many
+//! inputs it ran and how often each refusal was met, and fails when a refusal
+//! was met too seldom to say anything.
+
+mod generator;
+mod keys;
+mod output;
+mod readers;
+mod tally;
+mod writers;
