@@ -3,10 +3,11 @@ use mathlib.Core.Path.{_≡_, refl}
 use mathlib.Core.Bool.{Bool, true, false}
 use mathlib.Core.List.{List}
 use Prim.Native.Nat.{ℕ}
+use native.Mathlib.Omega.{arith}
 use lib.ListN.{length}
 use Rattle.refusal.specs.declared.Refusal.{Refusal}
 use Rattle.refusal.specs.declared.Refusal.the-variants.{PacketSize, UnexpectedKind, WrongLength, ZeroPing}
-use Rattle.packet.specs.Read.{Read, refused, check}
+use Rattle.packet.specs.Read.{Read, packet, refused, check}
 use Rattle.packet.specs.Table.{kindOf, bodyOf, sizeRight, lengthRight, pingRight, checked}
 
 -- a packet that passes the checks 4 to 7 at an end
@@ -64,3 +65,14 @@ module _ {A : Type 0} (takes : ℕ → Bool) (bytes : List ℕ) (after : Read A)
 
   pub checks : Checks takes bytes after
   checks = at-size (sizeRight (length bytes)) refl
+
+-- ---- reading a check backwards
+
+pub never-both : {A : Type 0} (read : Read A) (p : A) (why : Refusal) → read ≡ packet p → read ≡ refused why → ⊥
+never-both read p why e f = let z : _≡_ {A = ℕ} 0 1 = cc in omega arith
+
+-- where a packet comes of a check, the check held
+pub check-taken : {A : Type 0} (t : Bool) (why : Refusal) (after : Read A) (p : A) → check t why after ≡ packet p → (t ≡ true) × (after ≡ packet p)
+unfolding check
+check-taken true why after p e = (refl, e)
+check-taken false why after p e = absurd (never-both (refused why) p why e refl)

@@ -1,6 +1,7 @@
 -- Laws, for the crates above too: `KindLaws` of document 01's table, `CheckLaws` of the checks in their order, `PartLaws` of places in a packet,
 -- `RelayLaws` and `ClientLaws` of the two readers, `Answers` of what a reader's answer stands for,
--- `WriteLaws` of writing into an output, `Judged` of how each packet that a writer would make is judged.
+-- `WriteLaws` of writing into an output, `Judged` of how each packet that a writer would make is judged. `ClientRoundTrip` and `RelayRoundTrip` are
+-- the theorems on reading what was written and writing what was read; `Examples` has document 01's examples on packets.
 pub mod KindLaws
 pub mod CheckLaws
 pub mod PartLaws
@@ -9,3 +10,6 @@ pub mod RelayLaws
 pub mod ClientLaws
 pub mod WriteLaws
 pub mod Judged
+pub mod ClientRoundTrip
+pub mod RelayRoundTrip
+pub mod Examples

@@ -7,7 +7,7 @@ use lib.ListN.{length, getD, take, drop, length-drop}
 use lib.Seq.{take-all, take-length}
 use borrow.Author.Tests.{le-leb}
 use Rattle.wire.specs.Numbers.{Bytes, numberOf, bytesOf}
-use Rattle.wire.proofs.Numbers.{bytesOf-number, number-bytesOf, length-bytesOf}
+use Rattle.wire.proofs.Numbers.{bytesOf-number, number-bytesOf, length-bytesOf, number-lt, bytes-getD}
 use Rattle.packet.specs.Table.{kindOf, bodyOf}
 use Rattle.packet.specs.Parts.{partOf}
 
@@ -40,3 +40,11 @@ word-bytes bytes e s =
 
 pub word-number : (n : ℕ) → n < 2 ^ 64 → numberOf (take 8 (bytesOf 8 n)) ≡ n
 word-number n h = ap numberOf (take-all 8 (bytesOf 8 n) (let e = length-bytesOf 8 n in omega arith)) ∙ number-bytesOf 8 n h
+
+pub word-fits : (bytes : List ℕ) → length bytes ≡ 8 → Bytes bytes → numberOf (take 8 bytes) < 2 ^ 64
+word-fits bytes e s =
+    rw (take-all 8 bytes (omega arith)) (let h = number-lt bytes s in let q : numberOf bytes < 256 ^ 8 = rw e at h in q)
+
+pub kind-byte : (bytes : List ℕ) → Bytes bytes → kindOf bytes < 256
+unfolding kindOf
+kind-byte bytes s = bytes-getD 0 bytes s

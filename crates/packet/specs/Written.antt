@@ -76,3 +76,14 @@ PongWrites n out answer left = BothWrite (client.pong n) (relay.pong n) out answ
 
 abbrev pub DataWrites : ℕ → List ℕ → List ℕ → Written → List ℕ → Type 0
 DataWrites number bytes out answer left = BothWrite (client.routedData number bytes) (relay.routedData number bytes) out answer left
+
+-- a packet that a client's writer takes, and the bytes that it makes of it; and so for the relay's
+pub record ClientMakes (p : client.FromClient) (bytes : List ℕ) : Type 0 where
+  pub fits : client.FitsClient p
+  pub taken : clientJudged p ≡ packet p
+  pub makes : client.clientBytes p ≡ bytes
+
+pub record RelayMakes (p : relay.FromRelay) (bytes : List ℕ) : Type 0 where
+  pub fits : relay.FitsRelay p
+  pub taken : relayJudged p ≡ packet p
+  pub makes : relay.relayBytes p ≡ bytes

@@ -3,30 +3,30 @@
 ghost use mathlib.Core.Path.{_≡_};
 ghost use Rattle.packet.specs.Table.{sizeRight, relayTakes, clientTakes, lengthRight, pingRight, numberRight};
 
-pub const REQUEST: u8 = 0;
+pub(crate) const REQUEST: u8 = 0;
 
-pub const RESPONSE: u8 = 1;
+pub(crate) const RESPONSE: u8 = 1;
 
-pub const CONNECT: u8 = 2;
+pub(crate) const CONNECT: u8 = 2;
 
-pub const DISCONNECT: u8 = 3;
+pub(crate) const DISCONNECT: u8 = 3;
 
-pub const PING: u8 = 4;
+pub(crate) const PING: u8 = 4;
 
-pub const PONG: u8 = 5;
+pub(crate) const PONG: u8 = 5;
 
-pub const OOB_SEND: u8 = 6;
+pub(crate) const OOB_SEND: u8 = 6;
 
-pub const OOB_RECEIVED: u8 = 7;
+pub(crate) const OOB_RECEIVED: u8 = 7;
 
 // The lowest connection number, and so the lowest kind of a data packet.
-pub const FIRST_NUMBER: u8 = 16;
+pub(crate) const FIRST_NUMBER: u8 = 16;
 
 // "document 001 caps a sealed packet at 2,048, and sealing adds 16"
-pub const MOST_BYTES: usize = 2032;
+pub(crate) const MOST_BYTES: usize = 2032;
 
 // 4: "A packet has 1 to 2,032 bytes".
-pub fn size_right(size: usize) -> bool
+pub(crate) fn size_right(size: usize) -> bool
     ensures { λ r. ⌜ r ≡ sizeRight size ⌝ }
 {
     if size == 0 {
@@ -36,7 +36,7 @@ pub fn size_right(size: usize) -> bool
 }
 
 // 5, at the relay: the kinds that a client sends.
-pub fn relay_takes(kind: u8) -> bool
+pub(crate) fn relay_takes(kind: u8) -> bool
     ensures { λ r. ⌜ r ≡ relayTakes kind ⌝ }
 {
     if FIRST_NUMBER <= kind {
@@ -49,7 +49,7 @@ pub fn relay_takes(kind: u8) -> bool
 }
 
 // 5, at the client: the kinds that the relay sends.
-pub fn client_takes(kind: u8) -> bool
+pub(crate) fn client_takes(kind: u8) -> bool
     ensures { λ r. ⌜ r ≡ clientTakes kind ⌝ }
 {
     if FIRST_NUMBER <= kind {
@@ -62,7 +62,7 @@ pub fn client_takes(kind: u8) -> bool
 }
 
 // 6: the table's last column.
-pub fn length_right(kind: u8, size: usize) -> bool
+pub(crate) fn length_right(kind: u8, size: usize) -> bool
     ensures { λ r. ⌜ r ≡ lengthRight kind size ⌝ }
 {
     match kind {
@@ -81,7 +81,7 @@ pub fn length_right(kind: u8, size: usize) -> bool
 }
 
 // 7: a ping number is not 0.
-pub fn ping_right(kind: u8, body: &[u8]) -> bool
+pub(crate) fn ping_right(kind: u8, body: &[u8]) -> bool
     ensures { λ r. ⌜ r ≡ pingRight kind (now (body .entry)) ⌝ }
 {
     match kind {
@@ -91,7 +91,7 @@ pub fn ping_right(kind: u8, body: &[u8]) -> bool
 }
 
 // 8, at the client: a connection number is 16 or more; the response 0 says that none was given.
-pub fn number_right(kind: u8, number: u8) -> bool
+pub(crate) fn number_right(kind: u8, number: u8) -> bool
     ensures { λ r. ⌜ r ≡ numberRight kind number ⌝ }
 {
     match kind {

@@ -7,3 +7,6 @@ mod kind;
 mod parts;
 pub mod relay;
 pub mod write;
+
+pub use parts::ConnectionNumber;
+pub use parts::Part;

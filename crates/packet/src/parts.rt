@@ -15,7 +15,7 @@ pub struct Part {
 }
 
 // The bytes at a part of a packet, or none where it runs past the end.
-pub fn bytes_at(packet: &[u8], part: Part) -> &[u8]
+pub(crate) fn bytes_at(packet: &[u8], part: Part) -> &[u8]
     ensures { λ r. ⌜ now r ≡ partOf (now (packet .entry)) part ⌝ }
 {
     let start = part.start;
@@ -32,7 +32,7 @@ pub fn bytes_at(packet: &[u8], part: Part) -> &[u8]
 }
 
 // The key that starts at a place of a packet, or the key of zeros where it runs past the end.
-pub fn key_at(packet: &[u8], start: usize) -> Key
+pub(crate) fn key_at(packet: &[u8], start: usize) -> Key
     ensures { λ r. ⌜ r .0 ≡ keyOf (drop start (now (packet .entry))) ⌝ }
 {
     if start <= packet.len() {
