@@ -1,0 +1,28 @@
+-- `banavoge_routing_response` meets its contract: what the writer of `packet` promises, with its answer as one number. Assumes nothing.
+use borrow.Author.Needs.{needs}
+use mathlib.Core.Path.{_∙_}
+use mir.Syntax.{w32}
+use mir.ValLaws.{toZ-ofZ}
+use Rattle.packet.specs.FromRelay.{relayBytes, routingResponse}
+use Rattle.packet.specs.Written.{relayJudged}
+use Rattle.banavoge.proofs.Writing.{exported, relay-counted}
+use Rattle.banavoge.proofs.writers.banavoge_routing_response.Statement.{statement}
+use Rattle.banavoge.proofs.writers.banavoge_routing_response.Tie as tie
+
+routing-response-requires : tie.Need-routing-response-requires
+routing-response-requires c κs = search needs
+
+written-requires : tie.Need-written-requires
+written-requires c κs = relay-counted (routingResponse (c .before .before .before .before .before .before .args .number) (c .before .before .before .before .before .before .args .key .now)) (c .before .before .before .before .before .before .args .out .now) _ _ (c .before .before .routing-response .ensures)
+
+same-length : tie.Need-same-length
+same-length c = search needs
+
+returns : tie.Need-returns
+returns c =
+    exported (relayJudged (routingResponse (c .before .before .before .before .before .before .before .args .number) (c .before .before .before .before .before .before .before .args .key .now))) (relayBytes (routingResponse (c .before .before .before .before .before .before .before .args .number) (c .before .before .before .before .before .before .before .args .key .now))) (c .before .before .before .before .before .before .before .args .out .now) (c .before .before .before .routing-response .result) _ _ (c .before .before .before .routing-response .ensures)
+    (toZ-ofZ w32 (c .written .result) (record { sfits = c .written .ok }) ∙ c .written .ensures)
+
+pub banavoge-routing-response-spec : {M : Type 1} → statement M
+banavoge-routing-response-spec =
+    tie.close (tie.spec routing-response-requires written-requires same-length returns)

@@ -1,0 +1,19 @@
+-- Answers as one number: "0 or more is an answer, below 0 minus the refusal number".
+use Prim.Native.Nat.{_≤_}
+use lib.IntN.{ℤ, pos, negℤ}
+use Rattle.refusal.specs.declared.Refusal.{Refusal}
+use Rattle.refusal.specs.Numbers.{refusalNumber}
+use Rattle.packet.specs.declared.write.Written.{Written}
+use Rattle.packet.specs.declared.write.Written.the-variants.{Bytes, Refused}
+
+unfoldable pub refusalCode : Refusal → ℤ
+refusalCode why = negℤ (pos (refusalNumber why))
+
+unfoldable pub writtenCode : Written → ℤ
+writtenCode (Bytes count) = pos count
+writtenCode (Refused why) = refusalCode why
+
+-- a count that a writer can have
+unfoldable pub Counted : Written → Type 0
+Counted (Bytes count) = count ≤ 2032
+Counted (Refused why) = Unit {0}
