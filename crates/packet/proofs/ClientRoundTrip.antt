@@ -13,10 +13,12 @@ use borrow.Author.Tests.{leb-true, le-leb}
 use Rattle.refusal.specs.declared.Refusal.{Refusal}
 use Rattle.wire.specs.Numbers.{Bytes}
 use Rattle.wire.proofs.Numbers.{bytes-take, bytes-drop, bytes-getD}
+use Rattle.packet.specs.declared.write.Written.the-variants.{Bytes as BytesWritten}
+use Rattle.packet.proofs.WriteLaws.{writes-put}
 use Rattle.packet.specs.Read.{Read, packet, refused, check}
 use Rattle.packet.specs.Table.{kindOf, bodyOf, sizeRight, relayTakes}
 use Rattle.packet.specs.FromClient.{FromClient, routingRequest, dropRoute, ping, pong, oobSend, routedData, clientBytes, fromClient, relayRead, FitsClient}
-use Rattle.packet.specs.Written.{clientJudged, dataNumber, ClientMakes}
+use Rattle.packet.specs.Written.{clientJudged, dataNumber, ClientMakes, ClientWrites}
 use Rattle.packet.proofs.KindLaws.{from-client-data, size-bounds, length-request, length-disconnect, length-ping, length-pong, length-oob-send}
 use Rattle.packet.proofs.CheckLaws.{Passes, Checks, pass, fail, checks, check-taken, never-both}
 use Rattle.packet.proofs.PartLaws.{kind-and-body, length-body, one-byte, word-bytes, word-number, word-fits, kind-byte}
@@ -70,6 +72,12 @@ relay-reads-written p q f e = go (checks relayTakes (clientBytes p) (packet (fro
         let s = judged-read p q e .1 in
         ((let z : packet q ≡ packet (fromClient (kindOf (clientBytes p)) (bodyOf (clientBytes p))) = sym s ∙ r in cc) ∙ back, r ∙ ap packet back)
     go (fail why r) = absurd (never-both (relayRead (clientBytes p)) q why (judged-read p q e .1) r)
+
+-- the same of the output that a writer leaves: what stands at its front is read as the packet written
+pub relay-reads-output : (p : FromClient) (out left : List ℕ) (n : ℕ) → FitsClient p → ClientWrites p out (BytesWritten n) left → relayRead (take n left) ≡ packet p
+relay-reads-output p out left n f w =
+    let put = writes-put (clientJudged p) (clientBytes p) out left n w in
+    ap relayRead (put .front) ∙ relay-reads-written p (put .found) f (put .taken) .1
 
 -- so a packet that the writer takes has at most 2,032 bytes
 pub client-judged-size : (p q : FromClient) → clientJudged p ≡ packet q → length (clientBytes p) ≤ 2032

@@ -13,10 +13,12 @@ use borrow.Author.Tests.{leb-true, le-leb}
 use Rattle.refusal.specs.declared.Refusal.{Refusal}
 use Rattle.wire.specs.Numbers.{Bytes}
 use Rattle.wire.proofs.Numbers.{bytes-take, bytes-drop, bytes-getD}
+use Rattle.packet.specs.declared.write.Written.the-variants.{Bytes as BytesWritten}
+use Rattle.packet.proofs.WriteLaws.{writes-put}
 use Rattle.packet.specs.Read.{Read, packet, refused, check}
 use Rattle.packet.specs.Table.{kindOf, bodyOf, sizeRight, clientTakes}
 use Rattle.packet.specs.FromRelay.{FromRelay, routingResponse, connectNotice, disconnectNotice, ping, pong, oobReceived, routedData, relayBytes, fromRelay, clientRead, FitsRelay}
-use Rattle.packet.specs.Written.{relayJudged, dataNumber, RelayMakes}
+use Rattle.packet.specs.Written.{relayJudged, dataNumber, RelayMakes, RelayWrites}
 use Rattle.packet.proofs.KindLaws.{from-relay-data, size-bounds, length-response, length-connect, length-disconnect, length-ping, length-pong, length-oob-received}
 use Rattle.packet.proofs.CheckLaws.{Passes, check-taken, never-both}
 use Rattle.packet.proofs.PartLaws.{kind-and-body, length-body, one-byte, word-bytes, word-number, word-fits, kind-byte}
@@ -72,6 +74,12 @@ client-reads-written p q f e = go (client-checks (relayBytes p))
         let s = judged-read p q e .1 in
         ((let z : packet q ≡ packet (fromRelay (kindOf (relayBytes p)) (bodyOf (relayBytes p))) = sym s ∙ r in cc) ∙ back, r ∙ ap packet back)
     go (turned why r) = absurd (never-both (clientRead (relayBytes p)) q why (judged-read p q e .1) r)
+
+-- the same of the output that a writer leaves: what stands at its front is read as the packet written
+pub client-reads-output : (p : FromRelay) (out left : List ℕ) (n : ℕ) → FitsRelay p → RelayWrites p out (BytesWritten n) left → clientRead (take n left) ≡ packet p
+client-reads-output p out left n f w =
+    let put = writes-put (relayJudged p) (relayBytes p) out left n w in
+    ap clientRead (put .front) ∙ client-reads-written p (put .found) f (put .taken) .1
 
 -- so a packet that the writer takes has at most 2,032 bytes
 pub relay-judged-size : (p q : FromRelay) → relayJudged p ≡ packet q → length (relayBytes p) ≤ 2032

@@ -3,6 +3,9 @@ use mathlib.Core.Path.{_≡_, _∙_, refl, sym, ap, ap₂}
 use mathlib.Core.List.{List, [], _∷_, _++_}
 use Prim.Native.Nat.{ℕ, _+_, _<_, _≤_}
 use native.Mathlib.Omega.{arith}
+use mathlib.Core.Bool.{Bool, true, false, cond}
+use lib.Dec.{leb}
+use lib.Seq.{take-append-seam}
 use lib.ListN.{length, take, drop, set, length-set}
 use borrow.Author.Tests.{le-leb, lt-leb}
 use Rattle.wire.proofs.Copy.{written-first, written-part, length-lent, length-written, copy-whole}
@@ -44,6 +47,24 @@ module _ {A : Type 0} (judged : Read A) (bytes out : List ℕ) where
     answers = sym (ap (λ (j : Read A). writtenAnswer j bytes out) e);
     leaves = sym (ap (λ (j : Read A). writtenOutput j bytes out) e);
   }
+
+-- where a count is answered, the packet was taken, and it stands at the front of the output
+pub record Put {A : Type 0} (judged : Read A) (bytes left : List ℕ) (n : ℕ) : Type 0 where
+  pub found : A
+  pub taken : judged ≡ packet found
+  pub front : take n left ≡ bytes
+
+counted : {A : Type 0} (p : A) (t : Bool) (bytes out left : List ℕ) (n : ℕ) → Bytes n ≡ cond t (Bytes (length bytes)) (Refused OutputTooShort)
+    → left ≡ cond t (bytes ++ drop (length bytes) out) out → Put (packet p) bytes left n
+counted p true bytes out left n e l =
+    let q : n ≡ length bytes = cc in
+    record { found = p; taken = refl; front = ap₂ (λ (m : ℕ) (o : List ℕ). take m o) q l ∙ take-append-seam bytes (drop (length bytes) out) }
+counted p false bytes out left n e l = let z : _≡_ {A = ℕ} 0 1 = cc in absurd (omega arith)
+
+pub writes-put : {A : Type 0} (judged : Read A) (bytes out left : List ℕ) (n : ℕ) → Writes judged bytes out (Bytes n) left → Put judged bytes left n
+unfolding writtenAnswer writtenOutput
+writes-put (packet p) bytes out left n w = counted p (leb (length bytes) (length out)) bytes out left n (w .answers) (w .leaves)
+writes-put (refused why) bytes out left n w = let f = w .answers in let z : _≡_ {A = ℕ} 0 1 = cc in absurd (omega arith)
 
 -- ---- pieces of a packet, put one after the other into an output
 

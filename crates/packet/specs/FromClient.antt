@@ -9,6 +9,7 @@ use Rattle.key.specs.Keys.{IsKey}
 use Rattle.packet.specs.Read.{Read, packet}
 use Rattle.packet.specs.Table.{kindOf, bodyOf, relayTakes, checked}
 
+-- the table's rows whose second column names the client: 0 request, 3 drop, 4 ping and 5 pong, 6 out-of-band send, 16 to 255 data
 pub data FromClient : Type 0 where
   routingRequest : List ℕ → FromClient
   dropRoute : ℕ → FromClient
@@ -26,7 +27,7 @@ clientBytes (pong n) = 5 ∷ bytesOf 8 n
 clientBytes (oobSend key bytes) = 6 ∷ (key ++ bytes)
 clientBytes (routedData number bytes) = number ∷ bytes
 
--- the same column read: what the bytes after a kind are
+-- the same column read: what the bytes after a kind are. Kinds that the relay does not take fall to the last row; the check of the kind is made first
 unfoldable pub fromClient : ℕ → List ℕ → FromClient
 fromClient kind body =
     cond (eqb kind 0) (routingRequest (take 32 body))

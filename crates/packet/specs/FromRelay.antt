@@ -10,6 +10,8 @@ use Rattle.refusal.specs.declared.Refusal.the-variants.{NoSuchRoute}
 use Rattle.packet.specs.Read.{Read, packet, check}
 use Rattle.packet.specs.Table.{kindOf, bodyOf, clientTakes, numberRight, checked}
 
+-- the table's rows whose second column names the relay: 1 answer, 2 connected, 3 disconnected, 4 ping and 5 pong, 7 out-of-band received, 16 to
+-- 255 data
 pub data FromRelay : Type 0 where
   routingResponse : ℕ → List ℕ → FromRelay
   connectNotice : ℕ → FromRelay
@@ -29,7 +31,7 @@ relayBytes (pong n) = 5 ∷ bytesOf 8 n
 relayBytes (oobReceived key bytes) = 7 ∷ (key ++ bytes)
 relayBytes (routedData number bytes) = number ∷ bytes
 
--- the same column read: what the bytes after a kind are
+-- the same column read: what the bytes after a kind are. Kinds that the client does not take fall to the last row; the check of the kind is made first
 unfoldable pub fromRelay : ℕ → List ℕ → FromRelay
 fromRelay kind body =
     cond (eqb kind 1) (routingResponse (getD body 0 0) (take 32 (drop 1 body)))

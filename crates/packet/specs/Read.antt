@@ -1,4 +1,5 @@
--- Document 01, "Relay packets": "each read is either a packet or a refusal".
+-- Document 01, "Relay packets": "each read is either a packet or a refusal". A refusal is named; `refusalNumber` of crate `refusal` gives document
+-- 01's number of each.
 use mathlib.Core.Bool.{Bool, true, false}
 use Rattle.refusal.specs.declared.Refusal.{Refusal}
 

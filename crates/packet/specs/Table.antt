@@ -27,7 +27,7 @@ relayTakes kind = eqb kind 0 || (eqb kind 3 || (eqb kind 4 || (eqb kind 5 || (eq
 unfoldable pub clientTakes : ℕ → Bool
 clientTakes kind = eqb kind 1 || (eqb kind 2 || (eqb kind 3 || (eqb kind 4 || (eqb kind 5 || (eqb kind 7 || leb 16 kind)))))
 
--- 6: the table's last column; a data packet's upper bound is 4's
+-- 6: the table's last column; a data packet's upper bound is 4's. Kinds 8 to 15 fall to the last row, and no end takes them
 unfoldable pub lengthRight : ℕ → ℕ → Bool
 lengthRight kind n =
     cond (eqb kind 0) (eqb n 33)

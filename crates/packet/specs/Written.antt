@@ -63,7 +63,7 @@ ClientWrites p out answer left = Writes (clientJudged p) (client.clientBytes p) 
 abbrev pub RelayWrites : relay.FromRelay → List ℕ → Written → List ℕ → Type 0
 RelayWrites p out answer left = Writes (relayJudged p) (relay.relayBytes p) out answer left
 
--- "Where both ends rule alike": one function that does what the client's writer and the relay's do
+-- both ends rule alike: one function that does what the client's writer and the relay's do
 pub record BothWrite (p : client.FromClient) (q : relay.FromRelay) (out : List ℕ) (answer : Written) (left : List ℕ) : Type 0 where
   pub asClient : ClientWrites p out answer left
   pub asRelay : RelayWrites q out answer left

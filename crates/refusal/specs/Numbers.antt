@@ -22,7 +22,7 @@ refusalNumber ZeroPing = 7
 refusalNumber NoSuchRoute = 8
 -- "data on a waiting route"
 refusalNumber NotConnected = 9
--- "lent output too short"
+-- "lent output too short: under 2,048 for packet and leave, under the exact length for a writer"
 refusalNumber OutputTooShort = 10
 -- "room not whole"
 refusalNumber RoomNotWhole = 11

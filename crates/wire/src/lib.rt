@@ -31,7 +31,7 @@ pub fn read_number(bytes: &[u8]) -> u64
     number
 }
 
-// Writes a number into all of `out`: its lowest byte last, and 0 before its highest.
+// Writes a number into all of `out`: its lowest byte last, and 0 before its highest. An output too short for the number gets its lowest bytes.
 pub fn write_number(number: u64, out: &mut [u8])
     ensures { λ _. ⌜ now (out .exit) ≡ bytesOf (length (now (out .entry))) number ⌝ }
 {
