@@ -1,4 +1,6 @@
--- `Codes` has the laws of answers as signed numbers, `Reading` and `Writing` carry the promises of `packet` over to the exports.
+-- `Codes` has the laws of answers as signed numbers; `Reading`, `Writing` and `NodeTelling` carry the promises of `packet` and `node` over to the
+-- exports.
 mod Codes
+mod NodeTelling
 mod Reading
 mod Writing

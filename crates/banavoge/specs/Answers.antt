@@ -1,4 +1,4 @@
--- Answers as one number: "0 or more is an answer, below 0 minus the refusal number".
+-- Answers as one number: 0 or more is an answer, below 0 it is minus document 01's refusal number.
 use Prim.Native.Nat.{_≤_}
 use lib.IntN.{ℤ, pos, negℤ}
 use Rattle.refusal.specs.declared.Refusal.{Refusal}

@@ -1,5 +1,5 @@
--- What the readers tell through references: "the kind (16 for data), its connection number, its ping number, and where its payload stands; what
--- a kind does not have is set to 0". On a refusal nothing is set.
+-- What the readers tell through references: the kind (16 for data), its connection number, its ping number, and where its payload stands. What a
+-- kind does not have is set to 0. On a refusal nothing is set.
 use mathlib.Core.List.{List}
 use mathlib.Core.Path.{_≡_}
 use Prim.Native.Nat.{ℕ}

@@ -1,5 +1,7 @@
 // Answers as one number.
 ghost use mathlib.Core.Path.{_≡_};
+ghost use Prim.Native.Nat.{_≤_};
+ghost use lib.IntN.{pos};
 ghost use Rattle.banavoge.specs.Answers.{refusalCode, writtenCode, Counted};
 use packet::write::Written;
 use refusal::Refusal;
@@ -12,13 +14,21 @@ pub(crate) fn refused(why: Refusal) -> i32
     -number
 }
 
+// A byte count: no packet or node has more than 2,032 bytes.
+pub(crate) fn count(bytes: usize) -> i32
+    requires { ⌜ bytes ≤ 2032 ⌝ }
+    ensures { λ r. ⌜ r ≡ pos bytes ⌝ }
+{
+    bytes as i32
+}
+
 // The byte count, or minus the refusal's number.
 pub(crate) fn written(answer: Written) -> i32
     requires { ⌜ Counted answer ⌝ }
     ensures { λ r. ⌜ r ≡ writtenCode answer ⌝ }
 {
     match answer {
-        Written::Bytes(count) => count as i32,
+        Written::Bytes(bytes) => count(bytes),
         Written::Refused(why) => refused(why),
     }
 }

@@ -4,5 +4,6 @@
 // parameters refer to is as before. Memory stays the host's; two parameters of one call must not overlap.
 mod answer;
 mod keys;
+mod nodes;
 mod readers;
 mod writers;

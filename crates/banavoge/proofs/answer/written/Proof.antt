@@ -1,9 +1,8 @@
--- `banavoge::answer::written` meets its contract: a small count is itself as a signed number. Assumes nothing.
+-- `banavoge::answer::written` meets its contract: the count or the refusal, each as its own function has it. Assumes nothing.
 use borrow.Author.Needs.{needs}
 use mathlib.Core.Path.{_∙_, sym, ap}
-use native.Mathlib.Omega.{arith}
 use mir.Syntax.{w32}
-use mir.ValLaws.{toZ-pos, toZ-ofZ}
+use mir.ValLaws.{toZ-ofZ}
 use Rattle.banavoge.specs.Answers.{writtenCode}
 use Rattle.banavoge.proofs.Codes.{counted}
 use Rattle.banavoge.proofs.answer.written.Statement.{statement}
@@ -12,8 +11,8 @@ use Rattle.banavoge.proofs.answer.written.Tie as tie
 enum-known-answer : tie.Need-enum-known-answer
 enum-known-answer c = search needs
 
-cast-result : tie.Need-cast-result
-cast-result c = let h = counted (c .before .before .before .args .answer) (c .before .answer .given .0 .0) (c .before .before .before .pre) (c .before .answer .given .1) in record { sfits = omega arith }
+count-requires : tie.Need-count-requires
+count-requires c κs = counted (c .before .before .before .args .answer) (c .before .answer .given .0 .0) (c .before .before .before .pre) (c .before .answer .given .1)
 
 enum-known-answer-2 : tie.Need-enum-known-answer-2
 enum-known-answer-2 c = search needs
@@ -23,7 +22,7 @@ refused-requires c κs = search needs
 
 returns : tie.Need-returns
 unfolding writtenCode
-returns c = let h = counted (c .before .before .before .args .answer) (c .before .answer .given .0 .0) (c .before .before .before .pre) (c .before .answer .given .1) in toZ-pos w32 (c .before .answer .given .0 .0) (omega arith) ∙ sym (ap writtenCode (c .before .answer .given .1))
+returns c = toZ-ofZ w32 (c .count .result) (record { sfits = c .count .ok }) ∙ c .count .ensures ∙ sym (ap writtenCode (c .before .before .answer .given .1))
 
 returns-2 : tie.Need-returns-2
 unfolding writtenCode
@@ -32,4 +31,10 @@ returns-2 c = toZ-ofZ w32 (c .refused .result) (record { sfits = c .refused .ok 
 pub written-spec : {M : Type 1} → statement M
 written-spec =
     tie.close
-    (tie.spec enum-known-answer cast-result enum-known-answer-2 refused-requires returns returns-2)
+    (tie.spec
+    enum-known-answer
+    count-requires
+    enum-known-answer-2
+    refused-requires
+    returns
+    returns-2)

@@ -1,0 +1,121 @@
+// Packed nodes: one read, one written, and the step of a walk over a lent list.
+ghost use mathlib.Core.Path.{_≡_};
+ghost use lib.ListN.{drop};
+ghost use Rattle.node.specs.Nodes.{readNode};
+ghost use Rattle.node.specs.Steps.{stepOf};
+ghost use Rattle.node.specs.Values.{infoOf};
+ghost use Rattle.banavoge.specs.Nodes.{nodePlaces, nodePlacesOf, nodeGiven, ReadsNode, StepsNode, ExportsNode, nodeWrittenCode};
+use crate::answer;
+use key::Key;
+use node::Node;
+use node::reader;
+use node::reader::Found;
+use node::walk;
+use node::walk::Shown;
+use node::writer;
+use node::writer::Written;
+
+// Hands a node to the caller's places.
+fn tell_node(
+    node: Node,
+    after: usize,
+    family: &mut u8,
+    address: &mut [u8; 16],
+    port: &mut u16,
+    key: &mut [u8; 32],
+    next: &mut usize,
+)
+    ensures { λ _. ⌜ nodePlaces (now (family .exit)) (now (address .exit)) (now (port .exit)) (now (key .exit)) (now (next .exit)) ≡ nodePlacesOf node after ⌝ }
+{
+    let bytes = node.address;
+    let owner = node.key;
+    let owner_bytes = owner.0;
+    *family = node.family;
+    *address = bytes;
+    *port = node.port;
+    *key = owner_bytes;
+    *next = after;
+}
+
+// Reads the node at a place: 0, or minus 15 or 16.
+#[no_mangle]
+pub extern "C" fn banavoge_node_read(
+    bytes: &[u8],
+    at: usize,
+    family: &mut u8,
+    address: &mut [u8; 16],
+    port: &mut u16,
+    key: &mut [u8; 32],
+    next: &mut usize,
+) -> i32
+    ensures { λ r. ⌜ ReadsNode at (readNode (drop at (now (bytes .entry)))) r (nodePlaces (now (family .entry)) (now (address .entry)) (now (port .entry)) (now (key .entry)) (now (next .entry))) (nodePlaces (now (family .exit)) (now (address .exit)) (now (port .exit)) (now (key .exit)) (now (next .exit))) ⌝ }
+{
+    let read = reader::read(bytes, at);
+    let found = read.found;
+    let node = read.node;
+    match found {
+        Found::Node { next: after } => {
+            tell_node(node, after, family, address, port, key, next);
+            0
+        }
+        Found::Refused(why) => answer::refused(why),
+    }
+}
+
+// The step of a walk from a place of a list, with so many nodes shown: 1 and the node, 0 at the end, or minus 17, 15 or 16.
+#[no_mangle]
+pub extern "C" fn banavoge_nodes_step(
+    list: &[u8],
+    place: usize,
+    count: usize,
+    family: &mut u8,
+    address: &mut [u8; 16],
+    port: &mut u16,
+    key: &mut [u8; 32],
+    next: &mut usize,
+) -> i32
+    ensures { λ r. ⌜ StepsNode place (stepOf (now (list .entry)) place count) r (nodePlaces (now (family .entry)) (now (address .entry)) (now (port .entry)) (now (key .entry)) (now (next .entry))) (nodePlaces (now (family .exit)) (now (address .exit)) (now (port .exit)) (now (key .exit)) (now (next .exit))) ⌝ }
+{
+    let stepped = walk::step(list, place, count);
+    let shown = stepped.shown;
+    let node = stepped.node;
+    let after = stepped.place;
+    match shown {
+        Shown::Node => {
+            tell_node(node, after, family, address, port, key, next);
+            1
+        }
+        Shown::End => 0,
+        Shown::Refused(why) => answer::refused(why),
+    }
+}
+
+// Writes a packed node: the byte count, or minus 15 or 10.
+#[no_mangle]
+pub extern "C" fn banavoge_node_write(
+    family: u8,
+    address: &[u8; 16],
+    port: u16,
+    key: &[u8; 32],
+    out: &mut [u8],
+) -> i32
+    ensures { λ r. ⌜ ExportsNode (infoOf (nodeGiven family (now (address .entry)) port (now (key .entry)))) (now (out .entry)) r (now (out .exit)) ⌝ }
+{
+    let node = Node {
+        family,
+        address: *address,
+        port,
+        key: Key(*key),
+    };
+    packed(node, out)
+}
+
+// The byte count of a packed node, or minus the refusal's number.
+fn packed(node: Node, out: &mut [u8]) -> i32
+    ensures { λ r. ⌜ ExportsNode (infoOf node) (now (out .entry)) r (now (out .exit)) ⌝ }
+{
+    match writer::write(node, out) {
+        Written::Bytes(bytes) => answer::count(bytes),
+        Written::Refused(why) => answer::refused(why),
+    }
+}
