@@ -5,5 +5,7 @@
 //! is the number that the rules give it, as a plain `u8`.
 
 pub mod key;
+pub mod nearest;
+pub mod node;
 pub mod packet;
 pub mod refusal;

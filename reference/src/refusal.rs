@@ -13,3 +13,16 @@ pub const PING_NUMBER: u8 = 7;
 pub const ROUTE_NUMBER: u8 = 8;
 /// The output is shorter than what would be written.
 pub const OUTPUT: u8 = 10;
+/// A list size that is not 1 to 16.
+pub const LIST_SIZE: u8 = 12;
+/// The key to remove is not held.
+pub const NOT_HELD: u8 = 13;
+/// A list longer than its size, not strictly rising in distance, or holding a
+/// node of unknown family.
+pub const LIST: u8 = 14;
+/// An unknown family byte.
+pub const FAMILY: u8 = 15;
+/// A node cut short.
+pub const NODE_CUT: u8 = 16;
+/// Bytes left after four nodes.
+pub const NODE_COUNT: u8 = 17;

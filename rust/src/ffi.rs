@@ -3,6 +3,8 @@
 //! Bytes are lent as a pointer and a count, a key as a pointer to 32 bytes.
 //! An answer below 0 is a refusal number with its sign changed.
 
+pub mod node;
+
 use crate::Key;
 
 extern "C" {

@@ -19,8 +19,11 @@
 //! assert_eq!(banavoge::ping(0, &mut out), Err(banavoge::Refusal(7)));
 //! # Ok::<(), banavoge::Refusal>(())
 //! ```
+//!
+//! [`node`] has the packed nodes.
 
 mod ffi;
+pub mod node;
 pub mod raw;
 
 use std::error::Error;

@@ -3,6 +3,8 @@
 //! The answer is the library's own: the kind, or a refusal number with its
 //! sign changed. On a refusal the lent places are as they were.
 
+pub mod node;
+
 use crate::{ffi, Key};
 
 /// The places that a reader writes into.

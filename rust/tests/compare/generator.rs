@@ -1,11 +1,21 @@
-//! A small generator of numbers, bytes and packets. The same seed gives the
-//! same inputs again.
+//! A small generator of numbers, bytes, packets and nodes. The same seed gives
+//! the same inputs again.
 
 use reference::key::Key;
+use reference::node::Node;
 use reference::packet::{FromClient, FromRelay};
 
 /// Connection numbers around each bound.
 pub const ROUTE_NUMBERS: [u8; 10] = [0, 1, 2, 14, 15, 16, 17, 47, 48, 255];
+
+/// The known families.
+pub const FAMILIES: [u8; 4] = [2, 10, 130, 138];
+
+/// Families that are not known: neighbours of the known ones, those of the
+/// known ones with a bit changed, and the ends.
+pub const UNKNOWN_FAMILIES: [u8; 16] = [
+    0, 1, 3, 4, 6, 8, 9, 11, 66, 74, 128, 129, 131, 137, 139, 255,
+];
 
 /// The generator known as SplitMix64.
 pub struct Generator {
@@ -126,6 +136,29 @@ impl Generator {
                 data: self.payload(2_031),
             },
         }
+    }
+
+    /// A node of a known family, often with port 0. All 16 bytes of its
+    /// address are filled, also where its family has but 4.
+    pub fn node(&mut self) -> Node {
+        let mut address = [0; 16];
+        self.fill(&mut address);
+        let any_port = self.number() as u16;
+        Node {
+            family: self.pick(&FAMILIES),
+            address,
+            port: self.pick(&[0, any_port, any_port, any_port]),
+            key: self.key(),
+        }
+    }
+
+    /// A family that is not known.
+    pub fn unknown_family(&mut self) -> u8 {
+        let family = self.byte();
+        if FAMILIES.contains(&family) || self.below(2) == 0 {
+            return self.pick(&UNKNOWN_FAMILIES);
+        }
+        family
     }
 
     /// The packet with one thing wrong: a byte changed, bytes cut off or bytes

@@ -6,6 +6,7 @@
 
 mod generator;
 mod keys;
+mod nodes;
 mod output;
 mod readers;
 mod tally;

@@ -92,9 +92,9 @@ fn outputs(length: usize) -> [Output; 2] {
     [Output::new(length, 0x5a), Output::new(length, 0xa5)]
 }
 
-/// Compares two writers on one packet and one output length, and answers the
-/// reference's outcome.
-fn compare(
+/// Compares two writers on one packet or node and one output length, and
+/// answers the reference's outcome.
+pub fn compare(
     what: &str,
     length: usize,
     by_library: impl Fn(&mut [u8]) -> Result<usize, Refusal>,
