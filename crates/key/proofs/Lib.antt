@@ -1,5 +1,6 @@
--- `Same`, `Distance` and `Lent` have the laws of keys, for the crates above too; `Owned` says what holding a key by value tells of its bytes.
+-- `Same`, `Distance`, `Cancel` and `Lent` have the laws of keys, for the crates above too; `Owned` says what holding a key by value tells of its bytes.
 pub mod Same
 pub mod Distance
+pub mod Cancel
 pub mod Owned
 pub mod Lent
