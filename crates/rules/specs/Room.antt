@@ -1,0 +1,93 @@
+-- Document 01, "The room": "40 seats, 0 to 39; each is empty or holds one key and 32 routes, numbers 16 to 47; each route is free or names one
+-- wanted key." The sizes are parameters.
+use mathlib.Core.Bool.{Bool, true, false, cond}
+use mathlib.Core.List.{List, [], _∷_}
+use Prim.Native.Nat.{ℕ, suc, _+_, _-_}
+use lib.Dec.{ltb}
+use lib.ListN.{getD, set, replicate}
+use Rattle.key.specs.Keys.{sameKey}
+
+pub record Sizes : Type 0 where
+  pub seats : ℕ
+  pub numbers : ℕ
+
+-- document 01's own: "40 seats", "32 routes"
+abbrev pub baseSizes : Sizes
+baseSizes = record { seats = 40; numbers = 32 }
+
+-- a key is its bytes
+abbrev pub Key : Type 0
+Key = List ℕ
+
+pub data Route : Type 0 where
+  free : Route
+  wants : Key → Route
+
+pub data Seat : Type 0 where
+  vacant : Seat
+  holds : Key → List Route → Seat
+
+abbrev pub Room : Type 0
+Room = List Seat
+
+unfoldable pub emptyRoom : Sizes → Room
+emptyRoom sizes = replicate (sizes .seats) vacant
+
+-- ---- looking things up
+
+-- a place in a list, or none
+pub data Found : Type 0 where
+  none : Found
+  at : ℕ → Found
+
+unfoldable pub orLater : Bool → Found → Found
+orLater true later = at 0
+orLater false none = none
+orLater false (at i) = at (suc i)
+
+-- the lowest place that passes a test
+unfoldable pub find : {A : Type 0} → (A → Bool) → List A → Found
+find test [] = none
+find test (x ∷ xs) = orLater (test x) (find test xs)
+
+unfoldable pub seatOf : Key → Seat → Bool
+seatOf key vacant = false
+seatOf key (holds k routes) = sameKey k key
+
+unfoldable pub isVacant : Seat → Bool
+isVacant vacant = true
+isVacant (holds k routes) = false
+
+unfoldable pub routeTo : Key → Route → Bool
+routeTo key free = false
+routeTo key (wants k) = sameKey k key
+
+unfoldable pub isFree : Route → Bool
+isFree free = true
+isFree (wants k) = false
+
+unfoldable pub routesOf : Seat → List Route
+routesOf vacant = []
+routesOf (holds k routes) = routes
+
+-- a seat by its number; "seat above 39, or empty" is vacant
+unfoldable pub seatAt : Room → ℕ → Seat
+seatAt room seat = getD room seat vacant
+
+-- route numbers begin at 16
+abbrev pub firstNumber : ℕ
+firstNumber = 16
+
+abbrev pub numberOfPlace : ℕ → ℕ
+numberOfPlace place = firstNumber + place
+
+-- a route by its number; a number below 16, or past the last, names none
+unfoldable pub routeAt : List Route → ℕ → Route
+routeAt routes number = cond (ltb number firstNumber) free (getD routes (number - firstNumber) free)
+
+-- ---- connected
+
+-- the connected peer of a client: the peer's seat, and the place of the peer's route
+pub data Peer : Type 0 where
+  apart : Peer
+  joined : ℕ → ℕ → Peer
