@@ -1,4 +1,4 @@
--- Document 01, "Examples": P1 to P11 as facts of the definitions, so that a reader sees them at work. Assumes nothing.
+-- Document 01, "Examples": P1 to P9 as facts of the definitions, so that a reader sees them at work. Assumes nothing.
 use mathlib.Core.Path.{_≡_, refl}
 use mathlib.Core.List.{List, [], _∷_, _++_}
 use Prim.Native.Nat.{ℕ}
@@ -10,8 +10,8 @@ use Rattle.packet.specs.Read.{check}
 use Rattle.packet.specs.Table.{kindOf, bodyOf, sizeRight, relayTakes, lengthRight, pingRight, checked}
 use Rattle.packet.specs.FromClient.{fromClient, relayRead}
 use Rattle.packet.specs.FromRelay.{relayBytes}
-use Rattle.rules.specs.Room.{Room, baseSizes, emptyRoom, orLater, find, seatOf, isVacant, routeTo, isFree, routesOf, seatAt, routeAt}
-use Rattle.rules.specs.Call.{Call, arrive, leave, packetCall, Answer, accepted, refused, Sent}
+use Rattle.rules.specs.Room.{baseSizes, emptyRoom, orLater, find, seatOf, isVacant, routeTo, isFree, routesOf, seatAt, routeAt}
+use Rattle.rules.specs.Call.{Call, arrive, leave, packetCall, Answer, accepted, refused}
 use Rattle.rules.specs.Outcome.{withRoute, apply, applyAll, refuse, recordBytes, sentBytes, accept, to, roomAfter, joinedBy, peerAt, peerIn, peer, toPeer, arriveAt, tellPeer, tellPeers, leaveFrom, tellBoth, requestAt, dropAt, oobTo, carryTo, dataAt, act, actOn, packetFrom, outcome}
 use Rattle.rules.specs.History.{Event, event, transcript}
 

@@ -1,8 +1,8 @@
 -- What each call does: document 01, "The room", sentence by sentence. An outcome is an answer, the changes that it makes to the room, and what
 -- it sends.
-use mathlib.Core.Bool.{Bool, true, false, cond}
+use mathlib.Core.Bool.{Bool, true, false}
 use mathlib.Core.List.{List, [], _∷_, _++_}
-use Prim.Native.Nat.{ℕ, suc, _+_, _-_}
+use Prim.Native.Nat.{ℕ, _+_, _-_}
 use lib.Dec.{eqb}
 use lib.ListN.{length, set, replicate}
 use Rattle.refusal.specs.declared.Refusal.{Refusal}

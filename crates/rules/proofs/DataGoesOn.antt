@@ -1,0 +1,203 @@
+-- Demand 2's sentence on data, for every history: a well-formed data packet goes on exactly when its sender and the client that its number names
+-- are connected, as one record for that client, under that client's own number, with the same payload. Otherwise it is refused, with 3, 8 or 9
+-- exactly where no client sits there, no request stands under the number, or the two are not connected. Assumes nothing.
+use mathlib.Core.Path.{_≡_, refl, sym, ap, _∙_, subst}
+use mathlib.Core.Bool.{true, true≢false}
+use mathlib.Core.List.{List, [], _∷_, _++_}
+use Prim.Native.Nat.{ℕ, _-_}
+use Rattle.refusal.specs.declared.Refusal.the-variants.{NotSeated, NoSuchRoute, NotConnected}
+use Rattle.packet.specs.Read as read
+use Rattle.packet.specs.FromClient as client
+use Rattle.packet.specs.FromRelay as relay
+use Rattle.rules.specs.Room.{Sizes, Key, Route, free, wants, Seat, vacant, holds, Room, emptyRoom, at, routesOf, seatAt, routeAt, firstNumber, numberOfPlace, Peer, apart, joined}
+use Rattle.rules.specs.Whole.{Whole}
+use Rattle.rules.specs.Call.{Call, packetCall, refused, Sent}
+use Rattle.rules.specs.Outcome.{refuse, accept, to, Outcome, roomAfter, peer, carryTo, dataAt, act, actOn, packetFrom, outcome}
+use Rattle.rules.specs.History.{Event, event, transcript}
+use Rattle.rules.specs.Transcript.{Past, nobody, clientOf, Start, fromEmpty, isAccepted, sitter, stands}
+use Rattle.rules.specs.After.{pastAfter, clientIn, Tied}
+use Rattle.rules.specs.GoesOn.{Names, Connected, NoRequest, Waits, noClient, noRequest, waits, connects, Carried, DataGoesOn}
+use Rattle.rules.proofs.FindLaws.{clash, wanted-high}
+use Rattle.rules.proofs.Whole.{whole-after, whole-empty}
+use Rattle.rules.proofs.PeerLaws.{PeerHas, peer-has, has-peer}
+use Rattle.rules.proofs.Tied.{tied-after, tied-empty, seat-holds, sitter-is, stands-wants, wants-stands, free-stands}
+
+-- ---- the four cases, by what has happened
+
+-- a record tells its seat and its number
+same-record : (payload : List ℕ) (i j n m : ℕ) → _≡_ {A = List Sent} (to i (relay.routedData n payload) ∷ []) (to j (relay.routedData m payload) ∷ []) → (i ≡ j) × (n ≡ m)
+unfolding to relay.relayBytes
+same-record payload i j n m e =
+    let s : to i (relay.routedData n payload) ≡ to j (relay.routedData m payload) = cc in
+    let b : n ∷ payload ≡ m ∷ payload = ap (λ (r : Sent). r .bytes) s in
+    (ap (λ (r : Sent). r .seat) s, cc)
+
+module _ (start : Start) (past : Past) (seat number : ℕ) (payload : List ℕ) (e : Event) where
+  -- two that cannot be together
+  nobody-names : {A : Type 0} (key : Key) → sitter start past seat ≡ nobody → sitter start past seat ≡ clientOf key → A
+  nobody-names key a b = clash (cc)
+
+  none-names : {A : Type 0} (key wanted : Key) → NoRequest start past seat number → Names start past seat number key wanted → A
+  none-names key wanted n h =
+      let a = n .sits in
+      let b = h .sits in
+      let q : n .key ≡ key = cc in
+      absurd (true≢false (sym (h .asked) ∙ ap (λ (k : Key). stands start past k number wanted) (sym q) ∙ n .asked wanted))
+
+  case-nobody : e .answer ≡ refused NotSeated → e .sent ≡ [] → sitter start past seat ≡ nobody → DataGoesOn start past seat number payload e
+  case-nobody a s h = record {
+    decided = noClient h;
+    notSeated = (λ q. h, λ q. a);
+    noSuchRoute = (λ q. clash (cc), λ n. nobody-names (n .key) h (n .sits));
+    notConnected = (λ q. clash (cc), λ w. nobody-names (w .key) h (w .here .sits));
+    goesOn = λ other number′. (λ c. (let q = c .answer in clash (cc)), λ c. nobody-names (c .key) h (c .here .sits));
+    silent = λ q. s;
+  }
+
+  case-none : e .answer ≡ refused NoSuchRoute → e .sent ≡ [] → NoRequest start past seat number → DataGoesOn start past seat number payload e
+  case-none a s h = record {
+    decided = noRequest h;
+    notSeated = (λ q. clash (cc), λ n. nobody-names (h .key) n (h .sits));
+    noSuchRoute = (λ q. h, λ q. a);
+    notConnected = (λ q. clash (cc), λ w. none-names (w .key) (w .wanted) h (w .here));
+    goesOn = λ other number′. (λ c. (let q = c .answer in clash (cc)), λ c. none-names (c .key) (c .wanted) h (c .here));
+    silent = λ q. s;
+  }
+
+  case-waits : e .answer ≡ refused NotConnected → e .sent ≡ [] → Waits start past seat number → DataGoesOn start past seat number payload e
+  case-waits a s h = record {
+    decided = waits h;
+    notSeated = (λ q. clash (cc), λ n. nobody-names (h .key) n (h .here .sits));
+    noSuchRoute = (λ q. clash (cc), λ n. none-names (h .key) (h .wanted) n (h .here));
+    notConnected = (λ q. h, λ q. a);
+    goesOn = λ other number′. (λ c. (let q = c .answer in clash (cc)), λ c. absurd (h .alone other number′ c));
+    silent = λ q. s;
+  }
+
+  case-connected : (other number′ : ℕ) → Carried e seat other number′ payload → Connected start past seat number other number′
+      → ((other′ n : ℕ) → Connected start past seat number other′ n → (other ≡ other′) × (number′ ≡ n)) → DataGoesOn start past seat number payload e
+  unfolding isAccepted
+  case-connected other number′ carried h only =
+      let a = carried .answer in
+      let s = carried .sent in
+      record {
+        decided = connects other number′ h;
+        notSeated = (λ q. clash (cc), λ n. nobody-names (h .key) n (h .here .sits));
+        noSuchRoute = (λ q. clash (cc), λ n. none-names (h .key) (h .wanted) n (h .here));
+        notConnected = (λ q. clash (cc), λ w. absurd (w .alone other number′ h));
+        goesOn = λ other′ n. (
+          λ c. (let q = same-record payload other other′ number′ n (sym s ∙ c .sent) in rw (← (q .0), ← (q .1)) h),
+          λ c. (let q = only other′ n c in rw (← (q .0), ← (q .1)) carried),
+        );
+        silent = λ q. absurd (true≢false (sym (ap isAccepted a) ∙ q));
+      }
+
+-- ---- connected, by what has happened and by the room's tables
+
+module _ (sizes : Sizes) (start : Start) (past : Past) (room : Room) (whole : Whole sizes room) (tie : Tied start past room) where
+  -- connected: what the search for a peer finds
+  module _ (seat : ℕ) (key : Key) (routes : List Route) (sits : seatAt room seat ≡ holds key routes) (number : ℕ) (wanted : Key) (asks : routeAt routes number ≡ wants wanted) where
+    joined-connected : (other place : ℕ) → peer room seat key wanted ≡ joined other place → Connected start past seat number other (numberOfPlace place)
+    joined-connected other place e =
+        let has = peer-has room seat key wanted other place e in
+        record {
+          key = key;
+          wanted = wanted;
+          apart = has .apart;
+          here = record { sits = sitter-is sizes start past room whole tie seat key routes sits; asked = wants-stands sizes start past room whole tie seat key routes sits number wanted asks };
+          there = record { sits = sitter-is sizes start past room whole tie other wanted (has .routes) (has .sits); asked = wants-stands sizes start past room whole tie other wanted (has .routes) (has .sits) (numberOfPlace place) key (has .asked) };
+        }
+
+    connected-has : (other number′ : ℕ) → Connected start past seat number other number′ → PeerHas room seat key wanted other number′
+    connected-has other number′ c =
+        let q : c .key ≡ key = (let a = c .here .sits in let b = sitter-is sizes start past room whole tie seat key routes sits in cc) in
+        let asked : stands start past key number (c .wanted) ≡ true = subst (λ (k : Key). stands start past k number (c .wanted) ≡ true) q (c .here .asked) in
+        let r : c .wanted ≡ wanted = (let a = stands-wants sizes start past room whole tie seat key routes sits number (c .wanted) asked in cc) in
+        let there = seat-holds sizes start past room whole tie other (c .wanted) (c .there .sits) in
+        let has : PeerHas room seat (c .key) (c .wanted) other number′ = record {
+          apart = c .apart;
+          routes = routesOf (seatAt room other);
+          sits = there;
+          asked = stands-wants sizes start past room whole tie other (c .wanted) (routesOf (seatAt room other)) there number′ (c .key) (c .there .asked);
+        } in
+        rw (q, r) at has
+
+    -- so there is at most one
+    connected-joined : (other number′ : ℕ) → Connected start past seat number other number′
+        → (peer room seat key wanted ≡ joined other (number′ - firstNumber)) × (number′ ≡ numberOfPlace (number′ - firstNumber))
+    connected-joined other number′ c =
+        let has = connected-has other number′ c in
+        (has-peer room seat key wanted sizes whole other number′ has, wanted-high (has .routes) number′ key (has .asked))
+
+  -- ---- one call
+
+  module _ (seat number : ℕ) (bytes payload : List ℕ) (e : client.relayRead bytes ≡ read.packet (client.routedData number payload)) where
+    abbrev Goes : Outcome → Type 0
+    Goes o = DataGoesOn start past seat number payload (record { call = packetCall seat bytes; answer = o .answer; sent = o .sent })
+
+    module _ (key : Key) (routes : List Route) (sits : seatAt room seat ≡ holds key routes) where
+      goes-peer : (wanted : Key) → routeAt routes number ≡ wants wanted → (p : Peer) → peer room seat key wanted ≡ p → Goes (carryTo p seat payload)
+      unfolding carryTo refuse accept
+      goes-peer wanted asks apart q =
+          case-waits start past seat number payload _ refl refl
+          (record {
+            key = key;
+            wanted = wanted;
+            here = record { sits = sitter-is sizes start past room whole tie seat key routes sits; asked = wants-stands sizes start past room whole tie seat key routes sits number wanted asks };
+            alone = λ other number′ c.
+                (let h = connected-joined seat key routes sits number wanted asks other number′ c .0 in clash (cc));
+          })
+      goes-peer wanted asks (joined other place) q =
+          case-connected start past seat number payload _ other (numberOfPlace place) (record { answer = refl; sent = refl })
+          (joined-connected seat key routes sits number wanted asks other place q)
+          only
+        where
+          only : (other′ n : ℕ) → Connected start past seat number other′ n → (other ≡ other′) × (numberOfPlace place ≡ n)
+          only other′ n c =
+              let h = connected-joined seat key routes sits number wanted asks other′ n c in
+              let p = h .0 in
+              let i : place ≡ n - firstNumber = cc in
+              (cc, ap numberOfPlace i ∙ sym (h .1))
+
+      goes-route : (route : Route) → routeAt routes number ≡ route → Goes (dataAt route room seat key payload)
+      unfolding dataAt refuse
+      goes-route free h =
+          case-none start past seat number payload _ refl refl
+          (record { key = key; sits = sitter-is sizes start past room whole tie seat key routes sits; asked = free-stands sizes start past room whole tie seat key routes sits number h })
+      goes-route (wants wanted) h = goes-peer wanted h (peer room seat key wanted) refl
+
+    goes-seat : (s : Seat) → seatAt room seat ≡ s → Goes (packetFrom s room seat bytes)
+    unfolding packetFrom actOn act refuse clientIn
+    goes-seat vacant h = case-nobody start past seat number payload _ refl refl (tie .sits seat ∙ ap clientIn h)
+    goes-seat (holds key routes) h = rw e (goes-route key routes h (routeAt routes number) refl)
+
+    pub data-goes-on : DataGoesOn start past seat number payload (event room (packetCall seat bytes))
+    unfolding event outcome
+    data-goes-on = goes-seat (seatAt room seat) refl
+
+-- ---- every history
+
+-- from a whole room on, with a past that says what it says: each data packet of the transcript, by what happened before it
+pub data-goes-on-from : (sizes : Sizes) (start : Start) (past : Past) (room : Room) → Whole sizes room → Tied start past room
+    → (calls : List Call) (before : List Event) (e : Event) (later : List Event) → transcript sizes room calls ≡ before ++ (e ∷ later)
+    → (seat number : ℕ) (bytes payload : List ℕ) → e .call ≡ packetCall seat bytes → client.relayRead bytes ≡ read.packet (client.routedData number payload)
+    → DataGoesOn start (pastAfter past before) seat number payload e
+unfolding transcript pastAfter event
+data-goes-on-from sizes start past room whole tie [] [] e later t seat number bytes payload c r = clash (cc)
+data-goes-on-from sizes start past room whole tie [] (b ∷ before) e later t seat number bytes payload c r = clash (cc)
+data-goes-on-from sizes start past room whole tie (call ∷ calls) [] e later t seat number bytes payload c r =
+    let q : event room call ≡ e = cc in
+    let k : call ≡ packetCall seat bytes = ap (λ (x : Event). x .call) q ∙ c in
+    subst (DataGoesOn start past seat number payload) (ap (event room) (sym k) ∙ q) (data-goes-on sizes start past room whole tie seat number bytes payload r)
+data-goes-on-from sizes start past room whole tie (call ∷ calls) (b ∷ before) e later t seat number bytes payload c r =
+    let q : event room call ≡ b = cc in
+    rw (← q)
+    (data-goes-on-from sizes start (event room call ∷ past) (roomAfter sizes room (outcome room call)) (whole-after sizes room whole call)
+    (tied-after sizes start past room whole tie call) calls before e later (cc) seat number bytes payload c r)
+
+-- from the empty room
+pub data-goes-on-from-empty : (sizes : Sizes) (calls : List Call) (before : List Event) (e : Event) (later : List Event)
+    → transcript sizes (emptyRoom sizes) calls ≡ before ++ (e ∷ later)
+    → (seat number : ℕ) (bytes payload : List ℕ) → e .call ≡ packetCall seat bytes → client.relayRead bytes ≡ read.packet (client.routedData number payload)
+    → DataGoesOn fromEmpty (pastAfter [] before) seat number payload e
+data-goes-on-from-empty sizes = data-goes-on-from sizes fromEmpty [] (emptyRoom sizes) (whole-empty sizes) (tied-empty sizes)

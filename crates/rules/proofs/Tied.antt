@@ -1,0 +1,359 @@
+-- What has happened and the room's tables say the same, after every history: who sits where, and which requests stand. Each call keeps it, since
+-- it changes the tables just as its answer and what it sent tell. From the empty room, and from any whole room with a start that says what its
+-- tables say. Assumes nothing.
+use mathlib.Core.Path.{_≡_, refl, sym, ap, _∙_}
+use mathlib.Core.Bool.{Bool, true, false, _&&_, not, cond, true≢false, false≢true}
+use mathlib.Core.List.{List, [], _∷_}
+use Prim.Native.Nat.{ℕ, _-_, _<_}
+use native.Mathlib.Omega.{arith}
+use lib.Dec.{eqb}
+use lib.ListN.{getD, set, replicate, length}
+use lib.Seq.{set-getD}
+use borrow.Author.Tests.{eqb-true, eqb-false, ne-eqb, not-true}
+use Rattle.key.specs.Keys.{sameKey}
+use Rattle.key.proofs.Same.{same-refl, same-sound}
+use Rattle.packet.specs.Read.{Read}
+use Rattle.packet.specs.Read as read
+use Rattle.packet.specs.FromClient as client
+use Rattle.rules.specs.Room.{Sizes, Key, Route, free, wants, Seat, vacant, holds, Room, emptyRoom, Found, none, at, find, seatOf, isVacant, routeTo, isFree, routesOf, seatAt, routeAt, firstNumber, numberOfPlace, Peer, apart, joined}
+use Rattle.rules.specs.Whole.{Whole}
+use Rattle.rules.specs.Call.{Call, arrive, leave, packetCall}
+use Rattle.rules.specs.Outcome.{withRoute, apply, applyAll, refuse, accept, Outcome, roomAfter, peer, arriveAt, leaveFrom, requestAt, dropAt, oobTo, carryTo, dataAt, act, actOn, packetFrom, outcome}
+use Rattle.rules.specs.History.{event, transcript}
+use Rattle.rules.specs.Transcript.{Past, nobody, clientOf, Start, fromEmpty, isAccepted, sitsAfterArrival, sitsAfter, sitter, maker, standsAfterPacket, standsAfterOwn, standsAfter, stands}
+use Rattle.rules.specs.After.{roomAfterAll, pastAfter, clientIn, routesIn, routesBy, Tied, startOf}
+use Rattle.rules.proofs.FindLaws.{clash, route-to-wants, find-hit, find-within, find-replicate, getD-all, find-set-same, find-clear, vacant-no-key, seat-set, seat-set-other, held-within, free-not-to, route-none, route-at-place, wanted-high, route-set-other, route-set, route-freed, route-all-free}
+use Rattle.rules.proofs.Whole.{key-once, key-found, whole-after, whole-empty}
+use Rattle.rules.proofs.AnswerLaws.{request-key-long, zero-answered, place-answered}
+
+-- ---- tests
+
+either : {A : Type 0} (t : Bool) (x : A) → cond t x x ≡ x
+either true x = refl
+either false x = refl
+
+-- what already holds is not changed by a test that holds only then
+absorb : (t b : Bool) → (t ≡ true → b ≡ true) → cond t true b ≡ b
+absorb true b h = sym (h refl)
+absorb false b h = refl
+
+itself : (t : Bool) → cond t true false ≡ t
+itself true = refl
+itself false = refl
+
+both-true : (a b : Bool) → (a && b) ≡ true → (a ≡ true) × (b ≡ true)
+both-true true b h = (refl, h)
+both-true false b h = absurd (false≢true h)
+
+and-false : (a : Bool) → (a && false) ≡ false
+and-false true = refl
+and-false false = refl
+
+-- ---- who sits where, after one seat is replaced
+
+module _ (room : Room) (seat : ℕ) (s : Seat) (within : seat < length room) where
+  pub client-set : (here : ℕ) → clientIn (seatAt (set room seat s) here) ≡ cond (eqb seat here) (clientIn s) (clientIn (seatAt room here))
+  client-set here = go (eqb seat here) refl
+    where
+      go : (t : Bool) → eqb seat here ≡ t → clientIn (seatAt (set room seat s) here) ≡ cond t (clientIn s) (clientIn (seatAt room here))
+      go true e = ap clientIn (ap (seatAt (set room seat s)) (sym (eqb-true seat here e)) ∙ seat-set room seat s within)
+      go false e = ap clientIn (seat-set-other room seat s here (λ q. eqb-false seat here e (sym q)))
+
+-- the same client sits there with other routes
+pub client-kept : (room : Room) (seat : ℕ) (key : Key) (routes routes′ : List Route) → seatAt room seat ≡ holds key routes
+    → (here : ℕ) → clientIn (seatAt (set room seat (holds key routes′)) here) ≡ clientIn (seatAt room here)
+unfolding clientIn
+client-kept room seat key routes routes′ e here = client-set room seat (holds key routes′) (held-within room seat key routes e) here ∙ go (eqb seat here) refl
+  where
+    go : (t : Bool) → eqb seat here ≡ t → cond t (clientOf key) (clientIn (seatAt room here)) ≡ clientIn (seatAt room here)
+    go true q = sym (ap clientIn (ap (seatAt room) (sym (eqb-true seat here q)) ∙ e))
+    go false q = refl
+
+-- ---- a client's routes, after one seat is replaced
+
+-- by one that holds another key where another key was held
+routes-else : (room : Room) (seat : ℕ) (s : Seat) (key : Key) → seatOf key (seatAt room seat) ≡ false → seatOf key s ≡ false → routesBy (set room seat s) key ≡ routesBy room key
+unfolding routesBy routesIn seatAt
+routes-else room seat s key h hs = rw (find-set-same (seatOf key) vacant room seat s (hs ∙ sym h)) (go (find (seatOf key) room) refl)
+  where
+    go : (f : Found) → find (seatOf key) room ≡ f → routesIn f (set room seat s) ≡ routesIn f room
+    go none q = refl
+    go (at other) q = ap routesOf (seat-set-other room seat s other (λ z. true≢false (sym (find-hit (seatOf key) vacant room other q) ∙ rw z h)))
+
+module _ (sizes : Sizes) (room : Room) (whole : Whole sizes room) (seat : ℕ) (key : Key) (routes : List Route) (sits : seatAt room seat ≡ holds key routes) where
+  pub routes-mine : routesBy room key ≡ routes
+  unfolding routesBy routesIn routesOf
+  routes-mine = rw (key-found sizes room whole seat key routes sits, sits)
+
+  routes-put : (t : List Route) → routesBy (set room seat (holds key t)) key ≡ t
+  unfolding routesBy routesIn routesOf seatOf seatAt
+  routes-put t =
+      rw (find-set-same (seatOf key) vacant room seat (holds key t) (sym (rw sits)), key-found sizes room whole seat key routes sits) (ap routesOf (seat-set room seat (holds key t) (held-within room seat key routes sits)))
+
+  routes-left : routesBy (set room seat vacant) key ≡ []
+  unfolding routesBy routesIn seatOf seatAt
+  routes-left = rw (find-clear (seatOf key) vacant room seat vacant (key-once sizes room whole key) (rw sits (same-refl key)) refl)
+
+-- an arrival takes a seat: whoever's routes they are, each number has what it had
+routes-arrived : (sizes : Sizes) (room : Room) (seat : ℕ) (key : Key) → find (seatOf key) room ≡ none → find isVacant room ≡ at seat
+    → Whole sizes (set room seat (holds key (replicate (sizes .numbers) free)))
+    → (k : Key) (number : ℕ) → routeAt (routesBy room k) number ≡ routeAt (routesBy (set room seat (holds key (replicate (sizes .numbers) free))) k) number
+unfolding seatAt seatOf routesBy routesIn
+routes-arrived sizes room seat key hf he whole k number = go (sameKey key k) refl
+  where
+    s : Seat
+    s = holds key (replicate (sizes .numbers) free)
+
+    go : (t : Bool) → sameKey key k ≡ t → routeAt (routesBy room k) number ≡ routeAt (routesBy (set room seat s) k) number
+    go true q =
+        rw (← (same-sound key k q), hf, routes-mine sizes (set room seat s) whole seat key (replicate (sizes .numbers) free) (seat-set room seat s (find-within isVacant room seat he)))
+        (route-none number ∙ sym (route-all-free (sizes .numbers) number))
+    go false q = sym (ap (λ (t : List Route). routeAt t number) (routes-else room seat s k (vacant-no-key k (seatAt room seat) (find-hit isVacant vacant room seat he)) q))
+
+-- ---- each call
+
+module _ (sizes : Sizes) (start : Start) (past : Past) (room : Room) (whole : Whole sizes room) (tie : Tied start past room) where
+  -- an outcome of a call keeps the tie
+  abbrev Keeps : Call → Outcome → Type 0
+  Keeps call o = Tied start (record { call = call; answer = o .answer; sent = o .sent } ∷ past) (roomAfter sizes room o)
+
+  tied-arrive : (key : Key) (seated empty : Found) → find (seatOf key) room ≡ seated → find isVacant room ≡ empty
+      → Whole sizes (roomAfter sizes room (arriveAt seated empty key)) → Keeps (arrive key) (arriveAt seated empty key)
+  unfolding roomAfter applyAll apply arriveAt refuse accept sitter sitsAfter sitsAfterArrival stands standsAfter standsAfterOwn maker clientIn
+  tied-arrive key (at i) empty hf he whole′ = record {
+    sits = tie .sits;
+    requests = λ k number wanted. either (sameKey key k) (stands start past k number wanted) ∙ tie .requests k number wanted;
+  }
+  tied-arrive key none none hf he whole′ = record {
+    sits = tie .sits;
+    requests = λ k number wanted. either (sameKey key k) (stands start past k number wanted) ∙ tie .requests k number wanted;
+  }
+  tied-arrive key none (at seat) hf he whole′ = record {
+    sits = λ here.
+        ap (cond (eqb seat here) (clientOf key)) (tie .sits here)
+        ∙ sym (client-set room seat (holds key (replicate (sizes .numbers) free)) (find-within isVacant room seat he) here);
+    requests = λ k number wanted.
+        either (sameKey key k) (stands start past k number wanted) ∙ tie .requests k number wanted ∙ ap (routeTo wanted) (routes-arrived sizes room seat key hf he whole′ k number);
+  }
+
+  -- a Leave or a packet from an empty seat is nobody's
+  module _ (seat : ℕ) (empty : seatAt room seat ≡ vacant) where
+    by-nobody : sitter start past seat ≡ nobody
+    unfolding clientIn
+    by-nobody = tie .sits seat ∙ ap clientIn empty
+
+    tied-no-leave : Keeps (leave seat) (leaveFrom vacant room seat)
+    unfolding roomAfter applyAll leaveFrom refuse sitter sitsAfter isAccepted stands standsAfter maker
+    tied-no-leave = record { sits = tie .sits; requests = λ k number wanted. rw by-nobody (tie .requests k number wanted) }
+
+    tied-no-packet : (bytes : List ℕ) → Keeps (packetCall seat bytes) (packetFrom vacant room seat bytes)
+    unfolding roomAfter applyAll packetFrom refuse sitter sitsAfter stands standsAfter maker
+    tied-no-packet bytes = record { sits = tie .sits; requests = λ k number wanted. rw by-nobody (tie .requests k number wanted) }
+
+  module _ (seat : ℕ) (key : Key) (routes : List Route) (sits : seatAt room seat ≡ holds key routes) where
+    pub sitter-is : sitter start past seat ≡ clientOf key
+    unfolding clientIn
+    sitter-is = tie .sits seat ∙ ap clientIn sits
+
+    -- what stands of its own
+    pub tied-here : (number : ℕ) (wanted : Key) → stands start past key number wanted ≡ routeTo wanted (routeAt routes number)
+    tied-here number wanted = tie .requests key number wanted ∙ ap (λ (t : List Route). routeTo wanted (routeAt t number)) (routes-mine sizes room whole seat key routes sits)
+
+    tied-leave : Keeps (leave seat) (leaveFrom (holds key routes) room seat)
+    unfolding roomAfter applyAll apply leaveFrom accept sitter sitsAfter isAccepted stands standsAfter standsAfterOwn maker clientIn seatOf routeTo
+    tied-leave = record {
+      sits = λ here. ap (cond (eqb seat here) nobody) (tie .sits here) ∙ sym (client-set room seat vacant (held-within room seat key routes sits) here);
+      requests = λ k number wanted. rw sitter-is (on k number wanted (sameKey key k) refl);
+    }
+      where
+        on : (k : Key) (number : ℕ) (wanted : Key) (t : Bool) → sameKey key k ≡ t
+            → cond t false (stands start past k number wanted) ≡ routeTo wanted (routeAt (routesBy (set room seat vacant) k) number)
+        on k number wanted true q = rw (← (same-sound key k q), routes-left sizes room whole seat key routes sits, route-none number)
+        on k number wanted false q = rw (tie .requests k number wanted, routes-else room seat vacant k (rw sits q) refl)
+
+    -- a packet of its own
+    module _ (bytes : List ℕ) (r : Read client.FromClient) (e : client.relayRead bytes ≡ r) (o : Outcome) where
+      -- where its routes become `routes′`
+      keeps-with : (routes′ : List Route) → roomAfter sizes room o ≡ set room seat (holds key routes′)
+          → ((number : ℕ) (wanted : Key) → standsAfterPacket r (o .answer) (o .sent) number wanted (routeTo wanted (routeAt routes number)) ≡ routeTo wanted (routeAt routes′ number))
+          → Keeps (packetCall seat bytes) o
+      unfolding sitter sitsAfter stands standsAfter standsAfterOwn maker seatOf
+      keeps-with routes′ after own = record {
+        sits = λ here. tie .sits here ∙ sym (ap (λ (r : Room). clientIn (seatAt r here)) after ∙ client-kept room seat key routes routes′ sits here);
+        requests = λ k number wanted. rw (sitter-is, after, e) (on k number wanted (sameKey key k) refl);
+      }
+        where
+          on : (k : Key) (number : ℕ) (wanted : Key) (t : Bool) → sameKey key k ≡ t
+              → cond t (standsAfterPacket r (o .answer) (o .sent) number wanted (stands start past k number wanted)) (stands start past k number wanted)
+              ≡ routeTo wanted (routeAt (routesBy (set room seat (holds key routes′)) k) number)
+          on k number wanted true q = rw (← (same-sound key k q), tied-here number wanted, routes-put sizes room whole seat key routes sits routes′) (own number wanted)
+          on k number wanted false q = rw (tie .requests k number wanted, routes-else room seat (holds key routes′) k (rw sits q) q)
+
+      -- where nothing changes
+      keeps-same : roomAfter sizes room o ≡ room
+          → ((number : ℕ) (wanted : Key) → standsAfterPacket r (o .answer) (o .sent) number wanted (routeTo wanted (routeAt routes number)) ≡ routeTo wanted (routeAt routes number))
+          → Keeps (packetCall seat bytes) o
+      unfolding seatAt
+      keeps-same after own = keeps-with routes (after ∙ sym (set-getD room seat vacant) ∙ ap (set room seat) sits) own
+
+    -- a request
+    module _ (bytes : List ℕ) (wanted : Key) (e : client.relayRead bytes ≡ read.packet (client.routingRequest wanted)) where
+      long : length wanted ≡ 32
+      long = request-key-long bytes wanted e
+
+      -- the number answered, as the test has it
+      abbrev Asked : ℕ → ℕ → Key → Bool
+      Asked answered number w = (not (eqb number 0) && eqb answered number) && sameKey wanted w
+
+      tied-request : (held lowest : Found) → find (routeTo wanted) routes ≡ held → find isFree routes ≡ lowest
+          → Keeps (packetCall seat bytes) (requestAt held lowest room seat key wanted)
+      unfolding roomAfter applyAll apply withRoute requestAt accept standsAfterPacket routeTo
+      tied-request (at place) lowest hf hg =
+          keeps-same bytes _ e (requestAt (at place) lowest room seat key wanted) refl
+          (λ number w. rw (place-answered seat wanted long [] place) (absorb (Asked (numberOfPlace place) number w) _ (on number w)))
+        where
+          on : (number : ℕ) (w : Key) → Asked (numberOfPlace place) number w ≡ true → routeTo w (routeAt routes number) ≡ true
+          on number w t =
+              let a = both-true (not (eqb number 0) && eqb (numberOfPlace place) number) (sameKey wanted w) t in
+              let b = both-true (not (eqb number 0)) (eqb (numberOfPlace place) number) (a .0) in
+              rw (← (eqb-true (numberOfPlace place) number (b .1)), ← (same-sound wanted w (a .1)), route-at-place routes place) (find-hit (routeTo wanted) free routes place hf)
+      tied-request none none hf hg =
+          keeps-same bytes _ e (requestAt none none room seat key wanted) refl
+          (λ number w. rw (zero-answered seat wanted long []) (absorb (Asked 0 number w) _ (on number w)))
+        where
+          on : (number : ℕ) (w : Key) → Asked 0 number w ≡ true → routeTo w (routeAt routes number) ≡ true
+          on number w t =
+              let a = both-true (not (eqb number 0) && eqb 0 number) (sameKey wanted w) t in
+              let b = both-true (not (eqb number 0)) (eqb 0 number) (a .0) in
+              absurd (eqb-false number 0 (not-true (eqb number 0) (b .0)) (sym (eqb-true 0 number (b .1))))
+      tied-request none (at place) hf hg =
+          keeps-with bytes _ e (requestAt none (at place) room seat key wanted) (set routes place (wants wanted)) (rw sits) (λ number w. rw (place-answered seat wanted long _ place) (on number w (eqb (numberOfPlace place) number) refl))
+        where
+          on : (number : ℕ) (w : Key) (t : Bool) → eqb (numberOfPlace place) number ≡ t
+              → cond ((not (eqb number 0) && t) && sameKey wanted w) true (routeTo w (routeAt routes number)) ≡ routeTo w (routeAt (set routes place (wants wanted)) number)
+          on number w true q =
+              rw (
+                ← (eqb-true (numberOfPlace place) number q),
+                ne-eqb (numberOfPlace place) 0 (λ z. omega arith),
+                route-at-place routes place,
+                free-not-to w (getD routes place free) (find-hit isFree free routes place hg),
+                route-set routes place (wants wanted) (find-within isFree routes place hg),
+              ) (itself (sameKey wanted w))
+          on number w false q = rw (and-false (not (eqb number 0)), route-set-other routes place (wants wanted) number (λ z. eqb-false (numberOfPlace place) number q (sym z)))
+
+    -- a drop
+    tied-drop : (bytes : List ℕ) (number : ℕ) → client.relayRead bytes ≡ read.packet (client.dropRoute number)
+        → (route : Route) → routeAt routes number ≡ route → Keeps (packetCall seat bytes) (dropAt route room seat key number)
+    unfolding roomAfter applyAll apply withRoute dropAt accept refuse standsAfterPacket isAccepted routeTo
+    tied-drop bytes number e free h = keeps-same bytes _ e (dropAt free room seat key number) refl (λ n w. refl)
+    tied-drop bytes number e (wants wanted) h =
+        keeps-with bytes _ e (dropAt (wants wanted) room seat key number) (set routes (number - firstNumber) free) (rw sits) (λ n w. on n w (eqb number n) refl)
+      where
+        place : number ≡ numberOfPlace (number - firstNumber)
+        place = wanted-high routes number wanted h
+
+        on : (n : ℕ) (w : Key) (t : Bool) → eqb number n ≡ t → cond t false (routeTo w (routeAt routes n)) ≡ routeTo w (routeAt (set routes (number - firstNumber) free) n)
+        on n w true q =
+            sym (ap (λ (x : ℕ). routeTo w (routeAt (set routes (number - firstNumber) free) x)) (sym (eqb-true number n q) ∙ place) ∙ ap (routeTo w) (route-freed routes (number - firstNumber)))
+        on n w false q = sym (ap (routeTo w) (route-set-other routes (number - firstNumber) free n (λ z. eqb-false number n q (place ∙ sym z))))
+
+    -- the packets that change nothing
+    tied-oob : (bytes : List ℕ) (wanted : Key) (payload : List ℕ) → client.relayRead bytes ≡ read.packet (client.oobSend wanted payload)
+        → (other : Found) → Keeps (packetCall seat bytes) (oobTo other seat key payload)
+    unfolding roomAfter applyAll oobTo accept standsAfterPacket
+    tied-oob bytes wanted payload e none = keeps-same bytes _ e (oobTo none seat key payload) refl (λ n w. refl)
+    tied-oob bytes wanted payload e (at other) = keeps-same bytes _ e (oobTo (at other) seat key payload) refl (λ n w. refl)
+
+    module _ (bytes : List ℕ) (number : ℕ) (payload : List ℕ) (e : client.relayRead bytes ≡ read.packet (client.routedData number payload)) where
+      tied-carry : (p : Peer) → Keeps (packetCall seat bytes) (carryTo p seat payload)
+      unfolding roomAfter applyAll carryTo accept refuse standsAfterPacket
+      tied-carry apart = keeps-same bytes _ e (carryTo apart seat payload) refl (λ n w. refl)
+      tied-carry (joined other place) = keeps-same bytes _ e (carryTo (joined other place) seat payload) refl (λ n w. refl)
+
+      tied-data : (route : Route) → Keeps (packetCall seat bytes) (dataAt route room seat key payload)
+      unfolding roomAfter applyAll dataAt refuse standsAfterPacket
+      tied-data free = keeps-same bytes _ e (dataAt free room seat key payload) refl (λ n w. refl)
+      tied-data (wants wanted) = tied-carry (peer room seat key wanted)
+
+    tied-act : (bytes : List ℕ) (p : client.FromClient) → client.relayRead bytes ≡ read.packet p → Keeps (packetCall seat bytes) (act p room seat key routes)
+    unfolding roomAfter applyAll act accept standsAfterPacket
+    tied-act bytes (client.routingRequest wanted) e = tied-request bytes wanted e (find (routeTo wanted) routes) (find isFree routes) refl refl
+    tied-act bytes (client.dropRoute number) e = tied-drop bytes number e (routeAt routes number) refl
+    tied-act bytes (client.ping n) e = keeps-same bytes _ e (act (client.ping n) room seat key routes) refl (λ n w. refl)
+    tied-act bytes (client.pong n) e = keeps-same bytes _ e (act (client.pong n) room seat key routes) refl (λ n w. refl)
+    tied-act bytes (client.oobSend wanted payload) e = tied-oob bytes wanted payload e (find (seatOf wanted) room)
+    tied-act bytes (client.routedData number payload) e = tied-data bytes number payload e (routeAt routes number)
+
+    tied-read : (bytes : List ℕ) (r : Read client.FromClient) → client.relayRead bytes ≡ r → Keeps (packetCall seat bytes) (actOn r room seat key routes)
+    unfolding roomAfter applyAll actOn refuse standsAfterPacket
+    tied-read bytes (read.packet p) e = tied-act bytes p e
+    tied-read bytes (read.refused why) e = keeps-same bytes _ e (actOn (read.refused why) room seat key routes) refl (λ n w. refl)
+
+  tied-leave-from : (seat : ℕ) (s : Seat) → seatAt room seat ≡ s → Keeps (leave seat) (leaveFrom s room seat)
+  tied-leave-from seat vacant e = tied-no-leave seat e
+  tied-leave-from seat (holds key routes) e = tied-leave seat key routes e
+
+  tied-packet : (seat : ℕ) (bytes : List ℕ) (s : Seat) → seatAt room seat ≡ s → Keeps (packetCall seat bytes) (packetFrom s room seat bytes)
+  unfolding packetFrom
+  tied-packet seat bytes vacant e = tied-no-packet seat e bytes
+  tied-packet seat bytes (holds key routes) e = tied-read seat key routes e bytes (client.relayRead bytes) refl
+
+  -- every call keeps the tie
+  pub tied-after : (call : Call) → Tied start (event room call ∷ past) (roomAfter sizes room (outcome room call))
+  unfolding event outcome
+  tied-after (arrive key) = tied-arrive key (find (seatOf key) room) (find isVacant room) refl refl (whole-after sizes room whole (arrive key))
+  tied-after (leave seat) = tied-leave-from seat (seatAt room seat) refl
+  tied-after (packetCall seat bytes) = tied-packet seat bytes (seatAt room seat) refl
+
+-- ---- what the tie tells
+
+module _ (sizes : Sizes) (start : Start) (past : Past) (room : Room) (whole : Whole sizes room) (tie : Tied start past room) where
+  -- a client that sits there is in the table
+  pub seat-holds : (seat : ℕ) (key : Key) → sitter start past seat ≡ clientOf key → seatAt room seat ≡ holds key (routesOf (seatAt room seat))
+  unfolding clientIn routesOf
+  seat-holds seat key e = go (seatAt room seat) (sym (tie .sits seat) ∙ e)
+    where
+      go : (s : Seat) → clientIn s ≡ clientOf key → s ≡ holds key (routesOf s)
+      go vacant q = clash (cc)
+      go (holds k routes) q = let z : k ≡ key = cc in ap (λ (x : Key). holds x routes) z
+
+  module _ (seat : ℕ) (key : Key) (routes : List Route) (sits : seatAt room seat ≡ holds key routes) where
+    -- a request that stands is in the table, and the other way
+    pub stands-wants : (number : ℕ) (wanted : Key) → stands start past key number wanted ≡ true → routeAt routes number ≡ wants wanted
+    stands-wants number wanted e = route-to-wants wanted _ (sym (tied-here sizes start past room whole tie seat key routes sits number wanted) ∙ e)
+
+    pub wants-stands : (number : ℕ) (wanted : Key) → routeAt routes number ≡ wants wanted → stands start past key number wanted ≡ true
+    unfolding routeTo
+    wants-stands number wanted e = tied-here sizes start past room whole tie seat key routes sits number wanted ∙ rw e (same-refl wanted)
+
+    pub free-stands : (number : ℕ) → routeAt routes number ≡ free → (wanted : Key) → stands start past key number wanted ≡ false
+    unfolding routeTo
+    free-stands number e wanted = tied-here sizes start past room whole tie seat key routes sits number wanted ∙ rw e
+
+-- ---- every history
+
+-- from a whole room on, with a past that says what it says
+pub tied-history : (sizes : Sizes) (start : Start) (past : Past) (room : Room) → Whole sizes room → Tied start past room
+    → (calls : List Call) → Tied start (pastAfter past (transcript sizes room calls)) (roomAfterAll sizes room calls)
+unfolding roomAfterAll pastAfter transcript
+tied-history sizes start past room whole tie [] = tie
+tied-history sizes start past room whole tie (call ∷ calls) =
+    tied-history sizes start (event room call ∷ past) (roomAfter sizes room (outcome room call)) (whole-after sizes room whole call)
+    (tied-after sizes start past room whole tie call) calls
+
+-- any room has a start that says what its tables say
+pub tied-start : (room : Room) → Tied (startOf room) [] room
+unfolding startOf sitter stands
+tied-start room = record { sits = λ seat. refl; requests = λ key number wanted. refl }
+
+-- from the empty room
+pub tied-empty : (sizes : Sizes) → Tied fromEmpty [] (emptyRoom sizes)
+unfolding emptyRoom sitter stands clientIn routesBy routesIn seatAt seatOf routeTo
+tied-empty sizes = record {
+  sits = λ seat. rw (getD-all (sizes .seats) seat vacant);
+  requests = λ key number wanted. rw (find-replicate (seatOf key) (sizes .seats) vacant refl, route-none number);
+}
+
+pub tied-from-empty : (sizes : Sizes) (calls : List Call)
+    → Tied fromEmpty (pastAfter [] (transcript sizes (emptyRoom sizes) calls)) (roomAfterAll sizes (emptyRoom sizes) calls)
+tied-from-empty sizes calls = tied-history sizes fromEmpty [] (emptyRoom sizes) (whole-empty sizes) (tied-empty sizes) calls

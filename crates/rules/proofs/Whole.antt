@@ -1,0 +1,178 @@
+-- The empty room is whole, and every call leaves a whole room whole: a key is seated only where it sits nowhere, and a wanted key is given a
+-- number only where it has none. Assumes nothing.
+use mathlib.Core.Path.{_≡_, refl, sym, ap, _∙_, subst}
+use mathlib.Core.Bool.{true, false, true≢false, false≢true}
+use mathlib.Core.List.{List, [], _∷_}
+use mathlib.Core.Logic.{_↔_, _≢_}
+use Prim.Native.Nat.{ℕ, _-_}
+use native.Mathlib.Omega.{arith}
+use lib.ListN.{getD, set, replicate, length, length-set, length-replicate}
+use Rattle.packet.specs.Read.{Read}
+use Rattle.packet.specs.Read as read
+use Rattle.packet.specs.FromClient as client
+use Rattle.key.proofs.Same.{same-refl, same-sound}
+use Rattle.rules.specs.Room.{Sizes, Key, Route, free, wants, Seat, vacant, holds, Room, emptyRoom, Found, none, at, find, seatOf, isVacant, routeTo, isFree, seatAt, routeAt, firstNumber, numberOfPlace, Peer, apart, joined}
+use Rattle.rules.specs.Whole.{Whole}
+use Rattle.rules.specs.Call.{Call, arrive, leave, packetCall}
+use Rattle.rules.specs.Outcome.{withRoute, apply, applyAll, refuse, accept, roomAfter, peer, arriveAt, leaveFrom, requestAt, dropAt, oobTo, carryTo, dataAt, act, actOn, packetFrom, outcome}
+use Rattle.rules.specs.After.{roomAfterAll}
+use Rattle.rules.proofs.FindLaws.{Once, find-miss, find-once, getD-all, set-all, once-set, seat-of-holds, route-to-wants, route-at-place, wanted-high, wanted-place}
+
+-- ---- whole, by the tests that searches make
+
+-- what a whole room asks of one seat
+abbrev pub WholeSeat : Sizes → Seat → Type 0
+WholeSeat sizes vacant = Unit {0}
+WholeSeat sizes (holds key routes) = (length routes ≡ sizes .numbers) × ((wanted : Key) → Once (routeTo wanted) free routes)
+
+module _ (sizes : Sizes) (room : Room) (whole : Whole sizes room) where
+  pub key-once : (key : Key) → Once (seatOf key) vacant room
+  unfolding seatAt
+  key-once key i j hi hj = whole .seated key i j _ _ (seat-of-holds key _ hi) (seat-of-holds key _ hj)
+
+  module _ (seat : ℕ) (key : Key) (routes : List Route) (sits : seatAt room seat ≡ holds key routes) where
+    pub wanted-once : (other : Key) → Once (routeTo other) free routes
+    wanted-once other i j hi hj =
+        let q : numberOfPlace i ≡ numberOfPlace j =
+        whole .wanted seat key routes sits other (numberOfPlace i) (numberOfPlace j) (route-at-place routes i ∙ route-to-wants other _ hi) (route-at-place routes j ∙ route-to-wants other _ hj)
+        in omega arith
+
+    -- its key is found there
+    pub key-found : find (seatOf key) room ≡ at seat
+    unfolding seatOf seatAt
+    key-found = find-once (seatOf key) vacant room seat refl (key-once key) (rw sits (same-refl key))
+
+  -- clients in different seats have different keys, so "connected" could ask for either
+  pub seats-keys-differ : (i j : ℕ) (key key′ : Key) (routes routes′ : List Route) → seatAt room i ≡ holds key routes → seatAt room j ≡ holds key′ routes′ → (i ≢ j) ↔ (key ≢ key′)
+  seats-keys-differ i j key key′ routes routes′ hi hj = (
+    λ ne q. ne (whole .seated key i j routes routes′ hi (hj ∙ ap (λ (k : Key). holds k routes′) (sym q))),
+    λ ne q. ne (let h = ap (seatAt room) q in cc),
+  )
+
+  pub whole-seat : (seat : ℕ) → WholeSeat sizes (seatAt room seat)
+  whole-seat seat = go (seatAt room seat) refl
+    where
+      go : (s : Seat) → seatAt room seat ≡ s → WholeSeat sizes s
+      go vacant e = tt
+      go (holds key routes) e = (whole .numbers seat key routes e, wanted-once seat key routes e)
+
+module _ (sizes : Sizes) (room : Room) where
+  pub make-whole : length room ≡ sizes .seats → ((seat : ℕ) → WholeSeat sizes (seatAt room seat)) → ((key : Key) → Once (seatOf key) vacant room) → Whole sizes room
+  unfolding seatAt seatOf routeTo
+  make-whole long each once = record {
+    seats = long;
+    numbers = λ seat key routes e. (rw e at (each seat)) .0;
+    seated = λ key i j routes routes′ ei ej. once key i j (rw ei (same-refl key)) (rw ej (same-refl key));
+    wanted = λ seat key routes e other i j hi hj.
+        (let pi = wanted-high routes i other hi in
+        let pj = wanted-high routes j other hj in
+        let q = (rw e at (each seat)) .1 other (i - firstNumber) (j - firstNumber) (rw (wanted-place routes i other hi) (same-refl other)) (rw (wanted-place routes j other hj) (same-refl other)) in
+        omega arith);
+  }
+
+-- ---- the empty room
+
+pub whole-empty : (sizes : Sizes) → Whole sizes (emptyRoom sizes)
+unfolding emptyRoom seatAt seatOf
+whole-empty sizes =
+    make-whole sizes (emptyRoom sizes) (length-replicate (sizes .seats) vacant) (λ seat. rw (getD-all (sizes .seats) seat vacant) tt)
+    (λ key i j h. absurd (false≢true (sym (ap (seatOf key) (getD-all (sizes .seats) i vacant)) ∙ h)))
+
+-- ---- each call
+
+module _ (sizes : Sizes) (room : Room) (whole : Whole sizes room) where
+  -- one seat is replaced
+  whole-set : (seat : ℕ) (s : Seat) → ((key : Key) → seatOf key s ≡ true → (j : ℕ) → seatOf key (getD room j vacant) ≡ true → j ≡ seat)
+      → WholeSeat sizes s → Whole sizes (set room seat s)
+  unfolding seatAt
+  whole-set seat s alone good =
+      make-whole sizes (set room seat s) (length-set room seat s ∙ whole .seats) (set-all (WholeSeat sizes) vacant room seat s good (whole-seat sizes room whole))
+      (λ key. once-set (seatOf key) vacant room seat s (key-once sizes room whole key) (alone key))
+
+  whole-arrive : (key : Key) (seated empty : Found) → find (seatOf key) room ≡ seated → Whole sizes (roomAfter sizes room (arriveAt seated empty key))
+  unfolding roomAfter applyAll apply arriveAt refuse accept seatOf routeTo
+  whole-arrive key (at i) empty e = whole
+  whole-arrive key none none e = whole
+  whole-arrive key none (at seat) e =
+      whole-set seat (holds key (replicate (sizes .numbers) free))
+      (λ k h j hj. absurd (true≢false (sym hj ∙ subst (λ (x : Key). seatOf x (getD room j vacant) ≡ false) (same-sound key k h) (find-miss (seatOf key) vacant room refl e j))))
+      (length-replicate (sizes .numbers) free, λ w i j h. absurd (false≢true (sym (ap (routeTo w) (getD-all (sizes .numbers) i free)) ∙ h)))
+
+  whole-leave : (seat : ℕ) (s : Seat) → Whole sizes (roomAfter sizes room (leaveFrom s room seat))
+  unfolding roomAfter applyAll apply leaveFrom refuse accept seatOf
+  whole-leave seat vacant = whole
+  whole-leave seat (holds key routes) = whole-set seat vacant (λ k h. absurd (false≢true h)) tt
+
+  module _ (seat : ℕ) (key : Key) (routes : List Route) (sits : seatAt room seat ≡ holds key routes) where
+    -- one of its routes is replaced
+    whole-route : (place : ℕ) (route : Route) → ((w : Key) → routeTo w route ≡ true → (j : ℕ) → routeTo w (getD routes j free) ≡ true → j ≡ place)
+        → Whole sizes (set room seat (withRoute (seatAt room seat) place route))
+    unfolding withRoute seatOf seatAt
+    whole-route place route alone =
+        rw sits
+        (whole-set seat (holds key (set routes place route)) (λ k h j hj. key-once sizes room whole k j seat hj (rw sits h))
+        (length-set routes place route ∙ whole .numbers seat key routes sits, λ w. once-set (routeTo w) free routes place route (wanted-once sizes room whole seat key routes sits w) (alone w)))
+
+    whole-request : (wanted : Key) (held lowest : Found) → find (routeTo wanted) routes ≡ held → Whole sizes (roomAfter sizes room (requestAt held lowest room seat key wanted))
+    unfolding roomAfter applyAll apply requestAt accept routeTo
+    whole-request wanted (at place) lowest e = whole
+    whole-request wanted none none e = whole
+    whole-request wanted none (at place) e =
+        whole-route place (wants wanted)
+        (λ w h j hj. absurd (true≢false (sym hj ∙ subst (λ (x : Key). routeTo x (getD routes j free) ≡ false) (same-sound wanted w h) (find-miss (routeTo wanted) free routes refl e j))))
+
+    whole-drop : (number : ℕ) (route : Route) → Whole sizes (roomAfter sizes room (dropAt route room seat key number))
+    unfolding roomAfter applyAll apply dropAt accept refuse routeTo
+    whole-drop number free = whole
+    whole-drop number (wants wanted) = whole-route (number - firstNumber) free (λ w h. absurd (false≢true h))
+
+    whole-oob : (other : Found) (bytes : List ℕ) → Whole sizes (roomAfter sizes room (oobTo other seat key bytes))
+    unfolding roomAfter applyAll oobTo accept
+    whole-oob none bytes = whole
+    whole-oob (at other) bytes = whole
+
+    whole-carry : (p : Peer) (bytes : List ℕ) → Whole sizes (roomAfter sizes room (carryTo p seat bytes))
+    unfolding roomAfter applyAll carryTo accept refuse
+    whole-carry apart bytes = whole
+    whole-carry (joined other place) bytes = whole
+
+    whole-data : (route : Route) (bytes : List ℕ) → Whole sizes (roomAfter sizes room (dataAt route room seat key bytes))
+    unfolding roomAfter applyAll dataAt refuse
+    whole-data free bytes = whole
+    whole-data (wants wanted) bytes = whole-carry (peer room seat key wanted) bytes
+
+    whole-act : (p : client.FromClient) → Whole sizes (roomAfter sizes room (act p room seat key routes))
+    unfolding roomAfter applyAll act accept
+    whole-act (client.routingRequest wanted) = whole-request wanted (find (routeTo wanted) routes) (find isFree routes) refl
+    whole-act (client.dropRoute number) = whole-drop number (routeAt routes number)
+    whole-act (client.ping n) = whole
+    whole-act (client.pong n) = whole
+    whole-act (client.oobSend wanted bytes) = whole-oob (find (seatOf wanted) room) bytes
+    whole-act (client.routedData number bytes) = whole-data (routeAt routes number) bytes
+
+    whole-read : (r : Read client.FromClient) → Whole sizes (roomAfter sizes room (actOn r room seat key routes))
+    unfolding roomAfter applyAll actOn refuse
+    whole-read (read.packet p) = whole-act p
+    whole-read (read.refused why) = whole
+
+  whole-packet : (seat : ℕ) (bytes : List ℕ) (s : Seat) → seatAt room seat ≡ s → Whole sizes (roomAfter sizes room (packetFrom s room seat bytes))
+  unfolding roomAfter applyAll packetFrom refuse
+  whole-packet seat bytes vacant e = whole
+  whole-packet seat bytes (holds key routes) e = whole-read seat key routes e (client.relayRead bytes)
+
+  -- every call leaves a whole room whole
+  pub whole-after : (call : Call) → Whole sizes (roomAfter sizes room (outcome room call))
+  unfolding outcome
+  whole-after (arrive key) = whole-arrive key (find (seatOf key) room) (find isVacant room) refl
+  whole-after (leave seat) = whole-leave seat (seatAt room seat)
+  whole-after (packetCall seat bytes) = whole-packet seat bytes (seatAt room seat) refl
+
+-- ---- every history
+
+pub whole-history : (sizes : Sizes) (room : Room) → Whole sizes room → (calls : List Call) → Whole sizes (roomAfterAll sizes room calls)
+unfolding roomAfterAll
+whole-history sizes room whole [] = whole
+whole-history sizes room whole (call ∷ calls) = whole-history sizes (roomAfter sizes room (outcome room call)) (whole-after sizes room whole call) calls
+
+pub whole-from-empty : (sizes : Sizes) (calls : List Call) → Whole sizes (roomAfterAll sizes (emptyRoom sizes) calls)
+whole-from-empty sizes calls = whole-history sizes (emptyRoom sizes) (whole-empty sizes) calls

@@ -1,0 +1,17 @@
+-- Document 01, "The room": "A room is whole when seated keys differ, the wanted keys of one seat differ, empty seats hold no routes". An empty
+-- seat is `vacant`, which has no place for a route.
+use mathlib.Core.List.{List}
+use mathlib.Core.Path.{_≡_}
+use Prim.Native.Nat.{ℕ}
+use lib.ListN.{length}
+use Rattle.rules.specs.Room.{Sizes, Key, Route, wants, holds, Room, seatAt, routeAt}
+
+pub record Whole (sizes : Sizes) (room : Room) : Type 0 where
+  -- "40 seats", and in each seat that holds a key "32 routes"
+  pub seats : length room ≡ sizes .seats
+  pub numbers : (seat : ℕ) (key : Key) (routes : List Route) → seatAt room seat ≡ holds key routes → length routes ≡ sizes .numbers
+  -- "seated keys differ": a key sits in one seat
+  pub seated : (key : Key) (i j : ℕ) (routes routes′ : List Route) → seatAt room i ≡ holds key routes → seatAt room j ≡ holds key routes′ → i ≡ j
+  -- "the wanted keys of one seat differ": a key is wanted under one number
+  pub wanted : (seat : ℕ) (key : Key) (routes : List Route) → seatAt room seat ≡ holds key routes
+      → (other : Key) (i j : ℕ) → routeAt routes i ≡ wants other → routeAt routes j ≡ wants other → i ≡ j
