@@ -44,13 +44,13 @@ unfolding shown showAll took numberOf bytesOf sameKey check kindOf bodyOf sizeRi
 opened = tt
 
 -- P1 to P6, P8 and P9
-lesson : List Call
-lesson =
+calls : List Call
+calls =
     arrive ka ∷ arrive kb ∷ arrive ka ∷ packetCall 0 (0 ∷ kb) ∷ packetCall 0 (0x10 ∷ 0x61 ∷ 0x62 ∷ []) ∷ packetCall 0 (0x11 ∷ 0x61 ∷ [])
     ∷ packetCall 1 (0 ∷ ka) ∷ packetCall 0 (0x10 ∷ 0x61 ∷ 0x62 ∷ []) ∷ packetCall 0 (0x11 ∷ 0x61 ∷ []) ∷ leave 0 ∷ arrive kc
     ∷ packetCall 1 (0x10 ∷ 0x61 ∷ []) ∷ []
 
-lesson-shows : showAll (transcript baseSizes (emptyRoom baseSizes) lesson)
+calls-show : showAll (transcript baseSizes (emptyRoom baseSizes) calls)
     ≡ took 0 ∷ took 1 ∷ record { answer = refused AlreadySeated; output = [] }
     ∷ record { answer = accepted 0 37; output = 0 ∷ 0 ∷ 0x22 ∷ 1 ∷ 0x10 ∷ kb }
     ∷ record { answer = refused NotConnected; output = [] } ∷ record { answer = refused NoSuchRoute; output = [] }
@@ -58,5 +58,5 @@ lesson-shows : showAll (transcript baseSizes (emptyRoom baseSizes) lesson)
     ∷ record { answer = accepted 0 6; output = 1 ∷ 0 ∷ 3 ∷ 0x10 ∷ 0x61 ∷ 0x62 ∷ [] }
     ∷ record { answer = refused NoSuchRoute; output = [] } ∷ record { answer = accepted 0 5; output = 1 ∷ 0 ∷ 2 ∷ 3 ∷ 0x10 ∷ [] } ∷ took 0
     ∷ record { answer = refused NotConnected; output = [] } ∷ []
-unfolding opened lesson
-lesson-shows = refl
+unfolding opened calls
+calls-show = refl

@@ -13,6 +13,9 @@ use packet::relay::ClientPacket;
 use packet::relay::RelayRead;
 use refusal::Refusal;
 
+// As many bytes as `io::large_buffer` has.
+const MOST_INPUT: usize = 65536;
+
 fn say(words: &[u8]) {
     io::write_all(STDOUT_FILENO, words);
 }
@@ -165,4 +168,7 @@ fn main() {
     let mut input = io::large_buffer();
     let n = io::read_full(0, &mut input);
     show_all(&input[..n]);
+    if n == MOST_INPUT {
+        say(b"only the first 65,536 bytes were read\n");
+    }
 }
