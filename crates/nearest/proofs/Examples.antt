@@ -12,7 +12,8 @@ use Rattle.node.specs.Families.{knownFamily}
 use Rattle.nearest.specs.declared.NearestList.{NearestList}
 use Rattle.nearest.specs.declared.OfferAnswer.the-variants.{Kept, NotKept}
 use Rattle.nearest.specs.declared.Offered.{Offered}
-use Rattle.nearest.specs.Lists.{blankNode, held, holding, emptyOf, sizeRight, allKnown, risingAfter, rising, keepsRules}
+use Rattle.nearest.specs.Lists.{held, holding, emptyOf, sizeRight, allKnown, risingAfter, rising, keepsRules}
+use Rattle.node.specs.Values.{blankNode}
 use Rattle.nearest.specs.Effect.{tooFar, holds, replace, insert, without, lastKey, furthest, effect, afterEffect, kept}
 use Rattle.nearest.specs.Calls.{begun, checked, offerAnswer, effectOn, taken, offeredAfter, offered}
 

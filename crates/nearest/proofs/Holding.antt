@@ -7,7 +7,8 @@ use lib.ListN.{length, drop, replicate}
 use lib.Seq.{length-take-le, take-append-seam}
 use Rattle.node.specs.declared.Node.{Node}
 use Rattle.nearest.specs.declared.NearestList.{NearestList}
-use Rattle.nearest.specs.Lists.{blankNode, held, holding}
+use Rattle.nearest.specs.Lists.{held, holding}
+use Rattle.node.specs.Values.{blankNode}
 
 module _ {A : Type 0} (b : A) where
   -- behind the slots that are blanked, the slots are as they were

@@ -13,7 +13,8 @@ use Rattle.node.specs.Families.{knownFamily}
 use Rattle.nearest.specs.declared.NearestList.{NearestList}
 use Rattle.nearest.specs.declared.Answer.the-variants.{Done, Refused}
 use Rattle.nearest.specs.declared.Offered.{Offered}
-use Rattle.nearest.specs.Lists.{blankNode, held, holding, emptyOf, sizeRight, allKnown, rising}
+use Rattle.nearest.specs.Lists.{held, holding, emptyOf, sizeRight, allKnown, rising}
+use Rattle.node.specs.Values.{blankNode}
 use Rattle.nearest.specs.Effect.{Effect, effect, afterEffect, kept, holds, without}
 use Rattle.nearest.specs.Calls.{begun, checked, notOffered, offerAnswer, taken, offered, removed}
 use Rattle.nearest.specs.Sequence.{listOf}

@@ -14,7 +14,8 @@ use Rattle.nearest.specs.declared.NearestList.{NearestList}
 use Rattle.nearest.specs.declared.Answer.{Answer}
 use Rattle.nearest.specs.declared.Answer.the-variants.{Done, Refused}
 use Rattle.nearest.specs.declared.Removed.{Removed}
-use Rattle.nearest.specs.Lists.{blankNode, held, holding}
+use Rattle.nearest.specs.Lists.{held, holding}
+use Rattle.node.specs.Values.{blankNode}
 use Rattle.nearest.specs.Effect.{holds, without}
 use Rattle.nearest.specs.Calls.{checked, removedAfter, removed}
 use Rattle.nearest.specs.Slots.{indexOf, removeAt}

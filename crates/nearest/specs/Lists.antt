@@ -7,6 +7,7 @@ use lib.ListN.{length, take, drop, replicate}
 use Rattle.key.specs.declared.Key.{Key}
 use Rattle.key.specs.Keys.{nearer}
 use Rattle.node.specs.declared.Node.{Node}
+use Rattle.node.specs.Values.{blankNode}
 use Rattle.node.specs.Families.{knownFamily}
 use Rattle.nearest.specs.declared.NearestList.{NearestList}
 
@@ -23,10 +24,6 @@ defaultSize = 8
 -- the 32 bytes of a node's key
 abbrev pub nodeKey : Node → List ℕ
 nodeKey n = n .key .0
-
--- what a slot holds that holds no node
-unfoldable pub blankNode : Node
-blankNode = record { family = 0; address = replicate 16 0; port = 0; key = record { 0 = replicate 32 0 } }
 
 -- the nodes that a list holds: the slots behind its count are no part of them
 abbrev pub held : NearestList → List Node

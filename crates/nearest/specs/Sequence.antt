@@ -12,7 +12,8 @@ use Rattle.node.specs.Families.{knownFamily}
 use Rattle.nearest.specs.declared.NearestList.{NearestList}
 use Rattle.nearest.specs.declared.OfferAnswer.{OfferAnswer}
 use Rattle.nearest.specs.declared.OfferAnswer.the-variants as offer
-use Rattle.nearest.specs.Lists.{largestSize, nodeKey, blankNode, rising}
+use Rattle.nearest.specs.Lists.{largestSize, nodeKey, rising}
+use Rattle.node.specs.Values.{blankNode}
 use Rattle.nearest.specs.Effect.{holds}
 use Rattle.nearest.specs.Calls.{begun, offered, removed}
 

@@ -62,7 +62,7 @@ impl NearestList {
     pub fn empty(target: Key) -> Self
         ensures { λ r. ⌜ r ≡ emptyOf target defaultSize ⌝ }
     {
-        let blank = slots::blank();
+        let blank = Node::blank();
         NearestList {
             target,
             size: NearestList::DEFAULT_SIZE,

@@ -3,23 +3,11 @@ ghost use mathlib.Core.Path.{_≡_};
 ghost use Prim.Native.Nat.{_+_, _<_, _≤_};
 ghost use mathlib.Core.List.{_∷_, _++_};
 ghost use lib.ListN.{take, drop};
-ghost use Rattle.nearest.specs.Lists.{blankNode, allKnown, rising};
+ghost use Rattle.nearest.specs.Lists.{allKnown, rising};
+ghost use Rattle.node.specs.Values.{blankNode};
 ghost use Rattle.nearest.specs.Slots.{position, indexOf, insertAt, removeAt};
 use key::Key;
 use node::Node;
-
-// What a slot holds that holds no node.
-pub(crate) fn blank() -> Node
-    ensures { λ r. ⌜ r ≡ blankNode ⌝ }
-{
-    let key = Key([0u8; 32]);
-    Node {
-        family: 0,
-        address: [0u8; 16],
-        port: 0,
-        key,
-    }
-}
 
 // Whether the family of each node held is known.
 pub(crate) fn all_known(nodes: [Node; 16], count: usize) -> bool
@@ -122,6 +110,6 @@ pub(crate) fn close_at(nodes: [Node; 16], place: usize, last: usize) -> [Node; 1
         out[i] = next;
         i += 1;
     }
-    out[last] = blank();
+    out[last] = Node::blank();
     out
 }

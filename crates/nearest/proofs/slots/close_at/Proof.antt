@@ -7,7 +7,7 @@ use native.Mathlib.Omega.{arith}
 use native.Mathlib.Numerals.{add-one}
 use lib.ListN.{length, getD, take, drop, set, take-append-drop}
 use Rattle.node.specs.declared.Node.{Node}
-use Rattle.nearest.specs.Lists.{blankNode}
+use Rattle.node.specs.Values.{blankNode}
 use Rattle.nearest.specs.Slots.{removeAt}
 use Rattle.nearest.proofs.Front.{noNode}
 use Rattle.nearest.proofs.Shift.{slot-stored, slot-next-still, slot-set, length-out, take-out, after-out}
