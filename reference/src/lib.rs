@@ -8,4 +8,7 @@ pub mod key;
 pub mod nearest;
 pub mod node;
 pub mod packet;
+pub mod record;
 pub mod refusal;
+pub mod room;
+pub mod seat;

@@ -7,11 +7,11 @@ use crate::key::Key;
 use crate::refusal;
 
 /// The most bytes that a packet may have, its kind byte included.
-const LONGEST_PACKET: usize = 2_032;
+pub const LONGEST_PACKET: usize = 2_032;
 
 /// The lowest connection number. A packet whose first byte is this or more is
 /// a data packet, and its first byte is the number.
-const FIRST_NUMBER: u8 = 16;
+pub const FIRST_NUMBER: u8 = 16;
 
 /// A packet that a client sends and the relay reads.
 #[derive(Debug, Clone, PartialEq, Eq)]

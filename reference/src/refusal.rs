@@ -1,5 +1,14 @@
 //! The refusal numbers, by name.
 
+/// A refusal is the number that the rules give it.
+pub type Refusal = u8;
+
+/// An arrival with all seats taken.
+pub const ROOM_FULL: u8 = 1;
+/// An arrival of a key that is already seated.
+pub const SEATED: u8 = 2;
+/// A seat above the last, or an empty one.
+pub const SEAT: u8 = 3;
 /// A packet of 0 bytes, or of more than 2,032.
 pub const PACKET_SIZE: u8 = 4;
 /// A kind that this end does not take.
@@ -8,11 +17,17 @@ pub const KIND: u8 = 5;
 pub const LENGTH: u8 = 6;
 /// Ping number 0, in a ping or in a pong.
 pub const PING_NUMBER: u8 = 7;
-/// At the client's end: an answer with number 1 to 15, or a connected or
-/// disconnected packet with a number below 16.
+/// In the room: a number that names no route. At the client's end: an answer
+/// with number 1 to 15, or a connected or disconnected packet with a number
+/// below 16.
 pub const ROUTE_NUMBER: u8 = 8;
-/// The output is shorter than what would be written.
+/// Data on a waiting route.
+pub const WAITING: u8 = 9;
+/// For a packet call or a leave: an output of under 2,048 bytes. For a writer:
+/// the output is shorter than what would be written.
 pub const OUTPUT: u8 = 10;
+/// The lent memory holds no whole room.
+pub const ROOM: u8 = 11;
 /// A list size that is not 1 to 16.
 pub const LIST_SIZE: u8 = 12;
 /// The key to remove is not held.
