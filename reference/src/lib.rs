@@ -4,6 +4,7 @@
 //! front to back and follows the written rules in their own order. A refusal
 //! is the number that the rules give it, as a plain `u8`.
 
+pub mod call;
 pub mod key;
 pub mod nearest;
 pub mod node;
