@@ -9,6 +9,7 @@ pub mod key;
 pub mod nearest;
 pub mod node;
 pub mod packet;
+pub mod play;
 pub mod record;
 pub mod refusal;
 pub mod room;
