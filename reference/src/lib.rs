@@ -6,11 +6,14 @@
 
 pub mod call;
 pub mod key;
+pub mod memory;
 pub mod nearest;
 pub mod node;
 pub mod packet;
 pub mod play;
+pub mod random;
 pub mod record;
 pub mod refusal;
 pub mod room;
 pub mod seat;
+pub mod table;
