@@ -296,9 +296,11 @@ fn whole_memory_is_the_memory_of_the_room_read() {
     for _ in 0..100_000 {
         let mut memory: Vec<u8> = vec![0; length(sizes)];
         memory[..3].copy_from_slice(&[3, 2, random.below(4) as u8]);
-        for place in 3..memory.len() {
-            // The last byte of a key, an order and a count are all small.
-            memory[place] = random.below(3) as u8 * u8::from(random.percent(20));
+        // Small bytes, so that counts and places are often in range; and often
+        // few that are not 0, so that keys are often equal.
+        let chance = random.one_of(&[3, 10, 30]).unwrap();
+        for byte in &mut memory[3..] {
+            *byte = random.below(3) as u8 * u8::from(random.percent(chance));
         }
         let read = decode_of(sizes, &memory);
         assert_eq!(read.is_some(), whole_of(sizes, &memory));
