@@ -3,9 +3,14 @@
 //! It is meant to be easy to check by reading: it copies freely, searches from
 //! front to back and follows the written rules in their own order. A refusal
 //! is the number that the rules give it, as a plain `u8`.
+//!
+//! The relay itself is `room`, with `seat` and `record`; `call` and `play` are
+//! histories of calls as bytes; `memory`, with `table`, and `lent` are the room
+//! in lent memory.
 
 pub mod call;
 pub mod key;
+pub mod lent;
 pub mod memory;
 pub mod nearest;
 pub mod node;
