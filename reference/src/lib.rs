@@ -6,12 +6,16 @@
 //!
 //! The relay itself is `room`, with `seat` and `record`; `call` and `play` are
 //! histories of calls as bytes; `memory`, with `table`, and `lent` are the room
-//! in lent memory.
+//! in lent memory. `generate`, with `random` and `bad_packet`, makes histories
+//! up, and `met` counts what they meet.
 
+pub mod bad_packet;
 pub mod call;
+pub mod generate;
 pub mod key;
 pub mod lent;
 pub mod memory;
+pub mod met;
 pub mod nearest;
 pub mod node;
 pub mod packet;

@@ -1,0 +1,480 @@
+//! Histories made up for comparison: runs of calls that its seed fixes.
+//!
+//! Calls at random would be refused nearly always. The generator therefore
+//! keeps a room of its own, makes each call on it, and looks at it to choose
+//! the next one. It has moods that last for some calls, so that rooms and
+//! tables get full, and empty again.
+
+use crate::bad_packet::bad_packet;
+use crate::call::{self, Call};
+use crate::key::Key;
+use crate::packet::{write_from_client, FromClient, LONGEST_PACKET};
+use crate::random::Random;
+use crate::room::{Room, Sizes, BASE, LEAST_OUTPUT};
+use crate::seat::Seat;
+
+/// The calls of a history of the base, from the empty room on.
+pub fn history(seed: u64, calls: usize) -> Vec<Call> {
+    Generator::new(seed, BASE).take(calls).collect()
+}
+
+/// The same, as stored calls.
+pub fn stored_history(seed: u64, calls: usize) -> Vec<u8> {
+    call::write_all(&history(seed, calls)).expect("no packet of over 65,535 bytes is made")
+}
+
+/// Goes through a history without end.
+pub struct Generator {
+    random: Random,
+    /// The room after the calls made so far.
+    room: Room,
+    /// The keys that clients have: more than a room seats, and more than one
+    /// client can ask for.
+    keys: Vec<Key>,
+    /// The keys of the clients that left last.
+    left: Vec<Key>,
+    mood: Mood,
+    /// How many calls the mood lasts.
+    lasts: usize,
+    /// The seat that makes most requests in the mood of asking, and that many
+    /// ask for in the mood of talking, so that it has many peers.
+    favourite: usize,
+}
+
+/// What most calls are about for a while.
+#[derive(Debug, Clone, Copy, PartialEq, Eq)]
+enum Mood {
+    Arriving,
+    Leaving,
+    Asking,
+    Talking,
+    Garbling,
+}
+
+const MOODS: [Mood; 5] = [
+    Mood::Arriving,
+    Mood::Leaving,
+    Mood::Asking,
+    Mood::Talking,
+    Mood::Garbling,
+];
+
+impl Mood {
+    /// Of a hundred calls, how many are arrivals, leaves, requests, drops,
+    /// data, out-of-band, pings and pongs, bad packets, calls of wrong seats.
+    fn shares(self) -> [usize; 9] {
+        match self {
+            Mood::Arriving => [55, 3, 20, 3, 6, 3, 2, 5, 3],
+            Mood::Leaving => [12, 40, 14, 6, 14, 3, 2, 5, 4],
+            Mood::Asking => [4, 1, 65, 4, 10, 4, 2, 6, 4],
+            Mood::Talking => [4, 3, 30, 14, 30, 8, 4, 4, 3],
+            Mood::Garbling => [4, 2, 12, 8, 12, 8, 8, 38, 8],
+        }
+    }
+}
+
+impl Iterator for Generator {
+    type Item = Call;
+
+    fn next(&mut self) -> Option<Call> {
+        if self.lasts == 0 {
+            self.change_mood();
+        }
+        if self.mood_is_spent() {
+            self.lasts = self.lasts.min(8);
+        }
+        self.lasts -= 1;
+        let call = self.choose();
+        self.make(&call);
+        Some(call)
+    }
+}
+
+impl Generator {
+    pub fn new(seed: u64, sizes: Sizes) -> Generator {
+        let mut random = Random::new(seed);
+        let keys = keys(&mut random, sizes.seats + sizes.numbers + 8);
+        Generator {
+            random,
+            room: Room::empty(sizes),
+            keys,
+            left: Vec::new(),
+            mood: Mood::Arriving,
+            lasts: 60,
+            favourite: 0,
+        }
+    }
+
+    /// The room after the calls made so far.
+    pub fn room(&self) -> &Room {
+        &self.room
+    }
+
+    fn change_mood(&mut self) {
+        self.mood = self.random.one_of(&MOODS).expect("a mood");
+        self.lasts = 40 + self.random.below(100);
+        self.favourite = self.any_taken();
+    }
+
+    /// Whether there is little left to do in this mood: nobody more can arrive,
+    /// or few are left to leave.
+    fn mood_is_spent(&self) -> bool {
+        let taken = self.taken().len();
+        match self.mood {
+            Mood::Arriving => taken == self.room.seats.len(),
+            Mood::Leaving => taken < 3,
+            _ => false,
+        }
+    }
+
+    fn choose(&mut self) -> Call {
+        // Calls of a nearly empty room would mostly be refused with 3.
+        if self.taken().len() < 2 && self.random.percent(60) {
+            return self.arrival();
+        }
+        match self.kind_of_call() {
+            0 => self.arrival(),
+            1 => self.departure(),
+            2 => self.request(),
+            3 => self.drop_route(),
+            4 => self.data(),
+            5 => self.out_of_band(),
+            6 => self.ping_or_pong(),
+            7 => self.bad_packet(),
+            _ => self.wrong_seat(),
+        }
+    }
+
+    /// The place of the next call among the shares of the mood.
+    fn kind_of_call(&mut self) -> usize {
+        let mut rest = self.random.below(100);
+        for (kind, share) in self.mood.shares().into_iter().enumerate() {
+            if rest < share {
+                return kind;
+            }
+            rest -= share;
+        }
+        unreachable!("the shares are a hundred in all")
+    }
+
+    /// Makes the call on the own room, and remembers who left.
+    fn make(&mut self, call: &Call) {
+        if let Call::Leave { seat } = call {
+            let leaver = self.room.client(usize::from(*seat));
+            self.left.extend(leaver.map(|leaver| leaver.key));
+        }
+        if self.left.len() > 8 {
+            self.left.remove(0);
+        }
+        // What is refused changes nothing, and is part of the history.
+        let _ = call.make(&mut self.room, LEAST_OUTPUT);
+    }
+}
+
+/// The calls.
+impl Generator {
+    /// Often one that just left, else any key, and now and then a seated one.
+    fn arrival(&mut self) -> Call {
+        let key = match self.random.below(10) {
+            0 => self.seated_key(),
+            1..=4 => self.key_that_left(),
+            _ => self.absent_key(),
+        };
+        Call::Arrive {
+            key: key.unwrap_or_else(|| self.any_key()),
+        }
+    }
+
+    /// Often one that has peers, who are told so.
+    fn departure(&mut self) -> Call {
+        let seat = match self.random.below(10) {
+            0..=1 => self.favourite,
+            2..=5 => self.connected_number().0,
+            _ => self.any_taken(),
+        };
+        Call::Leave { seat: seat as u8 }
+    }
+
+    fn request(&mut self) -> Call {
+        let asks = match self.mood {
+            Mood::Asking => 80,
+            Mood::Talking => 30,
+            _ => 5,
+        };
+        let seat = if self.random.percent(asks) {
+            self.favourite
+        } else {
+            self.any_taken()
+        };
+        let key = match self.random.below(20) {
+            0 => self.own_key(seat),
+            1 => self.named_key(seat),
+            2..=9 => self.key_that_waits_for(seat),
+            10..=12 if seat != self.favourite => self.own_key(self.favourite),
+            13..=15 => self.seated_key(),
+            16 => self.fresh_key(),
+            _ => None,
+        };
+        let key = key.unwrap_or_else(|| self.any_key());
+        self.packet(seat, &FromClient::RoutingRequest { key })
+    }
+
+    fn drop_route(&mut self) -> Call {
+        let (seat, number) = match self.random.below(10) {
+            0..=4 => self.connected_number(),
+            5..=7 => self.held_number(),
+            _ => self.any_number(),
+        };
+        self.packet(seat, &FromClient::Drop { number })
+    }
+
+    fn data(&mut self) -> Call {
+        let (seat, number) = match self.random.below(20) {
+            0..=12 => self.connected_number(),
+            13..=16 => self.held_number(),
+            _ => self.any_number(),
+        };
+        // Below 16 it would be another kind.
+        let number = number.max(16);
+        let length = self.length(LONGEST_PACKET - 1);
+        let data = self.random.bytes(length);
+        self.packet(seat, &FromClient::Data { number, data })
+    }
+
+    fn out_of_band(&mut self) -> Call {
+        let seat = self.any_taken();
+        let key = match self.random.below(10) {
+            0 => self.own_key(seat),
+            1..=5 => self.seated_key(),
+            6..=8 => self.absent_key(),
+            _ => self.fresh_key(),
+        };
+        let key = key.unwrap_or_else(|| self.any_key());
+        let length = self.length(1_024);
+        let data = self.random.bytes(length);
+        self.packet(seat, &FromClient::OobSend { key, data })
+    }
+
+    fn ping_or_pong(&mut self) -> Call {
+        let seat = self.any_taken();
+        // One bit anywhere, and a byte: numbers of every size, and never 0.
+        let id = 1 << self.random.below(64) | u64::from(self.random.byte()) << 8;
+        if self.random.percent(60) {
+            self.packet(seat, &FromClient::Ping { id })
+        } else {
+            self.packet(seat, &FromClient::Pong { id })
+        }
+    }
+
+    fn bad_packet(&mut self) -> Call {
+        Call::Packet {
+            seat: self.any_taken() as u8,
+            bytes: bad_packet(&mut self.random),
+        }
+    }
+
+    /// A leave or a packet, good or bad, of an empty seat or one above the last.
+    fn wrong_seat(&mut self) -> Call {
+        let seat = self.seat_not_taken();
+        if self.random.percent(30) {
+            return Call::Leave { seat };
+        }
+        let bytes = if self.random.percent(50) {
+            bad_packet(&mut self.random)
+        } else {
+            vec![4, 0, 0, 0, 0, 0, 0, 0, 1]
+        };
+        Call::Packet { seat, bytes }
+    }
+
+    /// The call with which the client in this seat sends this packet.
+    fn packet(&self, seat: usize, packet: &FromClient) -> Call {
+        let mut out = [0; LONGEST_PACKET];
+        let count = write_from_client(packet, &mut out).expect("a packet that may be sent");
+        Call::Packet {
+            seat: seat as u8,
+            bytes: out[..count].to_vec(),
+        }
+    }
+
+    /// A length from 1 to the longest: mostly short, at times at an end.
+    fn length(&mut self, longest: usize) -> usize {
+        match self.random.below(40) {
+            0 => longest,
+            1 => longest - 1,
+            2 => 1 + self.random.below(longest),
+            3..=12 => 1,
+            _ => 1 + self.random.below(12),
+        }
+    }
+}
+
+/// What is in the room, to choose from.
+impl Generator {
+    fn taken(&self) -> Vec<usize> {
+        (0..self.room.seats.len())
+            .filter(|seat| self.room.client(*seat).is_some())
+            .collect()
+    }
+
+    /// A taken seat, or seat 0 in an empty room.
+    fn any_taken(&mut self) -> usize {
+        let taken = self.taken();
+        self.random.one_of(&taken).unwrap_or(0)
+    }
+
+    /// An empty seat, or one above the last.
+    fn seat_not_taken(&mut self) -> u8 {
+        let empty: Vec<u8> = (0..self.room.seats.len())
+            .filter(|seat| self.room.client(*seat).is_none())
+            .map(|seat| seat as u8)
+            .collect();
+        let above = self.room.seats.len() as u8..=255;
+        let above: Vec<u8> = above.collect();
+        let first_above = above[0];
+        match self.random.below(4) {
+            0 => first_above,
+            1 => self.random.one_of(&above).unwrap_or(first_above),
+            _ => self.random.one_of(&empty).unwrap_or(first_above),
+        }
+    }
+
+    fn any_key(&mut self) -> Key {
+        self.random.one_of(&self.keys).expect("a key")
+    }
+
+    /// A key that is none of the clients'.
+    fn fresh_key(&mut self) -> Option<Key> {
+        Some(random_key(&mut self.random))
+    }
+
+    fn seated_key(&mut self) -> Option<Key> {
+        let seat = self.any_taken();
+        self.own_key(seat)
+    }
+
+    fn absent_key(&mut self) -> Option<Key> {
+        let absent: Vec<Key> = self
+            .keys
+            .iter()
+            .filter(|key| self.room.seat_of(key).is_none())
+            .copied()
+            .collect();
+        self.random.one_of(&absent)
+    }
+
+    /// A key that left not long ago and is not back.
+    fn key_that_left(&mut self) -> Option<Key> {
+        let mut away = self.left.clone();
+        away.retain(|key| self.room.seat_of(key).is_none());
+        self.random.one_of(&away)
+    }
+
+    fn own_key(&self, seat: usize) -> Option<Key> {
+        self.room.client(seat).map(|client| client.key)
+    }
+
+    /// A key that this seat asked for already.
+    fn named_key(&mut self, seat: usize) -> Option<Key> {
+        let client = self.room.client(seat)?;
+        let named: Vec<Key> = client.routes.iter().flatten().copied().collect();
+        self.random.one_of(&named)
+    }
+
+    /// The key of a client whose request for this seat's key waits.
+    fn key_that_waits_for(&mut self, seat: usize) -> Option<Key> {
+        let own = self.room.client(seat)?;
+        let waits = |other: &&Seat| {
+            other.number_for(&own.key).is_some() && own.number_for(&other.key).is_none()
+        };
+        let waiting: Vec<Key> = self
+            .room
+            .seats
+            .iter()
+            .flatten()
+            .filter(waits)
+            .map(|other| other.key)
+            .collect();
+        self.random.one_of(&waiting)
+    }
+
+    /// A number of a seat that is connected; after some tries just a held one.
+    fn connected_number(&mut self) -> (usize, u8) {
+        for _ in 0..8 {
+            let seat = self.any_taken();
+            let connected: Vec<u8> = self
+                .held(seat)
+                .into_iter()
+                .filter(|number| self.room.peer(seat, *number).is_some())
+                .collect();
+            if let Some(number) = self.random.one_of(&connected) {
+                return (seat, number);
+            }
+        }
+        self.held_number()
+    }
+
+    /// A number of a seat that names a route; after some tries any number.
+    fn held_number(&mut self) -> (usize, u8) {
+        for _ in 0..4 {
+            let seat = self.any_taken();
+            let held = self.held(seat);
+            if let Some(number) = self.random.one_of(&held) {
+                return (seat, number);
+            }
+        }
+        self.any_number()
+    }
+
+    /// A seat and any number, mostly one that could name a route.
+    fn any_number(&mut self) -> (usize, u8) {
+        let seat = self.any_taken();
+        let number = match self.random.below(4) {
+            0 => self.random.byte(),
+            _ => 16 + self.random.below(self.room.numbers + 1).min(239) as u8,
+        };
+        (seat, number)
+    }
+
+    /// The numbers of this seat that name a route.
+    fn held(&self, seat: usize) -> Vec<u8> {
+        let Some(client) = self.room.client(seat) else {
+            return Vec::new();
+        };
+        client
+            .numbers()
+            .filter(|number| client.wanted(*number).is_some())
+            .collect()
+    }
+}
+
+/// So many different keys, the lowest and the highest among them. Some differ
+/// in their first byte alone and some in their last, since keys are compared
+/// byte by byte.
+fn keys(random: &mut Random, count: usize) -> Vec<Key> {
+    let like = random_key(random);
+    let mut keys = vec![[0; 32], [0xff; 32]];
+    while keys.len() < count {
+        let mut key = like;
+        match random.below(4) {
+            0 => key = random_key(random),
+            1 => key[0] = random.byte(),
+            2 => key[31] = random.byte(),
+            _ => key[random.below(32)] = random.byte(),
+        }
+        if !keys.contains(&key) {
+            keys.push(key);
+        }
+    }
+    keys
+}
+
+fn random_key(random: &mut Random) -> Key {
+    let mut key = [0; 32];
+    key.copy_from_slice(&random.bytes(32));
+    key
+}
+
+#[cfg(test)]
+#[path = "generate_tests.rs"]
+mod tests;
