@@ -33,8 +33,8 @@ pub const CASES: [&str; 39] = [
     "connect to a client in another seat than before",
     "disconnect by drop",
     "disconnect by leave",
-    "leave with two notices or more",
-    "leave without notice",
+    "leave that tells two peers or more",
+    "leave that tells nobody",
     "request answered 0",
     "request answered 0 for a seated key that waits for it",
     "request answered the last number",
@@ -233,8 +233,8 @@ impl Met {
                 let own = keys[seat].expect("a taken seat");
                 self.last_seat.insert(own, seat);
                 self.count_disconnects("disconnect by leave", own, &peers(3), keys);
-                self.count_if(peers(3).len() > 1, "leave with two notices or more");
-                self.count_if(peers(3).is_empty(), "leave without notice");
+                self.count_if(peers(3).len() > 1, "leave that tells two peers or more");
+                self.count_if(peers(3).is_empty(), "leave that tells nobody");
             }
             Call::Packet { bytes, .. } if bytes[0] == 3 => {
                 let own = keys[seat].expect("a taken seat");

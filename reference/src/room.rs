@@ -1,5 +1,8 @@
 //! The room: the relay itself, as a plain value that its calls change.
 //!
+//! The rules are those of document 01 under "The room", and the order of
+//! refusals is the one under "Refusal numbers"; each function names its rule.
+//!
 //! Nothing is kept but the seats, their keys and the wanted keys. Whether two
 //! clients are connected is looked up each time from just these, so that no
 //! link can outlive the client it led to.
@@ -46,7 +49,8 @@ pub struct Accepted {
 
 /// The calls. Each is accepted, or refused with the room as it was.
 impl Room {
-    /// Refusals: 2, 1. Takes the lowest empty seat and sends nothing.
+    /// Rule "Arrive(key)", with refusals 2, 1. Takes the lowest empty seat and
+    /// sends nothing.
     pub fn arrive(&mut self, key: &Key) -> Result<Accepted, Refusal> {
         if self.seat_of(key).is_some() {
             return Err(refusal::SEATED);
@@ -61,20 +65,22 @@ impl Room {
         })
     }
 
-    /// Refusals: 10, 3. In rising number of the leaver each connected peer is
-    /// told disconnected with the peer's own number. Its route goes on waiting.
+    /// Rule "Leave(seat)", with refusals 10, 3. In rising number of the leaver
+    /// each connected peer is told disconnected with the peer's own number. Its
+    /// route goes on waiting.
     pub fn leave(&mut self, seat: usize, output_len: usize) -> Result<Accepted, Refusal> {
         check_output(output_len)?;
         let leaver = self.check_seat(seat)?;
         let records = leaver
             .numbers()
-            .filter_map(|number| self.disconnect_notice(seat, number))
+            .filter_map(|number| self.disconnect_notification(seat, number))
             .collect();
         self.seats[seat] = None;
         Ok(Accepted { seat, records })
     }
 
-    /// Refusals: 10, 3, those of the relay's reader 4, 5, 6, 7, then 8, 9.
+    /// A packet call, with refusals 10, 3, those of the relay's reader 4, 5, 6, 7,
+    /// then 8, 9. Of the rules, "Ping" and "Pong" are short enough to stand here.
     pub fn packet(
         &mut self,
         seat: usize,
@@ -97,49 +103,51 @@ impl Room {
 
 /// What the packets do. The seat is taken: `packet` has tested it.
 impl Room {
-    /// A key already named gets its old number again and nothing else happens.
-    /// Otherwise the lowest free number is taken; with none free the answer is
-    /// 0 and nothing changes. A full table is the only ground for 0.
+    /// Rule "Request". A key already named gets its old number again and nothing
+    /// else happens. Otherwise the lowest free number is taken; with none free
+    /// the response has 0 and nothing changes. A full table is the only ground
+    /// for 0: the own key gets a number too.
     fn request(&mut self, seat: usize, key: &Key) -> Vec<Record> {
         let asker = self.taken_mut(seat);
         if let Some(number) = asker.number_for(key) {
-            return vec![answer(seat, number, key)];
+            return vec![routing_response(seat, number, key)];
         }
         let Some(number) = asker.lowest_free() else {
-            return vec![answer(seat, 0, key)];
+            return vec![routing_response(seat, 0, key)];
         };
         asker.hold(number, key);
-        let mut records = vec![answer(seat, number, key)];
-        records.extend(self.connect_notices(seat, number));
+        let mut records = vec![routing_response(seat, number, key)];
+        records.extend(self.connect_notifications(seat, number));
         records
     }
 
-    /// The two notices of a new connection: to the asker, then to the peer,
-    /// each with its own number. None while the asker's route waits.
-    fn connect_notices(&self, seat: usize, number: u8) -> Vec<Record> {
+    /// The two connect notifications of a new connection: to the asker, then to
+    /// the peer, each with its own number. None while the asker's route waits.
+    fn connect_notifications(&self, seat: usize, number: u8) -> Vec<Record> {
         let Some((peer, peer_number)) = self.peer(seat, number) else {
             return Vec::new();
         };
-        let number_of_peer = FromRelay::Connect {
+        let to_peer = FromRelay::Connect {
             number: peer_number,
         };
         vec![
             record(seat, &FromRelay::Connect { number }),
-            record(peer, &number_of_peer),
+            record(peer, &to_peer),
         ]
     }
 
-    /// Refusal 8. A connected peer is told; its own request goes on standing.
-    /// The dropper hears nothing.
+    /// Rule "Drop(number)", with refusal 8. A connected peer is told; its own
+    /// request goes on standing. The dropper hears nothing.
     fn drop_route(&mut self, seat: usize, number: u8) -> Result<Vec<Record>, Refusal> {
         self.check_number(seat, number)?;
-        let notice = self.disconnect_notice(seat, number);
+        let notification = self.disconnect_notification(seat, number);
         self.taken_mut(seat).free(number);
-        Ok(notice.into_iter().collect())
+        Ok(notification.into_iter().collect())
     }
 
-    /// Goes to the seat that holds the key, the sender's own too, with the
-    /// sender's key put in. With no such seat nothing is sent.
+    /// Rule "Out-of-band send". Goes to the seat that holds the key, the
+    /// sender's own too, with the sender's key put in. With no such seat it is
+    /// accepted and nothing is sent.
     fn out_of_band(&self, seat: usize, destination: &Key, data: Vec<u8>) -> Vec<Record> {
         let Some(receiver) = self.seat_of(destination) else {
             return Vec::new();
@@ -148,7 +156,8 @@ impl Room {
         vec![record(receiver, &FromRelay::OobReceived { key, data })]
     }
 
-    /// Refusals: 8, 9. Goes to the peer under the peer's number.
+    /// Rule "Data", with refusals 8, 9. Goes to the peer under the peer's number,
+    /// not under the sender's.
     fn data(&self, seat: usize, number: u8, data: Vec<u8>) -> Result<Vec<Record>, Refusal> {
         self.check_number(seat, number)?;
         let Some((peer, peer_number)) = self.peer(seat, number) else {
@@ -161,14 +170,14 @@ impl Room {
         Ok(vec![record(peer, &received)])
     }
 
-    /// The notice for the peer that is connected over this number, with the
-    /// peer's own number.
-    fn disconnect_notice(&self, seat: usize, number: u8) -> Option<Record> {
+    /// The disconnect notification for the peer that is connected over this
+    /// number, with the peer's own number.
+    fn disconnect_notification(&self, seat: usize, number: u8) -> Option<Record> {
         let (peer, peer_number) = self.peer(seat, number)?;
-        let notice = FromRelay::Disconnect {
+        let notification = FromRelay::Disconnect {
             number: peer_number,
         };
-        Some(record(peer, &notice))
+        Some(record(peer, &notification))
     }
 }
 
@@ -259,8 +268,8 @@ fn check_output(output_len: usize) -> Result<(), Refusal> {
     Ok(())
 }
 
-/// The answer to a request.
-fn answer(seat: usize, number: u8, key: &Key) -> Record {
+/// The routing response to a routing request.
+fn routing_response(seat: usize, number: u8, key: &Key) -> Record {
     record(seat, &FromRelay::RoutingResponse { number, key: *key })
 }
 

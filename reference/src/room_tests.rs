@@ -157,8 +157,8 @@ fn p8_data_on_a_number_that_names_no_route_is_refused() {
 #[test]
 fn p9_no_link_to_a_seat_outlives_its_client() {
     let mut room = after_p5();
-    let notice = run(&[&[0x01, 0x00, 0x02, 0x03, 0x10]]);
-    assert_eq!(leaves(&mut room, 0), notice);
+    let notification = run(&[&[0x01, 0x00, 0x02, 0x03, 0x10]]);
+    assert_eq!(leaves(&mut room, 0), notification);
     assert_eq!(arrives(&mut room, &KC), Ok(0));
     assert_eq!(sends(&mut room, 1, &[0x10, 0x61, 0x62]), Err(9));
     // Nor does it when the new client asks for the one that waits.
@@ -278,8 +278,8 @@ fn not_the_senders_number_but_the_peers_is_sent_on() {
 #[test]
 fn both_are_told_connected_again_after_a_drop() {
     let mut room = after_p5();
-    let notice = run(&[&[0x01, 0x00, 0x02, 0x03, 0x10]]);
-    assert_eq!(sends(&mut room, 0, &[0x03, 0x10]), notice);
+    let notification = run(&[&[0x01, 0x00, 0x02, 0x03, 0x10]]);
+    assert_eq!(sends(&mut room, 0, &[0x03, 0x10]), notification);
     assert_eq!(sends(&mut room, 1, &[0x10, 0x61]), Err(9));
     assert_eq!(sends(&mut room, 0, &[0x10, 0x61]), Err(8));
     let connects = run(&[
@@ -350,7 +350,7 @@ fn a_request_for_an_absent_key_connects_when_its_client_asks_back() {
 }
 
 #[test]
-fn leave_notices_go_by_the_leavers_rising_numbers() {
+fn leave_notifications_go_by_the_leavers_rising_numbers() {
     // Seat 0 asks for seats 3, 1, 2 and 4 in turn, which gives 16 to 19. Seat 4
     // does not ask back; each of the others has its own number for seat 0.
     let keys: Vec<Key> = (0..5).map(other).collect();
@@ -364,12 +364,12 @@ fn leave_notices_go_by_the_leavers_rising_numbers() {
         }
         sends(&mut room, seat, &request(&keys[0])).unwrap();
     }
-    let notices = run(&[
+    let notifications = run(&[
         &[0x03, 0x00, 0x02, 0x03, 0x11],
         &[0x01, 0x00, 0x02, 0x03, 0x12],
         &[0x02, 0x00, 0x02, 0x03, 0x10],
     ]);
-    assert_eq!(leaves(&mut room, 0), notices);
+    assert_eq!(leaves(&mut room, 0), notifications);
     // The seat is empty now; the peers' routes go on waiting.
     assert_eq!(leaves(&mut room, 0), Err(3));
     assert_eq!(sends(&mut room, 3, &[0x11, 0x61]), Err(9));
