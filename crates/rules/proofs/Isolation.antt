@@ -17,19 +17,19 @@ use Rattle.rules.specs.After.{Tied}
 use Rattle.rules.specs.Record.{Entry, entries, recordFor, handed, packetsFor, isClient, answerIf, answersFor, turnsAway, zeroForC}
 use Rattle.rules.proofs.Whole.{whole-after, whole-empty}
 use Rattle.rules.proofs.Tied.{tied-after, tied-empty}
-use Rattle.rules.proofs.Sight.{View, project, Saw, saw, observe, andLater, look}
+use Rattle.rules.proofs.View.{View, project, Observed, observed, observe, observedThen, observeAll}
 use Rattle.rules.proofs.OneCall.{one-call}
 
 -- ---- a record in two parts
 
-later-assoc : (s t u : Saw) → andLater s (andLater t u) ≡ andLater (andLater s t) u
-unfolding andLater saw
-later-assoc s t u = rw (append-assoc (s .heard) (t .heard) (u .heard), append-assoc (s .told) (t .told) (u .told))
+then-assoc : (s t u : Observed) → observedThen s (observedThen t u) ≡ observedThen (observedThen s t) u
+unfolding observedThen observed
+then-assoc s t u = rw (append-assoc (s .packets) (t .packets) (u .packets), append-assoc (s .answers) (t .answers) (u .answers))
 
-look-append : (sizes : Sizes) (c : Key) (v : View) (a b : List Entry) → look sizes c v (a ++ b) ≡ andLater (look sizes c v a) (look sizes c (look sizes c v a .view) b)
-unfolding look andLater saw
-look-append sizes c v [] b = refl
-look-append sizes c v (e ∷ a) b = rw (look-append sizes c (observe sizes c v e .view) a b) (later-assoc (observe sizes c v e) (look sizes c (observe sizes c v e .view) a) (look sizes c (look sizes c (observe sizes c v e .view) a .view) b))
+observe-append : (sizes : Sizes) (c : Key) (v : View) (a b : List Entry) → observeAll sizes c v (a ++ b) ≡ observedThen (observeAll sizes c v a) (observeAll sizes c (observeAll sizes c v a .view) b)
+unfolding observeAll observedThen observed
+observe-append sizes c v [] b = refl
+observe-append sizes c v (e ∷ a) b = rw (observe-append sizes c (observe sizes c v e .view) a b) (then-assoc (observe sizes c v e) (observeAll sizes c (observe sizes c v e .view) a) (observeAll sizes c (observeAll sizes c (observe sizes c v e .view) a .view) b))
 
 -- ---- a function of the record
 
@@ -42,24 +42,24 @@ never-later true b h = absurd (true≢false h)
 never-later false b h = h
 
 -- a call, and the record after it
-look-call : (sizes : Sizes) (start : Start) (past : Past) (c : Key) (room : Room) → Whole sizes room → Tied start past room
+observe-call : (sizes : Sizes) (start : Start) (past : Past) (c : Key) (room : Room) → Whole sizes room → Tied start past room
     → (call : Call) → turnsAway c (maker start past call) (event room call) call ≡ false → (later : List Entry)
-    → look sizes c (project c room) (entries start past c (event room call) ++ later)
-    ≡ andLater (saw (project c (roomAfter sizes room (outcome room call))) (handed start past c (event room call .sent)) (answerIf (isClient c (maker start past call)) (event room call .answer)))
-    (look sizes c (project c (roomAfter sizes room (outcome room call))) later)
-unfolding saw
-look-call sizes start past c room whole tie call z later =
-    look-append sizes c (project c room) (entries start past c (event room call)) later
-    ∙ ap (λ (s : Saw). andLater s (look sizes c (s .view) later)) (one-call sizes start past room whole tie c call z)
+    → observeAll sizes c (project c room) (entries start past c (event room call) ++ later)
+    ≡ observedThen (observed (project c (roomAfter sizes room (outcome room call))) (handed start past c (event room call .sent)) (answerIf (isClient c (maker start past call)) (event room call .answer)))
+    (observeAll sizes c (project c (roomAfter sizes room (outcome room call))) later)
+unfolding observed
+observe-call sizes start past c room whole tie call z later =
+    observe-append sizes c (project c room) (entries start past c (event room call)) later
+    ∙ ap (λ (s : Observed). observedThen s (observeAll sizes c (s .view) later)) (one-call sizes start past room whole tie c call z)
 
 -- what C is handed and what its calls are answered, of a history from a whole room on
-pub record Shown (sizes : Sizes) (start : Start) (past : Past) (c : Key) (room : Room) (calls : List Call) : Type 0 where
-  pub packets : look sizes c (project c room) (recordFor start past c (transcript sizes room calls)) .heard ≡ packetsFor start past c (transcript sizes room calls)
-  pub answers : look sizes c (project c room) (recordFor start past c (transcript sizes room calls)) .told ≡ answersFor start past c (transcript sizes room calls)
+pub record ByRecord (sizes : Sizes) (start : Start) (past : Past) (c : Key) (room : Room) (calls : List Call) : Type 0 where
+  pub packets : observeAll sizes c (project c room) (recordFor start past c (transcript sizes room calls)) .packets ≡ packetsFor start past c (transcript sizes room calls)
+  pub answers : observeAll sizes c (project c room) (recordFor start past c (transcript sizes room calls)) .answers ≡ answersFor start past c (transcript sizes room calls)
 
 pub by-record : (sizes : Sizes) (start : Start) (past : Past) (c : Key) (room : Room) → Whole sizes room → Tied start past room
-    → (calls : List Call) → zeroForC start past c (transcript sizes room calls) ≡ false → Shown sizes start past c room calls
-unfolding event transcript recordFor packetsFor answersFor zeroForC look andLater saw
+    → (calls : List Call) → zeroForC start past c (transcript sizes room calls) ≡ false → ByRecord sizes start past c room calls
+unfolding event transcript recordFor packetsFor answersFor zeroForC observeAll observedThen observed
 by-record sizes start past c room whole tie [] z = record { packets = refl; answers = refl }
 by-record sizes start past c room whole tie (call ∷ calls) z =
     let e = event room call in
@@ -68,26 +68,26 @@ by-record sizes start past c room whole tie (call ∷ calls) z =
     let turned = turnsAway c (maker start past call) e call in
     let never = zeroForC start (e ∷ past) c later in
     let rest = by-record sizes start (e ∷ past) c next (whole-after sizes room whole call) (tied-after sizes start past room whole tie call) calls (never-later turned never z) in
-    let parts = look-call sizes start past c room whole tie call (never-first turned never z) (recordFor start (e ∷ past) c later) in
+    let parts = observe-call sizes start past c room whole tie call (never-first turned never z) (recordFor start (e ∷ past) c later) in
     record {
-      packets = ap (λ (s : Saw). s .heard) parts ∙ ap (λ (l : List (List ℕ)). handed start past c (e .sent) ++ l) (rest .packets);
-      answers = ap (λ (s : Saw). s .told) parts ∙ ap (λ (l : List Answer). answerIf (isClient c (maker start past call)) (e .answer) ++ l) (rest .answers);
+      packets = ap (λ (s : Observed). s .packets) parts ∙ ap (λ (l : List (List ℕ)). handed start past c (e .sent) ++ l) (rest .packets);
+      answers = ap (λ (s : Observed). s .answers) parts ∙ ap (λ (l : List Answer). answerIf (isClient c (maker start past call)) (e .answer) ++ l) (rest .answers);
     }
 
 -- ---- two histories
 
--- from two whole rooms of which C's side sees the same, each with what happened before
+-- from two whole rooms of which C has the same view, each with what happened before
 pub two-views : (sizes : Sizes) (c : Key) (start₁ start₂ : Start) (past₁ past₂ : Past) (room₁ room₂ : Room)
     → Whole sizes room₁ → Whole sizes room₂ → Tied start₁ past₁ room₁ → Tied start₂ past₂ room₂ → project c room₁ ≡ project c room₂
     → (h₁ h₂ : List Call) → zeroForC start₁ past₁ c (transcript sizes room₁ h₁) ≡ false → zeroForC start₂ past₂ c (transcript sizes room₂ h₂) ≡ false
     → recordFor start₁ past₁ c (transcript sizes room₁ h₁) ≡ recordFor start₂ past₂ c (transcript sizes room₂ h₂)
     → (packetsFor start₁ past₁ c (transcript sizes room₁ h₁) ≡ packetsFor start₂ past₂ c (transcript sizes room₂ h₂))
     × (answersFor start₁ past₁ c (transcript sizes room₁ h₁) ≡ answersFor start₂ past₂ c (transcript sizes room₂ h₂))
-two-views sizes c start₁ start₂ past₁ past₂ room₁ room₂ whole₁ whole₂ tie₁ tie₂ sight h₁ h₂ z₁ z₂ e =
+two-views sizes c start₁ start₂ past₁ past₂ room₁ room₂ whole₁ whole₂ tie₁ tie₂ views h₁ h₂ z₁ z₂ e =
     let a = by-record sizes start₁ past₁ c room₁ whole₁ tie₁ h₁ z₁ in
     let b = by-record sizes start₂ past₂ c room₂ whole₂ tie₂ h₂ z₂ in
-    let same = ap₂ (look sizes c) sight e in
-    (sym (a .packets) ∙ ap (λ (s : Saw). s .heard) same ∙ b .packets, sym (a .answers) ∙ ap (λ (s : Saw). s .told) same ∙ b .answers)
+    let same = ap₂ (observeAll sizes c) views e in
+    (sym (a .packets) ∙ ap (λ (s : Observed). s .packets) same ∙ b .packets, sym (a .answers) ∙ ap (λ (s : Observed). s .answers) same ∙ b .answers)
 
 -- from a whole room, with a past that says what it says
 pub two-histories-from : (sizes : Sizes) (c : Key) (start : Start) (past : Past) (room : Room) → Whole sizes room → Tied start past room → (h₁ h₂ : List Call)

@@ -113,17 +113,17 @@ records-equal : recordFor fromEmpty [] kc (happens small answeredNumber) ≡ rec
 unfolding opened small answeredNumber answeredZero
 records-equal = refl
 
--- C hears of the connection in one of them only
-number-heard : length (packetsFor fromEmpty [] kc (happens small answeredNumber)) ≡ 2
+-- C is told of the connection in one of them only
+number-handed : length (packetsFor fromEmpty [] kc (happens small answeredNumber)) ≡ 2
 unfolding opened small answeredNumber
-number-heard = refl
+number-handed = refl
 
-zero-heard : length (packetsFor fromEmpty [] kc (happens small answeredZero)) ≡ 1
+zero-handed : length (packetsFor fromEmpty [] kc (happens small answeredZero)) ≡ 1
 unfolding opened small answeredZero
-zero-heard = refl
+zero-handed = refl
 
 packets-differ : packetsFor fromEmpty [] kc (happens small answeredNumber) ≢ packetsFor fromEmpty [] kc (happens small answeredZero)
-packets-differ e = let z : _≡_ {A = ℕ} 2 1 = sym number-heard ∙ ap length e ∙ zero-heard in absurd (omega arith)
+packets-differ e = let z : _≡_ {A = ℕ} 2 1 = sym number-handed ∙ ap length e ∙ zero-handed in absurd (omega arith)
 
 -- so the theorem without the condition for the second history is false
 pub needs-no-zero : ((sizes : Sizes) (c : Key) (h₁ h₂ : List Call)

@@ -1,4 +1,4 @@
--- The law of one call: in a whole room that says what has happened says, what C's side makes of the entries that a call adds to its record is what the
+-- The law of one call: in a whole room that says what has happened says, observing the entries that a call adds to C's record yields what the
 -- call does: the view of the room after it, the packets it hands to C, and the answer if the call is C's own; unless the call is another client's
 -- request for C that is answered with 0. A list of cases, one for each kind of call, of C and of another client. Assumes nothing.
 use mathlib.Core.Path.{_≡_, refl, sym, ap, _∙_, subst}
@@ -26,15 +26,15 @@ use Rattle.rules.proofs.FindLaws.{Once, find-hit, find-replicate, find-
 use Rattle.rules.proofs.Whole.{wanted-once, key-found}
 use Rattle.rules.proofs.AnswerLaws.{request-key-long, zero-answered}
 use Rattle.rules.proofs.Tied.{tied-here}
-use Rattle.rules.proofs.Sight.{openSeat, ownSeat, otherSeat, View, isFound, seenIf, seen, project, namesC, placeOf, Saw, saw, hear, only, toOne, toBoth, counted, ownArrival, ownLeave, ownRequest, ownDrop, ownOob, ownCarry, ownData, ownAct, ownPacket, ownCall, otherArrived, otherDeparted, otherDropped, otherAsked, otherToC, arrivedIf, departedIf, observe, andLater, look}
-use Rattle.rules.proofs.SightLaws.{map-set, found-later, find-put, held-law, open-law, sight-law, held-as, isJoined, linked-law, handedBy, handed-law, handed-append, hand-only, else-seat, unheard, found-held, hear-law, own-held, peer-else, own-unheard, own-tells, count-same, count-told, count-both, count-tells}
+use Rattle.rules.proofs.View.{openSeat, ownSeat, otherSeat, View, isFound, viewSeatIf, viewSeat, project, namesC, placeOf, Observed, observed, packetAt, only, toOne, toBoth, counted, ownArrival, ownLeave, ownRequest, ownDrop, ownOob, ownCarry, ownData, ownAct, ownPacket, ownCall, otherArrived, otherDeparted, otherDropped, otherAsked, otherToC, arrivedIf, departedIf, observe, observedThen, observeAll}
+use Rattle.rules.proofs.ViewLaws.{map-set, found-later, find-put, held-law, open-law, view-at, held-as, isJoined, connected-law, handedBy, handed-law, handed-append, hand-only, else-seat, not-handed, found-held, packet-law, own-held, peer-else, own-not-handed, own-tells, count-same, count-told, count-both, count-tells}
 
--- what an outcome shows to C, with the answers that C gets
-abbrev shows : Sizes → Key → Room → Outcome → List Answer → Saw
-shows sizes c room o told = saw (project c (roomAfter sizes room o)) (handedBy c room (o .sent)) told
+-- what an outcome is to C: the view of the room after it, the packets for C, and the answers that C gets
+abbrev observedOf : Sizes → Key → Room → Outcome → List Answer → Observed
+observedOf sizes c room o answers = observed (project c (roomAfter sizes room o)) (handedBy c room (o .sent)) answers
 
-saw-same : {v v′ : View} {h h′ : List (List ℕ)} {t t′ : List Answer} → v ≡ v′ → h ≡ h′ → t ≡ t′ → saw v h t ≡ saw v′ h′ t′
-saw-same a b d = rw (a, b, d)
+observed-same : {v v′ : View} {h h′ : List (List ℕ)} {t t′ : List Answer} → v ≡ v′ → h ≡ h′ → t ≡ t′ → observed v h t ≡ observed v′ h′ t′
+observed-same a b d = rw (a, b, d)
 
 counted-same : (seat : ℕ) (a b : List Sent) → length (sentBytes b) ≡ length (sentBytes a) → counted seat a ≡ accepted seat (length (sentBytes b)) ∷ []
 unfolding counted
@@ -42,67 +42,67 @@ counted-same seat a b e = ap (λ (n : ℕ). accepted seat n ∷ []) (sym e)
 
 -- ---- one entry, or two
 
-and-nothing : (s : Saw) → andLater s (saw (s .view) [] []) ≡ s
-unfolding andLater saw
-and-nothing s = rw (append-nil (s .heard), append-nil (s .told))
+and-nothing : (s : Observed) → observedThen s (observed (s .view) [] []) ≡ s
+unfolding observedThen observed
+and-nothing s = rw (append-nil (s .packets), append-nil (s .answers))
 
-look-one : (sizes : Sizes) (c : Key) (v : View) (e : Entry) → look sizes c v (e ∷ []) ≡ observe sizes c v e
-unfolding look
-look-one sizes c v e = and-nothing (observe sizes c v e)
+observe-one : (sizes : Sizes) (c : Key) (v : View) (e : Entry) → observeAll sizes c v (e ∷ []) ≡ observe sizes c v e
+unfolding observeAll
+observe-one sizes c v e = and-nothing (observe sizes c v e)
 
-look-own : (sizes : Sizes) (c : Key) (v : View) (call : Call) → look sizes c v (own call ∷ []) ≡ ownCall sizes c v call
+observe-own : (sizes : Sizes) (c : Key) (v : View) (call : Call) → observeAll sizes c v (own call ∷ []) ≡ ownCall sizes c v call
 unfolding observe
-look-own sizes c v call = look-one sizes c v (own call)
+observe-own sizes c v call = observe-one sizes c v (own call)
 
 -- C's own arrival or departure, and then its call
-look-arrived : (sizes : Sizes) (c : Key) (v : View) (call : Call) → look sizes c v (arrived c ∷ own call ∷ []) ≡ ownCall sizes c v call
-unfolding look observe arrivedIf andLater saw
-look-arrived sizes c v call = rw (same-refl c) (look-one sizes c v (own call))
+observe-arrived : (sizes : Sizes) (c : Key) (v : View) (call : Call) → observeAll sizes c v (arrived c ∷ own call ∷ []) ≡ ownCall sizes c v call
+unfolding observeAll observe arrivedIf observedThen observed
+observe-arrived sizes c v call = rw (same-refl c) (observe-one sizes c v (own call))
 
-look-departed : (sizes : Sizes) (c : Key) (v : View) (call : Call) → look sizes c v (departed c ∷ own call ∷ []) ≡ ownCall sizes c v call
-unfolding look observe departedIf andLater saw
-look-departed sizes c v call = rw (same-refl c) (look-one sizes c v (own call))
+observe-departed : (sizes : Sizes) (c : Key) (v : View) (call : Call) → observeAll sizes c v (departed c ∷ own call ∷ []) ≡ ownCall sizes c v call
+unfolding observeAll observe departedIf observedThen observed
+observe-departed sizes c v call = rw (same-refl c) (observe-one sizes c v (own call))
 
 -- ---- C's own calls
 
-see-own : (c : Key) (t : List Route) → seen c (holds c t) ≡ ownSeat t
-unfolding seen seenIf
-see-own c t = rw (same-refl c)
+view-own : (c : Key) (t : List Route) → viewSeat c (holds c t) ≡ ownSeat t
+unfolding viewSeat viewSeatIf
+view-own c t = rw (same-refl c)
 
-see-other : (c key : Key) → sameKey key c ≡ false → (t : List Route) → seen c (holds key t) ≡ otherSeat key (isFound (find (routeTo c) t))
-unfolding seen seenIf
-see-other c key hk t = rw hk
+view-other : (c key : Key) → sameKey key c ≡ false → (t : List Route) → viewSeat c (holds key t) ≡ otherSeat key (isFound (find (routeTo c) t))
+unfolding viewSeat viewSeatIf
+view-other c key hk t = rw hk
 
 -- the view where a seat becomes empty
 left-open : (c : Key) (room : Room) (seat : ℕ) → project c (set room seat vacant) ≡ set (project c room) seat openSeat
-unfolding project seen
-left-open c room seat = map-set (seen c) room seat vacant
+unfolding project viewSeat
+left-open c room seat = map-set (viewSeat c) room seat vacant
 
 -- its arrival
 own-arrival : (sizes : Sizes) (c : Key) (room : Room) (seated empty : Found) → find (seatOf c) room ≡ seated → find isVacant room ≡ empty
-    → ownCall sizes c (project c room) (arrive c) ≡ shows sizes c room (arriveAt seated empty c) (arriveAt seated empty c .answer ∷ [])
+    → ownCall sizes c (project c room) (arrive c) ≡ observedOf sizes c room (arriveAt seated empty c) (arriveAt seated empty c .answer ∷ [])
 unfolding ownCall project ownArrival arriveAt refuse accept roomAfter applyAll apply handedBy counted
 own-arrival sizes c room (at seat) empty hf he = rw (held-law c c room, hf)
 own-arrival sizes c room none none hf he = rw (held-law c c room, open-law c room, hf, he)
 own-arrival sizes c room none (at seat) hf he =
-    rw (held-law c c room, open-law c room, hf, he) (saw-same (sym (map-set (seen c) room seat _ ∙ ap (set (map (seen c) room) seat) seen-own)) refl refl)
+    rw (held-law c c room, open-law c room, hf, he) (observed-same (sym (map-set (viewSeat c) room seat _ ∙ ap (set (map (viewSeat c) room) seat) new-own)) refl refl)
   where
-    seen-own : seen c (holds c (replicate (sizes .numbers) free)) ≡ ownSeat (replicate (sizes .numbers) free)
-    seen-own = see-own c (replicate (sizes .numbers) free)
+    new-own : viewSeat c (holds c (replicate (sizes .numbers) free)) ≡ ownSeat (replicate (sizes .numbers) free)
+    new-own = view-own c (replicate (sizes .numbers) free)
 
 module _ (sizes : Sizes) (room : Room) (whole : Whole sizes room) (c : Key) (seat : ℕ) (routes : List Route) (sits : seatAt room seat ≡ holds c routes) where
   -- the view where its routes become others
   own-set : (t : List Route) → project c (set room seat (holds c t)) ≡ set (project c room) seat (ownSeat t)
   unfolding project
-  own-set t = map-set (seen c) room seat (holds c t) ∙ ap (set (map (seen c) room) seat) (see-own c t)
+  own-set t = map-set (viewSeat c) room seat (holds c t) ∙ ap (set (map (viewSeat c) room) seat) (view-own c t)
 
   own-route : (place : ℕ) (route : Route) → set (project c room) seat (ownSeat (set routes place route)) ≡ project c (set room seat (withRoute (seatAt room seat) place route))
   unfolding withRoute
   own-route place route = rw sits (sym (own-set (set routes place route)))
 
-  own-sight : getD (project c room) seat openSeat ≡ ownSeat routes
+  own-view : getD (project c room) seat openSeat ≡ ownSeat routes
   unfolding project
-  own-sight = sight-law c room seat ∙ ap (seen c) sits ∙ see-own c routes
+  own-view = view-at c room seat ∙ ap (viewSeat c) sits ∙ view-own c routes
 
   held : seatOf c (seatAt room seat) ≡ true
   held = own-held sizes room whole c seat routes sits
@@ -113,49 +113,49 @@ module _ (sizes : Sizes) (room : Room) (whole : Whole sizes room) (c : Key) (sea
   own-both wanted number (joined other place) e = rw (held, peer-else sizes room whole c seat routes sits wanted other place e)
 
   own-request : (wanted : Key) (f lowest : Found)
-      → ownRequest f lowest c (project c room) seat routes wanted ≡ shows sizes c room (requestAt f lowest room seat c wanted) (requestAt f lowest room seat c wanted .answer ∷ [])
+      → ownRequest f lowest c (project c room) seat routes wanted ≡ observedOf sizes c room (requestAt f lowest room seat c wanted) (requestAt f lowest room seat c wanted .answer ∷ [])
   unfolding ownRequest requestAt accept roomAfter applyAll apply handedBy handedIf to relay.relayBytes
-  own-request wanted (at place) lowest = saw-same refl (rw held) (counted-same seat _ _ (count-same _ _ [] [] refl refl))
-  own-request wanted none none = saw-same refl (rw held) (counted-same seat _ _ (count-same _ _ [] [] refl refl))
+  own-request wanted (at place) lowest = observed-same refl (rw held) (counted-same seat _ _ (count-same _ _ [] [] refl refl))
+  own-request wanted none none = observed-same refl (rw held) (counted-same seat _ _ (count-same _ _ [] [] refl refl))
   own-request wanted none (at place) =
-      saw-same (own-route place (wants wanted))
-      (rw (held, linked-law c room seat wanted) (ap (λ (t : List (List ℕ)). (1 ∷ numberOfPlace place ∷ wanted) ∷ t) (own-both wanted (numberOfPlace place) (peer room seat c wanted) refl)))
-      (counted-same seat _ _ (count-same _ _ _ _ refl (count-both seat (numberOfPlace place) (peer room seat c wanted) ∙ ap (λ (t : Bool). length (sentBytes (toBoth t))) (sym (linked-law c room seat wanted)))))
+      observed-same (own-route place (wants wanted))
+      (rw (held, connected-law c room seat wanted) (ap (λ (t : List (List ℕ)). (1 ∷ numberOfPlace place ∷ wanted) ∷ t) (own-both wanted (numberOfPlace place) (peer room seat c wanted) refl)))
+      (counted-same seat _ _ (count-same _ _ _ _ refl (count-both seat (numberOfPlace place) (peer room seat c wanted) ∙ ap (λ (t : Bool). length (sentBytes (toBoth t))) (sym (connected-law c room seat wanted)))))
 
   own-drop : (number : ℕ) (route : Route)
-      → ownDrop route c (project c room) seat routes number ≡ shows sizes c room (dropAt route room seat c number) (dropAt route room seat c number .answer ∷ [])
+      → ownDrop route c (project c room) seat routes number ≡ observedOf sizes c room (dropAt route room seat c number) (dropAt route room seat c number .answer ∷ [])
   unfolding ownDrop dropAt refuse accept roomAfter applyAll apply handedBy
   own-drop number free = refl
   own-drop number (wants wanted) =
-      saw-same (own-route (number - firstNumber) free) (sym (own-unheard sizes room whole c seat routes sits wanted relay.disconnectNotice))
-      (counted-same seat _ _ (count-told (peer room seat c wanted) ∙ ap (λ (t : Bool). length (sentBytes (toOne relay.disconnectNotice t))) (sym (linked-law c room seat wanted))))
+      observed-same (own-route (number - firstNumber) free) (sym (own-not-handed sizes room whole c seat routes sits wanted relay.disconnectNotice))
+      (counted-same seat _ _ (count-told (peer room seat c wanted) ∙ ap (λ (t : Bool). length (sentBytes (toOne relay.disconnectNotice t))) (sym (connected-law c room seat wanted))))
 
   own-oob : (wanted : Key) (bytes : List ℕ) (f : Found) → find (seatOf wanted) room ≡ f
-      → ownOob f c (project c room) seat wanted bytes ≡ shows sizes c room (oobTo f seat c bytes) (oobTo f seat c bytes .answer ∷ [])
+      → ownOob f c (project c room) seat wanted bytes ≡ observedOf sizes c room (oobTo f seat c bytes) (oobTo f seat c bytes .answer ∷ [])
   unfolding ownOob oobTo accept roomAfter applyAll handedBy to counted
   own-oob wanted bytes none e = refl
   own-oob wanted bytes (at other) e =
-      saw-same refl (rw (held-as c wanted (seatAt room other) (found-held wanted room other e)) (hand-only (sameKey wanted c) _)) (counted-same seat _ _ (count-same _ _ [] [] refl refl))
+      observed-same refl (rw (held-as c wanted (seatAt room other) (found-held wanted room other e)) (hand-only (sameKey wanted c) _)) (counted-same seat _ _ (count-same _ _ [] [] refl refl))
 
   own-carry : (wanted : Key) (bytes : List ℕ) (l : Peer) → peer room seat c wanted ≡ l
-      → ownCarry (isJoined l) (project c room) seat bytes ≡ shows sizes c room (carryTo l seat bytes) (carryTo l seat bytes .answer ∷ [])
+      → ownCarry (isJoined l) (project c room) seat bytes ≡ observedOf sizes c room (carryTo l seat bytes) (carryTo l seat bytes .answer ∷ [])
   unfolding ownCarry isJoined carryTo refuse accept roomAfter applyAll handedBy handedIf to relay.relayBytes
   own-carry wanted bytes apart e = refl
   own-carry wanted bytes (joined other place) e =
-      saw-same refl (rw (peer-else sizes room whole c seat routes sits wanted other place e)) (counted-same seat _ _ (count-same _ _ [] [] refl refl))
+      observed-same refl (rw (peer-else sizes room whole c seat routes sits wanted other place e)) (counted-same seat _ _ (count-same _ _ [] [] refl refl))
 
   own-data : (bytes : List ℕ) (route : Route)
-      → ownData route c (project c room) seat bytes ≡ shows sizes c room (dataAt route room seat c bytes) (dataAt route room seat c bytes .answer ∷ [])
+      → ownData route c (project c room) seat bytes ≡ observedOf sizes c room (dataAt route room seat c bytes) (dataAt route room seat c bytes .answer ∷ [])
   unfolding ownData dataAt refuse roomAfter applyAll handedBy
   own-data bytes free = refl
-  own-data bytes (wants wanted) = rw (linked-law c room seat wanted) (own-carry wanted bytes (peer room seat c wanted) refl)
+  own-data bytes (wants wanted) = rw (connected-law c room seat wanted) (own-carry wanted bytes (peer room seat c wanted) refl)
 
   own-act : (r : Read client.FromClient)
-      → ownAct r c (project c room) seat routes ≡ shows sizes c room (actOn r room seat c routes) (actOn r room seat c routes .answer ∷ [])
+      → ownAct r c (project c room) seat routes ≡ observedOf sizes c room (actOn r room seat c routes) (actOn r room seat c routes .answer ∷ [])
   unfolding ownAct actOn act refuse accept roomAfter applyAll handedBy handedIf to counted project
   own-act (read.packet (client.routingRequest wanted)) = own-request wanted (find (routeTo wanted) routes) (find isFree routes)
   own-act (read.packet (client.dropRoute number)) = own-drop number (routeAt routes number)
-  own-act (read.packet (client.ping n)) = saw-same refl (rw held) (counted-same seat _ _ (count-same _ _ [] [] refl refl))
+  own-act (read.packet (client.ping n)) = observed-same refl (rw held) (counted-same seat _ _ (count-same _ _ [] [] refl refl))
   own-act (read.packet (client.pong n)) = refl
   own-act (read.packet (client.oobSend wanted bytes)) = rw (held-law c wanted room) (own-oob wanted bytes (find (seatOf wanted) room) refl)
   own-act (read.packet (client.routedData number bytes)) = own-data bytes (routeAt routes number)
@@ -163,26 +163,26 @@ module _ (sizes : Sizes) (room : Room) (whole : Whole sizes room) (c : Key) (sea
 
   own-packet : (bytes : List ℕ)
       → ownCall sizes c (project c room) (packetCall seat bytes)
-      ≡ shows sizes c room (actOn (client.relayRead bytes) room seat c routes) (actOn (client.relayRead bytes) room seat c routes .answer ∷ [])
+      ≡ observedOf sizes c room (actOn (client.relayRead bytes) room seat c routes) (actOn (client.relayRead bytes) room seat c routes .answer ∷ [])
   unfolding ownCall ownPacket
-  own-packet bytes = rw own-sight (own-act (client.relayRead bytes))
+  own-packet bytes = rw own-view (own-act (client.relayRead bytes))
 
-  own-leave : ownCall sizes c (project c room) (leave seat) ≡ shows sizes c room (leaveFrom (holds c routes) room seat) (leaveFrom (holds c routes) room seat .answer ∷ [])
+  own-leave : ownCall sizes c (project c room) (leave seat) ≡ observedOf sizes c room (leaveFrom (holds c routes) room seat) (leaveFrom (holds c routes) room seat .answer ∷ [])
   unfolding ownCall ownLeave leaveFrom accept roomAfter applyAll apply
   own-leave =
-      rw own-sight
-      (saw-same (sym (left-open c room seat)) (sym (own-tells sizes room whole c seat routes sits routes)) (counted-same seat _ _ (count-tells c room seat routes)))
+      rw own-view
+      (observed-same (sym (left-open c room seat)) (sym (own-tells sizes room whole c seat routes sits routes)) (counted-same seat _ _ (count-tells c room seat routes)))
 
 -- ---- another client's calls
 
 -- its arrival
 other-arrival : (sizes : Sizes) (c : Key) (room : Room) (key : Key) → sameKey key c ≡ false → (seat : ℕ) → find isVacant room ≡ at seat
-    → observe sizes c (project c room) (arrived key) ≡ shows sizes c room (arriveAt none (at seat) key) []
+    → observe sizes c (project c room) (arrived key) ≡ observedOf sizes c room (arriveAt none (at seat) key) []
 unfolding observe arrivedIf otherArrived project arriveAt accept roomAfter applyAll apply handedBy isFree isFound
-other-arrival sizes c room key hk seat e = rw (hk, open-law c room, e) (saw-same (sym (map-set (seen c) room seat _ ∙ ap (set (map (seen c) room) seat) see)) refl refl)
+other-arrival sizes c room key hk seat e = rw (hk, open-law c room, e) (observed-same (sym (map-set (viewSeat c) room seat _ ∙ ap (set (map (viewSeat c) room) seat) new-other)) refl refl)
   where
-    see : seen c (holds key (replicate (sizes .numbers) free)) ≡ otherSeat key false
-    see = see-other c key hk (replicate (sizes .numbers) free) ∙ ap (otherSeat key) (ap isFound (find-replicate (routeTo c) (sizes .numbers) free (free-not-to c free refl)))
+    new-other : viewSeat c (holds key (replicate (sizes .numbers) free)) ≡ otherSeat key false
+    new-other = view-other c key hk (replicate (sizes .numbers) free) ∙ ap (otherSeat key) (ap isFound (find-replicate (routeTo c) (sizes .numbers) free (free-not-to c free refl)))
 
 -- another client, `key`, sits in `seat`
 module _ (sizes : Sizes) (room : Room) (whole : Whole sizes room) (c : Key) (seat : ℕ) (key : Key) (routes : List Route) (sits : seatAt room seat ≡ holds key routes) (hk : sameKey key c ≡ false) where
@@ -190,13 +190,13 @@ module _ (sizes : Sizes) (room : Room) (whole : Whole sizes room) (c : Key) (sea
   unfolding seatOf
   not-held = rw sits hk
 
-  other-sight : getD (project c room) seat openSeat ≡ otherSeat key (isFound (find (routeTo c) routes))
+  other-view : getD (project c room) seat openSeat ≡ otherSeat key (isFound (find (routeTo c) routes))
   unfolding project
-  other-sight = sight-law c room seat ∙ ap (seen c) sits ∙ see-other c key hk routes
+  other-view = view-at c room seat ∙ ap (viewSeat c) sits ∙ view-other c key hk routes
 
   names-here : namesC c (getD (project c room) seat openSeat) ≡ isFound (find (routeTo c) routes)
   unfolding namesC
-  names-here = ap (namesC c) other-sight
+  names-here = ap (namesC c) other-view
 
   once : Once (routeTo c) free routes
   once = wanted-once sizes room whole seat key routes sits c
@@ -205,21 +205,21 @@ module _ (sizes : Sizes) (room : Room) (whole : Whole sizes room) (c : Key) (sea
   other-set : (place : ℕ) (route : Route)
       → project c (set room seat (withRoute (seatAt room seat) place route)) ≡ set (project c room) seat (otherSeat key (isFound (find (routeTo c) (set routes place route))))
   unfolding withRoute project
-  other-set place route = rw sits (map-set (seen c) room seat _ ∙ ap (set (map (seen c) room) seat) (see-other c key hk (set routes place route)))
+  other-set place route = rw sits (map-set (viewSeat c) room seat _ ∙ ap (set (map (viewSeat c) room) seat) (view-other c key hk (set routes place route)))
 
-  -- what is seen in the seat, put there, changes nothing
+  -- the view of the seat, put there, changes nothing
   other-same : (b : Bool) → isFound (find (routeTo c) routes) ≡ b → set (project c room) seat (otherSeat key b) ≡ project c room
-  other-same b e = ap (set (project c room) seat) (sym (other-sight ∙ ap (otherSeat key) e)) ∙ set-getD (project c room) seat openSeat
+  other-same b e = ap (set (project c room) seat) (sym (other-view ∙ ap (otherSeat key) e)) ∙ set-getD (project c room) seat openSeat
 
-  -- routes that name C as before are seen as before
+  -- routes that name C as before leave the view as it was
   other-kept : (place : ℕ) (route : Route) → find (routeTo c) (set routes place route) ≡ find (routeTo c) routes
       → project c (set room seat (withRoute (seatAt room seat) place route)) ≡ project c room
   other-kept place route e = other-set place route ∙ other-same _ (ap isFound (sym e))
 
-  hears : (p : ℕ → relay.FromRelay) → hear p (placeOf c (project c room) key) ≡ handedBy c room (toPeer p (peer room seat key c))
-  hears p = hear-law c room seat key routes sits hk p
+  handed-packet : (p : ℕ → relay.FromRelay) → packetAt p (placeOf c (project c room) key) ≡ handedBy c room (toPeer p (peer room seat key c))
+  handed-packet p = packet-law c room seat key routes sits hk p
 
-  -- of a notice to both, C hears what goes to the peer
+  -- of a notice to both, C is handed what goes to the peer
   other-both : (number : ℕ) (l : Peer) → handedBy c room (tellBoth seat number l) ≡ handedBy c room (toPeer relay.connectNotice l)
   unfolding handedBy handedIf tellBoth toPeer to
   other-both number apart = refl
@@ -227,82 +227,82 @@ module _ (sizes : Sizes) (room : Room) (whole : Whole sizes room) (c : Key) (sea
 
   -- a request for another key
   request-else : (wanted : Key) → sameKey wanted c ≡ false → (f lowest : Found) → find isFree routes ≡ lowest
-      → saw (project c room) [] [] ≡ shows sizes c room (requestAt f lowest room seat key wanted) []
+      → observed (project c room) [] [] ≡ observedOf sizes c room (requestAt f lowest room seat key wanted) []
   unfolding requestAt accept roomAfter applyAll apply handedBy handedIf to routeTo
-  request-else wanted hw (at place) lowest hg = saw-same refl (rw not-held) refl
-  request-else wanted hw none none hg = saw-same refl (rw not-held) refl
+  request-else wanted hw (at place) lowest hg = observed-same refl (rw not-held) refl
+  request-else wanted hw none none hg = observed-same refl (rw not-held) refl
   request-else wanted hw none (at place) hg =
-      saw-same
+      observed-same
       (sym (other-kept place (wants wanted) (find-set-same (routeTo c) free routes place (wants wanted) (hw ∙ sym (free-not-to c (getD routes place free) (find-hit isFree free routes place hg))))))
-      (rw not-held (sym (other-both (numberOfPlace place) (peer room seat key wanted) ∙ unheard c room seat key wanted relay.connectNotice hw)))
+      (rw not-held (sym (other-both (numberOfPlace place) (peer room seat key wanted) ∙ not-handed c room seat key wanted relay.connectNotice hw)))
       refl
 
   -- a request for C
   request-mine : (bytes : List ℕ) → client.relayRead bytes ≡ read.packet (client.routingRequest c) → (f lowest : Found) → find (routeTo c) routes ≡ f → find isFree routes ≡ lowest
       → eqb (numberAnswered (requestAt f lowest room seat key c .sent)) 0 ≡ false
-      → otherAsked c (project c room) key seat (read.packet (client.routingRequest c)) ≡ shows sizes c room (requestAt f lowest room seat key c) []
+      → otherAsked c (project c room) key seat (read.packet (client.routingRequest c)) ≡ observedOf sizes c room (requestAt f lowest room seat key c) []
   unfolding otherAsked requestAt accept roomAfter applyAll apply handedBy handedIf to isFound only routeTo
-  request-mine bytes e (at place) lowest hf hg z = saw-same (other-same true (ap isFound hf)) (rw (names-here, hf, not-held)) refl
+  request-mine bytes e (at place) lowest hf hg z = observed-same (other-same true (ap isFound hf)) (rw (names-here, hf, not-held)) refl
   request-mine bytes e none none hf hg z = absurd (true≢false (sym (ap (λ (n : ℕ). eqb n 0) (zero-answered seat c (request-key-long bytes c e) [])) ∙ z))
   request-mine bytes e none (at place) hf hg z =
-      saw-same
+      observed-same
       (sym (other-set place (wants c) ∙ ap (λ (t : Bool). set (project c room) seat (otherSeat key t)) (find-put isFree (routeTo c) routes place (wants c) (same-refl c) hg)))
-      (rw (names-here, hf, not-held) (hears relay.connectNotice ∙ sym (other-both (numberOfPlace place) (peer room seat key c))))
+      (rw (names-here, hf, not-held) (handed-packet relay.connectNotice ∙ sym (other-both (numberOfPlace place) (peer room seat key c))))
       refl
 
   -- a drop of a number that names another key, or C
   drop-else : (number : ℕ) (wanted : Key) → routeAt routes number ≡ wants wanted → sameKey wanted c ≡ false
-      → saw (project c room) [] [] ≡ shows sizes c room (dropAt (wants wanted) room seat key number) []
+      → observed (project c room) [] [] ≡ observedOf sizes c room (dropAt (wants wanted) room seat key number) []
   unfolding dropAt accept roomAfter applyAll apply routeTo
   drop-else number wanted e hw =
-      saw-same
+      observed-same
       (sym (other-kept (number - firstNumber) free (find-set-same (routeTo c) free routes (number - firstNumber) free (sym (ap (routeTo c) (wanted-place routes number wanted e) ∙ hw)))))
-      (sym (unheard c room seat key wanted relay.disconnectNotice hw)) refl
+      (sym (not-handed c room seat key wanted relay.disconnectNotice hw)) refl
 
   drop-mine : (number : ℕ) → routeAt routes number ≡ wants c
-      → observe sizes c (project c room) (droppedC key) ≡ shows sizes c room (dropAt (wants c) room seat key number) []
+      → observe sizes c (project c room) (droppedC key) ≡ observedOf sizes c room (dropAt (wants c) room seat key number) []
   unfolding observe otherDropped project dropAt accept roomAfter applyAll apply routeTo isFound
   drop-mine number e =
       rw (held-law c key room, key-found sizes room whole seat key routes sits)
-      (saw-same (sym (other-set (number - firstNumber) free ∙ ap (λ (f : Found). set (project c room) seat (otherSeat key (isFound f))) cleared)) (hears relay.disconnectNotice) refl)
+      (observed-same (sym (other-set (number - firstNumber) free ∙ ap (λ (f : Found). set (project c room) seat (otherSeat key (isFound f))) cleared)) (handed-packet relay.disconnectNotice) refl)
     where
       cleared : find (routeTo c) (set routes (number - firstNumber) free) ≡ none
       cleared = find-clear (routeTo c) free routes (number - firstNumber) free once (ap (routeTo c) (wanted-place routes number c e) ∙ same-refl c) refl
 
   -- data on a number that names another key, or C
   data-else : (bytes : List ℕ) (wanted : Key) → sameKey wanted c ≡ false → (l : Peer) → peer room seat key wanted ≡ l
-      → saw (project c room) [] [] ≡ shows sizes c room (carryTo l seat bytes) []
+      → observed (project c room) [] [] ≡ observedOf sizes c room (carryTo l seat bytes) []
   unfolding carryTo refuse accept roomAfter applyAll handedBy handedIf to
   data-else bytes wanted hw apart e = refl
-  data-else bytes wanted hw (joined other place) e = saw-same refl (rw (else-seat c room seat key wanted hw other place e)) refl
+  data-else bytes wanted hw (joined other place) e = observed-same refl (rw (else-seat c room seat key wanted hw other place e)) refl
 
   data-mine : (bytes : List ℕ) (l : Peer) → peer room seat key c ≡ l
-      → look sizes c (project c room) (ifAccepted (carryTo l seat bytes .answer) (dataForC key bytes ∷ [])) ≡ shows sizes c room (carryTo l seat bytes) []
-  unfolding carryTo refuse accept ifAccepted look roomAfter applyAll handedBy observe toPeer
+      → observeAll sizes c (project c room) (ifAccepted (carryTo l seat bytes .answer) (dataForC key bytes ∷ [])) ≡ observedOf sizes c room (carryTo l seat bytes) []
+  unfolding carryTo refuse accept ifAccepted observeAll roomAfter applyAll handedBy observe toPeer
   data-mine bytes apart e = refl
   data-mine bytes (joined other place) e =
-      look-one sizes c (project c room) (dataForC key bytes)
-      ∙ saw-same refl (hears (λ n. relay.routedData n bytes) ∙ ap (λ (l : Peer). handedBy c room (toPeer (λ n. relay.routedData n bytes) l)) e) refl
+      observe-one sizes c (project c room) (dataForC key bytes)
+      ∙ observed-same refl (handed-packet (λ n. relay.routedData n bytes) ∙ ap (λ (l : Peer). handedBy c room (toPeer (λ n. relay.routedData n bytes) l)) e) refl
 
   -- out of band to another key, or to C
   oob-else : (bytes : List ℕ) (wanted : Key) → sameKey wanted c ≡ false → (f : Found) → find (seatOf wanted) room ≡ f
-      → saw (project c room) [] [] ≡ shows sizes c room (oobTo f seat key bytes) []
+      → observed (project c room) [] [] ≡ observedOf sizes c room (oobTo f seat key bytes) []
   unfolding oobTo accept roomAfter applyAll handedBy handedIf to
   oob-else bytes wanted hw none e = refl
-  oob-else bytes wanted hw (at other) e = saw-same refl (rw (held-as c wanted (seatAt room other) (found-held wanted room other e), hw)) refl
+  oob-else bytes wanted hw (at other) e = observed-same refl (rw (held-as c wanted (seatAt room other) (found-held wanted room other e), hw)) refl
 
   oob-mine : (bytes : List ℕ) (f : Found) → find (seatOf c) room ≡ f
-      → otherAsked c (project c room) key seat (read.packet (client.oobSend c bytes)) ≡ shows sizes c room (oobTo f seat key bytes) []
+      → otherAsked c (project c room) key seat (read.packet (client.oobSend c bytes)) ≡ observedOf sizes c room (oobTo f seat key bytes) []
   unfolding otherAsked project oobTo accept roomAfter applyAll handedBy handedIf to isFound only
   oob-mine bytes none e = rw (held-law c c room, e)
-  oob-mine bytes (at other) e = saw-same refl (rw (held-law c c room, e, found-held c room other e)) refl
+  oob-mine bytes (at other) e = observed-same refl (rw (held-law c c room, e, found-held c room other e)) refl
 
   -- ---- the entries that it adds
 
   module _ (bytes : List ℕ) (names : ℕ → Bool) (names-is : (number : ℕ) → names number ≡ routeTo c (routeAt routes number)) where
-    -- what C's side makes of them
-    abbrev Noted : Read client.FromClient → Outcome → Saw
-    Noted r o = look sizes c (project c room) (ifAccepted (o .answer) (otherPacket c key (packetCall seat bytes) names r))
+    -- what observing them yields
+    abbrev Noted : Read client.FromClient → Outcome → Observed
+    Noted r o = observeAll sizes c (project c room) (ifAccepted (o .answer) (otherPacket c key (packetCall seat bytes) names r))
 
     request-noted : (wanted : Key) (f lowest : Found) (es : List Entry) → ifAccepted (requestAt f lowest room seat key wanted .answer) es ≡ es
     unfolding requestAt accept ifAccepted
@@ -322,70 +322,70 @@ module _ (sizes : Sizes) (room : Room) (whole : Whole sizes room) (c : Key) (sea
     request-accepted wanted none (at place) = refl
 
     -- the entry of a call to C
-    look-call : (r : Read client.FromClient) → client.relayRead bytes ≡ r → look sizes c (project c room) (toC key (packetCall seat bytes) ∷ []) ≡ otherAsked c (project c room) key seat r
+    observe-call : (r : Read client.FromClient) → client.relayRead bytes ≡ r → observeAll sizes c (project c room) (toC key (packetCall seat bytes) ∷ []) ≡ otherAsked c (project c room) key seat r
     unfolding observe otherToC
-    look-call r e = look-one sizes c (project c room) (toC key (packetCall seat bytes)) ∙ ap (otherAsked c (project c room) key seat) e
+    observe-call r e = observe-one sizes c (project c room) (toC key (packetCall seat bytes)) ∙ ap (otherAsked c (project c room) key seat) e
 
     note-request : (wanted : Key) → client.relayRead bytes ≡ read.packet (client.routingRequest wanted) → (t : Bool) → sameKey wanted c ≡ t
         → (f lowest : Found) → find (routeTo wanted) routes ≡ f → find isFree routes ≡ lowest
         → (t && eqb (numberAnswered (requestAt f lowest room seat key wanted .sent)) 0) ≡ false
-        → look sizes c (project c room) (when t (toC key (packetCall seat bytes))) ≡ shows sizes c room (requestAt f lowest room seat key wanted) []
-    unfolding when look
+        → observeAll sizes c (project c room) (when t (toC key (packetCall seat bytes))) ≡ observedOf sizes c room (requestAt f lowest room seat key wanted) []
+    unfolding when observeAll
     note-request wanted e true hw f lowest hf hg z =
         let q = same-sound wanted c hw in
-        look-call _ (e ∙ ap (λ (k : Key). read.packet (client.routingRequest k)) q)
-        ∙ subst (λ (k : Key). otherAsked c (project c room) key seat (read.packet (client.routingRequest c)) ≡ shows sizes c room (requestAt f lowest room seat key k) []) (sym q)
+        observe-call _ (e ∙ ap (λ (k : Key). read.packet (client.routingRequest k)) q)
+        ∙ subst (λ (k : Key). otherAsked c (project c room) key seat (read.packet (client.routingRequest c)) ≡ observedOf sizes c room (requestAt f lowest room seat key k) []) (sym q)
         (request-mine bytes (rw q at e) f lowest (rw q at hf) hg (rw q at z))
     note-request wanted e false hw f lowest hf hg z = request-else wanted hw f lowest hg
 
-    note-drop : (number : ℕ) (route : Route) → routeAt routes number ≡ route → Noted (read.packet (client.dropRoute number)) (dropAt route room seat key number) ≡ shows sizes c room (dropAt route room seat key number) []
-    unfolding otherPacket dropAt refuse accept ifAccepted look roomAfter applyAll handedBy when routeTo
+    note-drop : (number : ℕ) (route : Route) → routeAt routes number ≡ route → Noted (read.packet (client.dropRoute number)) (dropAt route room seat key number) ≡ observedOf sizes c room (dropAt route room seat key number) []
+    unfolding otherPacket dropAt refuse accept ifAccepted observeAll roomAfter applyAll handedBy when routeTo
     note-drop number free e = refl
     note-drop number (wants wanted) e = rw (names-is number, e) (go (sameKey wanted c) refl)
       where
-        go : (t : Bool) → sameKey wanted c ≡ t → look sizes c (project c room) (when t (droppedC key)) ≡ shows sizes c room (dropAt (wants wanted) room seat key number) []
-        go true hw = rw (same-sound wanted c hw) (look-one sizes c (project c room) (droppedC key) ∙ drop-mine number (rw (same-sound wanted c hw) at e))
+        go : (t : Bool) → sameKey wanted c ≡ t → observeAll sizes c (project c room) (when t (droppedC key)) ≡ observedOf sizes c room (dropAt (wants wanted) room seat key number) []
+        go true hw = rw (same-sound wanted c hw) (observe-one sizes c (project c room) (droppedC key) ∙ drop-mine number (rw (same-sound wanted c hw) at e))
         go false hw = drop-else number wanted e hw
 
     note-data : (number : ℕ) (payload : List ℕ) (route : Route) → routeAt routes number ≡ route
-        → Noted (read.packet (client.routedData number payload)) (dataAt route room seat key payload) ≡ shows sizes c room (dataAt route room seat key payload) []
-    unfolding otherPacket dataAt refuse ifAccepted look roomAfter applyAll handedBy when routeTo
+        → Noted (read.packet (client.routedData number payload)) (dataAt route room seat key payload) ≡ observedOf sizes c room (dataAt route room seat key payload) []
+    unfolding otherPacket dataAt refuse ifAccepted observeAll roomAfter applyAll handedBy when routeTo
     note-data number payload free e = refl
     note-data number payload (wants wanted) e = rw (names-is number, e) (go (sameKey wanted c) refl)
       where
-        quiet : (a : Answer) → look sizes c (project c room) (ifAccepted a []) ≡ saw (project c room) [] []
+        quiet : (a : Answer) → observeAll sizes c (project c room) (ifAccepted a []) ≡ observed (project c room) [] []
         quiet (accepted s n) = refl
         quiet (refused why) = refl
 
         go : (t : Bool) → sameKey wanted c ≡ t
-            → look sizes c (project c room) (ifAccepted (carryTo (peer room seat key wanted) seat payload .answer) (when t (dataForC key payload)))
-            ≡ shows sizes c room (carryTo (peer room seat key wanted) seat payload) []
+            → observeAll sizes c (project c room) (ifAccepted (carryTo (peer room seat key wanted) seat payload .answer) (when t (dataForC key payload)))
+            ≡ observedOf sizes c room (carryTo (peer room seat key wanted) seat payload) []
         go true hw = rw (same-sound wanted c hw) (data-mine payload (peer room seat key c) refl)
         go false hw = quiet (carryTo (peer room seat key wanted) seat payload .answer) ∙ data-else payload wanted hw (peer room seat key wanted) refl
 
     note-oob : (wanted : Key) (payload : List ℕ) → client.relayRead bytes ≡ read.packet (client.oobSend wanted payload) → (t : Bool) → sameKey wanted c ≡ t
-        → look sizes c (project c room) (when t (toC key (packetCall seat bytes))) ≡ shows sizes c room (oobTo (find (seatOf wanted) room) seat key payload) []
-    unfolding when look
+        → observeAll sizes c (project c room) (when t (toC key (packetCall seat bytes))) ≡ observedOf sizes c room (oobTo (find (seatOf wanted) room) seat key payload) []
+    unfolding when observeAll
     note-oob wanted payload e true hw =
         let q = same-sound wanted c hw in
-        look-call _ (e ∙ ap (λ (k : Key). read.packet (client.oobSend k payload)) q) ∙ rw q (oob-mine payload (find (seatOf c) room) refl)
+        observe-call _ (e ∙ ap (λ (k : Key). read.packet (client.oobSend k payload)) q) ∙ rw q (oob-mine payload (find (seatOf c) room) refl)
     note-oob wanted payload e false hw = oob-else payload wanted hw (find (seatOf wanted) room) refl
 
     note-act : (r : Read client.FromClient) → client.relayRead bytes ≡ r
         → ((isAccepted (actOn r room seat key routes .answer) && asksFor c r) && eqb (numberAnswered (actOn r room seat key routes .sent)) 0) ≡ false
-        → Noted r (actOn r room seat key routes) ≡ shows sizes c room (actOn r room seat key routes) []
-    unfolding actOn act otherPacket refuse accept ifAccepted look roomAfter applyAll handedBy handedIf to asksFor
+        → Noted r (actOn r room seat key routes) ≡ observedOf sizes c room (actOn r room seat key routes) []
+    unfolding actOn act otherPacket refuse accept ifAccepted observeAll roomAfter applyAll handedBy handedIf to asksFor
     note-act (read.packet (client.routingRequest wanted)) e z =
         rw (request-noted wanted (find (routeTo wanted) routes) (find isFree routes))
         (note-request wanted e (sameKey wanted c) refl (find (routeTo wanted) routes) (find isFree routes) refl refl (rw (request-accepted wanted (find (routeTo wanted) routes) (find isFree routes)) at z))
     note-act (read.packet (client.dropRoute number)) e z = note-drop number (routeAt routes number) refl
-    note-act (read.packet (client.ping n)) e z = saw-same refl (rw not-held) refl
+    note-act (read.packet (client.ping n)) e z = observed-same refl (rw not-held) refl
     note-act (read.packet (client.pong n)) e z = refl
     note-act (read.packet (client.oobSend wanted payload)) e z = rw (oob-noted payload (find (seatOf wanted) room)) (note-oob wanted payload e (sameKey wanted c) refl)
     note-act (read.packet (client.routedData number payload)) e z = note-data number payload (routeAt routes number) refl
     note-act (read.refused why) e z = refl
 
-  -- its departure: of its peers C hears once, and only where it was named
+  -- its departure: C is handed one notice, and only where it was named
   other-tells : (t : List Route) → Once (routeTo c) free t
       → handedBy c room (tellPeers room seat key t) ≡ only (isFound (find (routeTo c) t)) (handedBy c room (toPeer relay.disconnectNotice (peer room seat key c)))
   unfolding tellPeers tellPeer handedBy find isFound only routeTo orLater
@@ -400,13 +400,13 @@ module _ (sizes : Sizes) (room : Room) (whole : Whole sizes room) (c : Key) (sea
       go : (b : Bool) → sameKey wanted c ≡ b → handedBy c room (tellPeers room seat key t) ≡ only (isFound (find (routeTo c) t)) mine
           → (handedBy c room (toPeer relay.disconnectNotice (peer room seat key wanted)) ++ handedBy c room (tellPeers room seat key t)) ≡ only (isFound (orLater b (find (routeTo c) t))) mine
       go true hw ih = rw (ih, once-first (routeTo c) free (wants wanted) t o hw, same-sound wanted c hw) (append-nil mine)
-      go false hw ih = rw (unheard c room seat key wanted relay.disconnectNotice hw, found-later (find (routeTo c) t)) ih
+      go false hw ih = rw (not-handed c room seat key wanted relay.disconnectNotice hw, found-later (find (routeTo c) t)) ih
 
-  other-leave : observe sizes c (project c room) (departed key) ≡ shows sizes c room (leaveFrom (holds key routes) room seat) []
+  other-leave : observe sizes c (project c room) (departed key) ≡ observedOf sizes c room (leaveFrom (holds key routes) room seat) []
   unfolding observe departedIf otherDeparted project leaveFrom accept roomAfter applyAll apply
   other-leave =
       rw (hk, held-law c key room, key-found sizes room whole seat key routes sits)
-      (saw-same (sym (left-open c room seat)) (rw (names-here, hears relay.disconnectNotice) (sym (other-tells routes once))) refl)
+      (observed-same (sym (left-open c room seat)) (rw (names-here, handed-packet relay.disconnectNotice) (sym (other-tells routes once))) refl)
 
 -- ---- all calls
 
@@ -418,31 +418,31 @@ module _ (sizes : Sizes) (start : Start) (past : Past) (room : Room) (whole : Wh
   -- the law for a call that a client made
   abbrev Law : Bool → Key → Call → Outcome → Type 0
   Law t key call o =
-      look sizes c (project c room) (madeBy t c key (made call o) (λ number. stands start past key number c)) ≡ shows sizes c room o (answerIf t (o .answer))
+      observeAll sizes c (project c room) (madeBy t c key (made call o) (λ number. stands start past key number c)) ≡ observedOf sizes c room o (answerIf t (o .answer))
 
   arrive-by : (key : Key) (t : Bool) → sameKey key c ≡ t → (seated empty : Found) → find (seatOf key) room ≡ seated → find isVacant room ≡ empty
       → Law t key (arrive key) (arriveAt seated empty key)
-  unfolding madeBy byKey when isAccepted answerIf arriveAt refuse accept ifAccepted otherCall look roomAfter applyAll handedBy
+  unfolding madeBy byKey when isAccepted answerIf arriveAt refuse accept ifAccepted otherCall observeAll roomAfter applyAll handedBy
   arrive-by key true h (at seat) empty hf he =
       let q = same-sound key c h in
-      rw q (look-own sizes c (project c room) (arrive c) ∙ own-arrival sizes c room (at seat) empty (rw q at hf) he)
+      rw q (observe-own sizes c (project c room) (arrive c) ∙ own-arrival sizes c room (at seat) empty (rw q at hf) he)
   arrive-by key true h none none hf he =
       let q = same-sound key c h in
-      rw q (look-own sizes c (project c room) (arrive c) ∙ own-arrival sizes c room none none (rw q at hf) he)
+      rw q (observe-own sizes c (project c room) (arrive c) ∙ own-arrival sizes c room none none (rw q at hf) he)
   arrive-by key true h none (at seat) hf he =
       let q = same-sound key c h in
-      rw q (look-arrived sizes c (project c room) (arrive c) ∙ own-arrival sizes c room none (at seat) (rw q at hf) he)
+      rw q (observe-arrived sizes c (project c room) (arrive c) ∙ own-arrival sizes c room none (at seat) (rw q at hf) he)
   arrive-by key false h (at seat) empty hf he = refl
   arrive-by key false h none none hf he = refl
-  arrive-by key false h none (at seat) hf he = look-one sizes c (project c room) (arrived key) ∙ other-arrival sizes c room key h seat he
+  arrive-by key false h none (at seat) hf he = observe-one sizes c (project c room) (arrived key) ∙ other-arrival sizes c room key h seat he
 
   leave-by : (seat : ℕ) (key : Key) (routes : List Route) → seatAt room seat ≡ holds key routes → (t : Bool) → sameKey key c ≡ t
       → Law t key (leave seat) (leaveFrom (holds key routes) room seat)
   unfolding madeBy byKey when isAccepted answerIf leaveFrom accept ifAccepted otherCall
   leave-by seat key routes e true h =
       let q = same-sound key c h in
-      rw q (look-departed sizes c (project c room) (leave seat) ∙ own-leave sizes room whole c seat routes (rw q at e))
-  leave-by seat key routes e false h = look-one sizes c (project c room) (departed key) ∙ other-leave sizes room whole c seat key routes e h
+      rw q (observe-departed sizes c (project c room) (leave seat) ∙ own-leave sizes room whole c seat routes (rw q at e))
+  leave-by seat key routes e false h = observe-one sizes c (project c room) (departed key) ∙ other-leave sizes room whole c seat key routes e h
 
   packet-by : (seat : ℕ) (bytes : List ℕ) (key : Key) (routes : List Route) → seatAt room seat ≡ holds key routes → (t : Bool) → sameKey key c ≡ t
       → cond t false ((isAccepted (actOn (client.relayRead bytes) room seat key routes .answer) && asksFor c (client.relayRead bytes)) && eqb (numberAnswered (actOn (client.relayRead bytes) room seat key routes .sent)) 0) ≡ false
@@ -450,29 +450,29 @@ module _ (sizes : Sizes) (start : Start) (past : Past) (room : Room) (whole : Wh
   unfolding madeBy byKey answerIf otherCall
   packet-by seat bytes key routes e true h z =
       let q = same-sound key c h in
-      rw q (look-own sizes c (project c room) (packetCall seat bytes) ∙ own-packet sizes room whole c seat routes (rw q at e) bytes)
+      rw q (observe-own sizes c (project c room) (packetCall seat bytes) ∙ own-packet sizes room whole c seat routes (rw q at e) bytes)
   packet-by seat bytes key routes e false h z =
       note-act sizes room whole c seat key routes e h bytes (λ number. stands start past key number c) (λ number. tied-here sizes start past room whole tie seat key routes e number c)
       (client.relayRead bytes) refl z
 
   leave-from : (seat : ℕ) (s : Seat) → seatAt room seat ≡ s
-      → look sizes c (project c room) (entriesBy (clientIn s) start past c (made (leave seat) (leaveFrom s room seat)))
-      ≡ shows sizes c room (leaveFrom s room seat) (answerIf (isClient c (clientIn s)) (leaveFrom s room seat .answer))
-  unfolding entriesBy clientIn isClient answerIf leaveFrom refuse look roomAfter applyAll handedBy
+      → observeAll sizes c (project c room) (entriesBy (clientIn s) start past c (made (leave seat) (leaveFrom s room seat)))
+      ≡ observedOf sizes c room (leaveFrom s room seat) (answerIf (isClient c (clientIn s)) (leaveFrom s room seat .answer))
+  unfolding entriesBy clientIn isClient answerIf leaveFrom refuse observeAll roomAfter applyAll handedBy
   leave-from seat vacant e = refl
   leave-from seat (holds key routes) e = leave-by seat key routes e (sameKey key c) refl
 
   packet-from : (seat : ℕ) (bytes : List ℕ) (s : Seat) → seatAt room seat ≡ s
       → turnsAway c (clientIn s) (made (packetCall seat bytes) (packetFrom s room seat bytes)) (packetCall seat bytes) ≡ false
-      → look sizes c (project c room) (entriesBy (clientIn s) start past c (made (packetCall seat bytes) (packetFrom s room seat bytes)))
-      ≡ shows sizes c room (packetFrom s room seat bytes) (answerIf (isClient c (clientIn s)) (packetFrom s room seat bytes .answer))
-  unfolding entriesBy clientIn isClient answerIf packetFrom refuse look roomAfter applyAll handedBy turnsAway
+      → observeAll sizes c (project c room) (entriesBy (clientIn s) start past c (made (packetCall seat bytes) (packetFrom s room seat bytes)))
+      ≡ observedOf sizes c room (packetFrom s room seat bytes) (answerIf (isClient c (clientIn s)) (packetFrom s room seat bytes .answer))
+  unfolding entriesBy clientIn isClient answerIf packetFrom refuse observeAll roomAfter applyAll handedBy turnsAway
   packet-from seat bytes vacant e z = refl
   packet-from seat bytes (holds key routes) e z = packet-by seat bytes key routes e (sameKey key c) refl z
 
   pub one-call : (call : Call) → turnsAway c (maker start past call) (event room call) call ≡ false
-      → look sizes c (project c room) (entries start past c (event room call))
-      ≡ saw (project c (roomAfter sizes room (outcome room call))) (handed start past c (event room call .sent)) (answerIf (isClient c (maker start past call)) (event room call .answer))
+      → observeAll sizes c (project c room) (entries start past c (event room call))
+      ≡ observed (project c (roomAfter sizes room (outcome room call))) (handed start past c (event room call .sent)) (answerIf (isClient c (maker start past call)) (event room call .answer))
   unfolding entries entriesBy event outcome maker isClient
   one-call (arrive key) z =
       rw (handed-law start past room tie c (arriveAt (find (seatOf key) room) (find isVacant room) key .sent))

@@ -1,4 +1,4 @@
--- What a view says of the room that it is of: where a key sits, which seat is open, whether C is connected, under which number C hears of another
+-- What a view says of the room that it is of: where a key sits, which seat is open, whether C is connected, which of C's numbers names another
 -- client; and which of the packets of an outcome are for C, and how many bytes an answer counts. Assumes nothing.
 use mathlib.Core.Path.{_≡_, refl, sym, ap, ap₂, _∙_}
 use mathlib.Core.Bool.{Bool, true, false, cond, true≢false, false≢true}
@@ -24,7 +24,7 @@ use Rattle.rules.specs.Record.{isClient, handedIf, handed}
 use Rattle.rules.proofs.FindLaws.{clash, find-hit}
 use Rattle.rules.proofs.Whole.{key-once}
 use Rattle.rules.proofs.PeerLaws.{peer-has}
-use Rattle.rules.proofs.Sight.{openSeat, isFound, seenIf, seen, project, looksOpen, looksHeld, ownRoutes, namesC, linkedIf, linked, placeIf, placeOf, hear, only, toOne, toBoth, tellSeen, tellAllSeen}
+use Rattle.rules.proofs.View.{openSeat, isFound, viewSeatIf, viewSeat, project, isOpen, isHeldBy, ownRoutes, namesC, isConnectedIn, isConnected, placeIf, placeOf, packetAt, only, toOne, toBoth, noticeByView, noticesByView}
 
 -- ---- lists
 
@@ -60,33 +60,33 @@ find-put test′ test (x ∷ l) (suc i) y hy e = go (test′ x) (find test′ l)
 -- ---- seats
 
 module _ (c : Key) where
-  seen-held : (key : Key) (s : Seat) → looksHeld c key (seen c s) ≡ seatOf key s
-  unfolding looksHeld seen seenIf seatOf
-  seen-held key vacant = refl
-  seen-held key (holds k routes) = go (sameKey k c) refl
+  view-held : (key : Key) (s : Seat) → isHeldBy c key (viewSeat c s) ≡ seatOf key s
+  unfolding isHeldBy viewSeat viewSeatIf seatOf
+  view-held key vacant = refl
+  view-held key (holds k routes) = go (sameKey k c) refl
     where
-      go : (t : Bool) → sameKey k c ≡ t → looksHeld c key (seenIf t c k routes) ≡ sameKey k key
+      go : (t : Bool) → sameKey k c ≡ t → isHeldBy c key (viewSeatIf t c k routes) ≡ sameKey k key
       go true e = ap (λ (x : Key). sameKey x key) (sym (same-sound k c e))
       go false e = refl
 
-  seen-open : (s : Seat) → looksOpen (seen c s) ≡ isVacant s
-  unfolding looksOpen seen seenIf isVacant
-  seen-open vacant = refl
-  seen-open (holds k routes) = go (sameKey k c)
+  view-open : (s : Seat) → isOpen (viewSeat c s) ≡ isVacant s
+  unfolding isOpen viewSeat viewSeatIf isVacant
+  view-open vacant = refl
+  view-open (holds k routes) = go (sameKey k c)
     where
-      go : (t : Bool) → looksOpen (seenIf t c k routes) ≡ false
+      go : (t : Bool) → isOpen (viewSeatIf t c k routes) ≡ false
       go true = refl
       go false = refl
 
-  pub held-law : (key : Key) (room : Room) → find (looksHeld c key) (map (seen c) room) ≡ find (seatOf key) room
-  held-law key room = find-map (looksHeld c key) (seatOf key) (seen c) (seen-held key) room
+  pub held-law : (key : Key) (room : Room) → find (isHeldBy c key) (map (viewSeat c) room) ≡ find (seatOf key) room
+  held-law key room = find-map (isHeldBy c key) (seatOf key) (viewSeat c) (view-held key) room
 
-  pub open-law : (room : Room) → find looksOpen (map (seen c) room) ≡ find isVacant room
-  open-law room = find-map looksOpen isVacant (seen c) seen-open room
+  pub open-law : (room : Room) → find isOpen (map (viewSeat c) room) ≡ find isVacant room
+  open-law room = find-map isOpen isVacant (viewSeat c) view-open room
 
-  pub sight-law : (room : Room) (seat : ℕ) → getD (map (seen c) room) seat openSeat ≡ seen c (seatAt room seat)
-  unfolding seatAt seen
-  sight-law room seat = List·getD-map (seen c) room seat vacant
+  pub view-at : (room : Room) (seat : ℕ) → getD (map (viewSeat c) room) seat openSeat ≡ viewSeat c (seatAt room seat)
+  unfolding seatAt viewSeat
+  view-at room seat = List·getD-map (viewSeat c) room seat vacant
 
   -- a seat of a key is C's where that key is C
   pub held-as : (key : Key) (s : Seat) → seatOf key s ≡ true → seatOf c s ≡ sameKey key c
@@ -94,17 +94,17 @@ module _ (c : Key) where
   held-as key vacant h = absurd (false≢true h)
   held-as key (holds k routes) h = ap (λ (x : Key). sameKey x c) (same-sound k key h)
 
-  own-routes : (s : Seat) → seatOf c s ≡ true → ownRoutes (seen c s) ≡ routesOf s
-  unfolding seatOf seen seenIf ownRoutes routesOf
+  own-routes : (s : Seat) → seatOf c s ≡ true → ownRoutes (viewSeat c s) ≡ routesOf s
+  unfolding seatOf viewSeat viewSeatIf ownRoutes routesOf
   own-routes vacant h = refl
   own-routes (holds k routes) h = rw h
 
-  names-law : (s : Seat) → namesC c (seen c s) ≡ isFound (find (routeTo c) (routesOf s))
-  unfolding namesC seen seenIf routesOf isFound find
+  names-law : (s : Seat) → namesC c (viewSeat c s) ≡ isFound (find (routeTo c) (routesOf s))
+  unfolding namesC viewSeat viewSeatIf routesOf isFound find
   names-law vacant = refl
   names-law (holds k routes) = go (sameKey k c)
     where
-      go : (t : Bool) → namesC c (seenIf t c k routes) ≡ isFound (find (routeTo c) routes)
+      go : (t : Bool) → namesC c (viewSeatIf t c k routes) ≡ isFound (find (routeTo c) routes)
       go true = refl
       go false = refl
 
@@ -119,15 +119,15 @@ unfolding isFound isJoined joinedBy
 joined-found seat none = refl
 joined-found seat (at place) = refl
 
-pub linked-law : (c : Key) (room : Room) (seat : ℕ) (wanted : Key) → linked c (project c room) seat wanted ≡ isJoined (peer room seat c wanted)
-unfolding linked linkedIf project peer peerIn peerAt isJoined
-linked-law c room seat wanted = rw (held-law c wanted room) (go (find (seatOf wanted) room))
+pub connected-law : (c : Key) (room : Room) (seat : ℕ) (wanted : Key) → isConnected c (project c room) seat wanted ≡ isJoined (peer room seat c wanted)
+unfolding isConnected isConnectedIn project peer peerIn peerAt isJoined
+connected-law c room seat wanted = rw (held-law c wanted room) (go (find (seatOf wanted) room))
   where
-    on : (other : ℕ) (t : Bool) → cond t false (namesC c (getD (map (seen c) room) other openSeat)) ≡ isJoined (peerAt t room c other)
+    on : (other : ℕ) (t : Bool) → cond t false (namesC c (getD (map (viewSeat c) room) other openSeat)) ≡ isJoined (peerAt t room c other)
     on other true = refl
-    on other false = rw (sight-law c room other, names-law c (seatAt room other)) (joined-found other (find (routeTo c) (routesOf (seatAt room other))))
+    on other false = rw (view-at c room other, names-law c (seatAt room other)) (joined-found other (find (routeTo c) (routesOf (seatAt room other))))
 
-    go : (f : Found) → linkedIf f c (map (seen c) room) seat ≡ isJoined (peerIn f room seat c)
+    go : (f : Found) → isConnectedIn f c (map (viewSeat c) room) seat ≡ isJoined (peerIn f room seat c)
     go none = refl
     go (at other) = on other (eqb seat other)
 
@@ -168,10 +168,10 @@ pub else-seat : (c : Key) (room : Room) (seat : ℕ) (key wanted : Key) → same
 unfolding seatOf
 else-seat c room seat key wanted h other place e = let has = peer-has room seat key wanted other place e in rw (has .sits) h
 
-pub unheard : (c : Key) (room : Room) (seat : ℕ) (key wanted : Key) (p : ℕ → relay.FromRelay) → sameKey wanted c ≡ false
+pub not-handed : (c : Key) (room : Room) (seat : ℕ) (key wanted : Key) (p : ℕ → relay.FromRelay) → sameKey wanted c ≡ false
     → handedBy c room (toPeer p (peer room seat key wanted)) ≡ []
 unfolding handedBy handedIf toPeer to
-unheard c room seat key wanted p h = go (peer room seat key wanted) refl
+not-handed c room seat key wanted p h = go (peer room seat key wanted) refl
   where
     go : (l : Peer) → peer room seat key wanted ≡ l → handedBy c room (toPeer p l) ≡ []
     go apart e = refl
@@ -182,23 +182,23 @@ unfolding seatAt seatOf
 found-held key room seat e = find-hit (seatOf key) vacant room seat e
 
 -- another client's packet for C, under C's own number
-pub hear-law : (c : Key) (room : Room) (seat : ℕ) (key : Key) (routes : List Route) → seatAt room seat ≡ holds key routes → sameKey key c ≡ false
-    → (p : ℕ → relay.FromRelay) → hear p (placeOf c (project c room) key) ≡ handedBy c room (toPeer p (peer room seat key c))
-unfolding hear placeOf placeIf project peer peerIn peerAt joinedBy handedBy handedIf toPeer to seatOf
-hear-law c room seat key routes sits h p = rw (held-law c c room) (go (find (seatOf c) room) refl)
+pub packet-law : (c : Key) (room : Room) (seat : ℕ) (key : Key) (routes : List Route) → seatAt room seat ≡ holds key routes → sameKey key c ≡ false
+    → (p : ℕ → relay.FromRelay) → packetAt p (placeOf c (project c room) key) ≡ handedBy c room (toPeer p (peer room seat key c))
+unfolding packetAt placeOf placeIf project peer peerIn peerAt joinedBy handedBy handedIf toPeer to seatOf
+packet-law c room seat key routes sits h p = rw (held-law c c room) (go (find (seatOf c) room) refl)
   where
-    on : (other : ℕ) → seatOf c (seatAt room other) ≡ true → (f : Found) → hear p f ≡ handedBy c room (toPeer p (joinedBy other f))
+    on : (other : ℕ) → seatOf c (seatAt room other) ≡ true → (f : Found) → packetAt p f ≡ handedBy c room (toPeer p (joinedBy other f))
     on other q none = refl
     on other q (at place) = rw q
 
     apart-by : (other : ℕ) → seatOf c (seatAt room other) ≡ true → (t : Bool) → eqb seat other ≡ t
-        → hear p (find (routeTo key) (ownRoutes (seen c (seatAt room other)))) ≡ handedBy c room (toPeer p (peerAt t room key other))
+        → packetAt p (find (routeTo key) (ownRoutes (viewSeat c (seatAt room other)))) ≡ handedBy c room (toPeer p (peerAt t room key other))
     apart-by other q true e = absurd (true≢false (sym q ∙ ap (λ (i : ℕ). seatOf c (seatAt room i)) (sym (eqb-true seat other e)) ∙ ap (seatOf c) sits ∙ h))
     apart-by other q false e = rw (own-routes c (seatAt room other) q) (on other q (find (routeTo key) (routesOf (seatAt room other))))
 
-    go : (f : Found) → find (seatOf c) room ≡ f → hear p (placeIf f (map (seen c) room) key) ≡ handedBy c room (toPeer p (peerIn f room seat key))
+    go : (f : Found) → find (seatOf c) room ≡ f → packetAt p (placeIf f (map (viewSeat c) room) key) ≡ handedBy c room (toPeer p (peerIn f room seat key))
     go none e = refl
-    go (at other) e = rw (sight-law c room other) (apart-by other (found-held c room other e) (eqb seat other) refl)
+    go (at other) e = rw (view-at c room other) (apart-by other (found-held c room other e) (eqb seat other) refl)
 
 -- ---- C in its own seat
 
@@ -216,9 +216,9 @@ module _ (sizes : Sizes) (room : Room) (whole : Whole sizes room) (c : Key) (sea
       go true q = absurd (peer-has room seat c wanted other place e .apart (key-once sizes room whole c seat other own-held q))
       go false q = q
 
-  pub own-unheard : (wanted : Key) (p : ℕ → relay.FromRelay) → handedBy c room (toPeer p (peer room seat c wanted)) ≡ []
+  pub own-not-handed : (wanted : Key) (p : ℕ → relay.FromRelay) → handedBy c room (toPeer p (peer room seat c wanted)) ≡ []
   unfolding handedBy handedIf toPeer to
-  own-unheard wanted p = go (peer room seat c wanted) refl
+  own-not-handed wanted p = go (peer room seat c wanted) refl
     where
       go : (l : Peer) → peer room seat c wanted ≡ l → handedBy c room (toPeer p l) ≡ []
       go apart e = refl
@@ -228,7 +228,7 @@ module _ (sizes : Sizes) (room : Room) (whole : Whole sizes room) (c : Key) (sea
   unfolding tellPeers tellPeer handedBy
   own-tells [] = refl
   own-tells (free ∷ t) = own-tells t
-  own-tells (wants wanted ∷ t) = handed-append c room (toPeer relay.disconnectNotice (peer room seat c wanted)) (tellPeers room seat c t) ∙ rw (own-unheard wanted relay.disconnectNotice, own-tells t)
+  own-tells (wants wanted ∷ t) = handed-append c room (toPeer relay.disconnectNotice (peer room seat c wanted)) (tellPeers room seat c t) ∙ rw (own-not-handed wanted relay.disconnectNotice, own-tells t)
 
 -- ---- how many bytes
 
@@ -260,11 +260,11 @@ unfolding tellBoth toBoth isJoined to relay.relayBytes
 count-both seat number apart = refl
 count-both seat number (joined other place) = count-same _ _ _ _ refl (count-same _ _ [] [] refl refl)
 
-pub count-tells : (c : Key) (room : Room) (seat : ℕ) (t : List Route) → length (sentBytes (tellPeers room seat c t)) ≡ length (sentBytes (tellAllSeen c (project c room) seat t))
-unfolding tellPeers tellPeer tellAllSeen tellSeen
+pub count-tells : (c : Key) (room : Room) (seat : ℕ) (t : List Route) → length (sentBytes (tellPeers room seat c t)) ≡ length (sentBytes (noticesByView c (project c room) seat t))
+unfolding tellPeers tellPeer noticesByView noticeByView
 count-tells c room seat [] = refl
 count-tells c room seat (free ∷ t) = count-tells c room seat t
 count-tells c room seat (wants wanted ∷ t) =
     count-append (toPeer relay.disconnectNotice (peer room seat c wanted)) (tellPeers room seat c t)
-    ∙ ap₂ _+_ (count-told (peer room seat c wanted) ∙ ap (λ (b : Bool). length (sentBytes (toOne relay.disconnectNotice b))) (sym (linked-law c room seat wanted))) (count-tells c room seat t)
-    ∙ sym (count-append (toOne relay.disconnectNotice (linked c (project c room) seat wanted)) (tellAllSeen c (project c room) seat t))
+    ∙ ap₂ _+_ (count-told (peer room seat c wanted) ∙ ap (λ (b : Bool). length (sentBytes (toOne relay.disconnectNotice b))) (sym (connected-law c room seat wanted))) (count-tells c room seat t)
+    ∙ sym (count-append (toOne relay.disconnectNotice (isConnected c (project c room) seat wanted)) (noticesByView c (project c room) seat t))
