@@ -4,6 +4,8 @@
 -- `Examples` has document 01's examples on the room as computed facts of the definitions.
 pub mod FindLaws
 pub mod AnswerLaws
+pub mod SentLaws
+pub mod AndThen
 pub mod Whole
 pub mod PeerLaws
 pub mod Tied

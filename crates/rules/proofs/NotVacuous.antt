@@ -2,7 +2,7 @@
 -- answer, a connect notification and data in them. The condition on 0 can't be dropped, not even for one of the two histories. And what adds nothing to
 -- the record for C, after whatever has happened: it can be in one history and not in the other. Assumes nothing.
 use mathlib.Core.Path.{_≡_, refl, sym, ap, _∙_}
-use mathlib.Core.Bool.{true, false, not, true≢false}
+use mathlib.Core.Bool.{true, false, true≢false}
 use mathlib.Core.Logic.{_≢_}
 use mathlib.Core.List.{List, [], _∷_, _++_}
 use Prim.Native.Nat.{ℕ}

@@ -26,8 +26,9 @@ use Rattle.rules.proofs.FindLaws.{Once, find-hit, find-replicate, find-
 use Rattle.rules.proofs.Whole.{wanted-once, key-found}
 use Rattle.rules.proofs.AnswerLaws.{request-key-long, zero-answered}
 use Rattle.rules.proofs.Tied.{tied-here}
+use Rattle.rules.proofs.SentLaws.{count-same}
 use Rattle.rules.proofs.View.{openSeat, ownSeat, otherSeat, View, isFound, viewSeatIf, viewSeat, project, namesC, placeOf, Observed, observed, packetAt, only, toOne, toBoth, counted, ownArrival, ownLeave, ownRequest, ownDrop, ownOob, ownCarry, ownData, ownAct, ownPacket, ownCall, otherArrived, otherDeparted, otherDropped, otherAsked, otherToC, arrivedIf, departedIf, observe, observedThen, observeAll}
-use Rattle.rules.proofs.ViewLaws.{map-set, found-later, find-put, held-law, open-law, view-at, held-as, isJoined, connected-law, handedBy, handed-law, handed-append, hand-only, else-seat, not-handed, found-held, packet-law, own-held, peer-else, own-not-handed, own-tells, count-same, count-told, count-both, count-tells}
+use Rattle.rules.proofs.ViewLaws.{map-set, found-later, find-put, held-law, open-law, view-at, held-as, isJoined, connected-law, handedBy, handed-law, handed-append, hand-only, else-seat, not-handed, found-held, packet-law, own-held, peer-else, own-not-handed, own-tells, count-told, count-both, count-tells}
 
 -- what an outcome is to C: the view of the room after it, the packets for C, and the answers that C gets
 abbrev observedOf : Sizes → Key → Room → Outcome → List Answer → Observed

@@ -4,26 +4,25 @@ use mathlib.Core.Path.{_≡_, refl, sym, ap, ap₂, _∙_}
 use mathlib.Core.Bool.{Bool, true, false, cond, true≢false, false≢true}
 use mathlib.Core.List.{List, [], _∷_, _++_, map}
 use Prim.Native.Nat.{ℕ, zero, suc, _+_}
-use native.Mathlib.Nat.{suc-inj, zero-add}
+use native.Mathlib.Nat.{suc-inj}
 use native.Mathlib.Omega.{arith}
 use lib.Dec.{eqb}
-use lib.ListN.{getD, set, length, length-append, List·getD-map}
+use lib.ListN.{getD, set, length, List·getD-map}
 use borrow.Author.Tests.{eqb-true}
-use Rattle.wire.specs.Numbers.{bytesOf}
-use Rattle.wire.proofs.Numbers.{length-bytesOf}
 use Rattle.key.specs.Keys.{sameKey}
 use Rattle.key.proofs.Same.{same-refl, same-sound}
 use Rattle.packet.specs.FromRelay as relay
 use Rattle.rules.specs.Room.{Sizes, Key, Route, free, wants, Seat, vacant, holds, Room, Found, none, at, orLater, find, seatOf, isVacant, routeTo, routesOf, seatAt, Peer, apart, joined}
 use Rattle.rules.specs.Whole.{Whole}
 use Rattle.rules.specs.Call.{Sent}
-use Rattle.rules.specs.Outcome.{recordBytes, sentBytes, to, joinedBy, peerAt, peerIn, peer, toPeer, tellBoth, tellPeer, tellPeers}
+use Rattle.rules.specs.Outcome.{sentBytes, to, joinedBy, peerAt, peerIn, peer, toPeer, tellBoth, tellPeer, tellPeers}
 use Rattle.rules.specs.Transcript.{Past, Start}
 use Rattle.rules.specs.After.{clientIn, Tied}
 use Rattle.rules.specs.Record.{isClient, handedIf, handed}
 use Rattle.rules.proofs.FindLaws.{clash, find-hit}
 use Rattle.rules.proofs.Whole.{key-once}
 use Rattle.rules.proofs.PeerLaws.{peer-has}
+use Rattle.rules.proofs.SentLaws.{count-append, count-same}
 use Rattle.rules.proofs.View.{openSeat, isFound, viewSeatIf, viewSeat, project, isOpen, isHeldBy, ownRoutes, namesC, isConnectedIn, isConnected, placeIf, placeOf, packetAt, only, toOne, toBoth, noticeByView, noticesByView}
 
 -- ---- lists
@@ -231,24 +230,6 @@ module _ (sizes : Sizes) (room : Room) (whole : Whole sizes room) (c : Key) (sea
   own-tells (wants wanted ∷ t) = handed-append c room (toPeer relay.disconnectNotice (peer room seat c wanted)) (tellPeers room seat c t) ∙ rw (own-not-handed wanted relay.disconnectNotice, own-tells t)
 
 -- ---- how many bytes
-
-pub count-record : (s : Sent) → length (recordBytes s) ≡ 3 + length (s .bytes)
-unfolding recordBytes
-count-record s = rw (length-append (bytesOf 2 (length (s .bytes))) (s .bytes), length-bytesOf 2 (length (s .bytes))) (omega arith)
-
-pub count-more : (s : Sent) (rest : List Sent) → length (sentBytes (s ∷ rest)) ≡ 3 + length (s .bytes) + length (sentBytes rest)
-unfolding sentBytes
-count-more s rest = length-append (recordBytes s) (sentBytes rest) ∙ ap (λ (n : ℕ). n + length (sentBytes rest)) (count-record s)
-
--- lists of records as long as each other
-pub count-same : (s s′ : Sent) (rest rest′ : List Sent) → length (s .bytes) ≡ length (s′ .bytes) → length (sentBytes rest) ≡ length (sentBytes rest′)
-    → length (sentBytes (s ∷ rest)) ≡ length (sentBytes (s′ ∷ rest′))
-count-same s s′ rest rest′ e e′ = count-more s rest ∙ rw (e, e′) (sym (count-more s′ rest′))
-
-pub count-append : (a b : List Sent) → length (sentBytes (a ++ b)) ≡ length (sentBytes a) + length (sentBytes b)
-unfolding sentBytes
-count-append [] b = sym (zero-add (length (sentBytes b)))
-count-append (s ∷ a) b = count-more s (a ++ b) ∙ rw (count-append a b, count-more s a) (omega arith)
 
 pub count-told : (l : Peer) → length (sentBytes (toPeer relay.disconnectNotice l)) ≡ length (sentBytes (toOne relay.disconnectNotice (isJoined l)))
 unfolding toPeer toOne isJoined to relay.relayBytes

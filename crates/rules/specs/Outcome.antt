@@ -67,16 +67,15 @@ to seat p = record { seat = seat; bytes = relay.relayBytes p }
 unfoldable pub roomAfter : Sizes → Room → Outcome → Room
 roomAfter sizes room outcome = applyAll sizes room (outcome .changes)
 
--- one after the other: what a later call made of several is
-unfoldable pub joinAnswers : Answer → Answer → Answer
-joinAnswers (accepted s n) (accepted s′ m) = accepted s′ (n + m)
-joinAnswers (accepted s n) (refused why) = refused why
-joinAnswers (refused why) later = refused why
+-- one after the other, as one call: the second from the room that the first leaves. Where both are accepted the answer has the second's seat and the
+-- bytes of both. Where one is refused the whole is, and does nothing: "A refusal answers its number with 0 bytes written; room [..] as before the call."
+unfoldable pub joinOutcomes : Answer → Answer → Outcome → Outcome → Outcome
+joinOutcomes (refused why) later first second = refuse why
+joinOutcomes (accepted seat count) (refused why) first second = refuse why
+joinOutcomes (accepted seat count) (accepted seat′ count′) first second = accept seat′ (first .changes ++ second .changes) (first .sent ++ second .sent)
 
 unfoldable pub andThen : Sizes → Room → Outcome → (Room → Outcome) → Outcome
-andThen sizes room first next =
-    let second = next (roomAfter sizes room first) in
-    record { answer = joinAnswers (first .answer) (second .answer); changes = first .changes ++ second .changes; sent = first .sent ++ second .sent }
+andThen sizes room first next = let second = next (roomAfter sizes room first) in joinOutcomes (first .answer) (second .answer) first second
 
 -- ---- connected: "Two clients are connected when they sit in different seats and each has a route naming the other's key."
 
