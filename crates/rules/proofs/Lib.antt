@@ -1,11 +1,14 @@
--- Laws: `FindLaws` of looking things up, `AnswerLaws` of the number that a client reads in an answer, `PeerLaws` of the search for a connected
--- peer. Theorems, for every history: `Whole`, the room stays whole; `Tied`, the room's tables and what has happened say the same; `DataGoesOn`,
--- demand 2's sentence on data; `Isolation`, demand 3, with `View`, `ViewLaws` and `OneCall` as its means and `NotVacuous` to show what it says.
--- `Examples` has document 01's examples on the room as computed facts of the definitions.
+-- Facts by computation: `ComputedExamples`, document 01's examples on the room and its students' errors, with `Computed` for what they share. Laws: `FindLaws`
+-- of looking things up, `AnswerLaws` of the number that a client reads in an answer, `SentLaws` of how many bytes records take, `OutcomeLaws` of one outcome
+-- after another, `PeerLaws` of the search for a connected peer. Theorems, for every history: `Whole`, the room stays whole; `Tied`, the room's tables and
+-- what has happened say the same; `DataGoesOn`, demand 2's sentence on data; `Isolation`, demand 3, with `View`, `ViewLaws` and `OneCall` as its means and
+-- `NotVacuous` to show what it says.
+pub mod Computed
+pub mod ComputedExamples
 pub mod FindLaws
 pub mod AnswerLaws
 pub mod SentLaws
-pub mod AndThen
+pub mod OutcomeLaws
 pub mod Whole
 pub mod PeerLaws
 pub mod Tied
@@ -15,4 +18,3 @@ pub mod ViewLaws
 pub mod OneCall
 pub mod Isolation
 pub mod NotVacuous
-pub mod Examples

@@ -7,41 +7,21 @@ use mathlib.Core.Logic.{_≢_}
 use mathlib.Core.List.{List, [], _∷_, _++_}
 use Prim.Native.Nat.{ℕ}
 use native.Mathlib.Omega.{arith}
-use lib.ListN.{length, replicate}
-use Rattle.wire.specs.Numbers.{numberOf, bytesOf}
+use lib.ListN.{length}
+use Rattle.wire.specs.Numbers.{bytesOf}
 use Rattle.key.specs.Keys.{sameKey}
-use Rattle.packet.specs.Read.{Read, check}
+use Rattle.packet.specs.Read.{Read}
 use Rattle.packet.specs.Read as read
-use Rattle.packet.specs.Table.{kindOf, bodyOf, sizeRight, relayTakes, clientTakes, numberRight, lengthRight, pingRight, checked}
 use Rattle.packet.specs.FromClient as client
-use Rattle.packet.specs.FromRelay as relay
-use Rattle.rules.specs.Room.{Sizes, Key, baseSizes, emptyRoom, orLater, find, seatOf, isVacant, routeTo, isFree, routesOf, seatAt, routeAt}
+use Rattle.rules.specs.Room.{Sizes, Key, baseSizes, emptyRoom}
 use Rattle.rules.specs.Call.{Call, arrive, leave, packetCall, Answer, accepted, refused}
-use Rattle.rules.specs.Outcome.{withRoute, apply, applyAll, refuse, recordBytes, sentBytes, accept, to, roomAfter, joinedBy, peerAt, peerIn, peer, toPeer, arriveAt, tellPeer, tellPeers, leaveFrom, tellBoth, requestAt, dropAt, oobTo, carryTo, dataAt, act, actOn, packetFrom, outcome}
-use Rattle.rules.specs.History.{Event, event, transcript}
-use Rattle.rules.specs.Transcript.{Past, nobody, clientOf, Start, fromEmpty, isAccepted, sitsAfterArrival, sitsAfter, sitter, maker, numberRead, numberAnswered, standsAfterPacket, standsAfterOwn, standsAfter, stands}
+use Rattle.rules.specs.History.{Event, transcript}
+use Rattle.rules.specs.Transcript.{Past, nobody, clientOf, Start, fromEmpty, isAccepted, maker, stands}
 use Rattle.rules.specs.After.{pastAfter}
-use Rattle.rules.specs.Record.{Entry, arrived, own, toC, dataForC, when, byKey, otherPacket, otherCall, ifAccepted, madeBy, entriesBy, entries, recordFor, isClient, handedIf, handed, packetsFor, answerIf, answersFor, asksFor, turnsAway, zeroForC}
+use Rattle.rules.specs.Record.{Entry, arrived, own, toC, dataForC, when, byKey, otherPacket, otherCall, ifAccepted, madeBy, entriesBy, entries, recordFor, packetsFor, answersFor, zeroForC}
+use Rattle.rules.proofs.Computed.{ka, kb, kc, happens, opened}
 
--- ---- examples
-
-abbrev ka : Key
-ka = replicate 32 0x11
-
-abbrev kb : Key
-kb = replicate 32 0x22
-
--- C
-abbrev kc : Key
-kc = replicate 32 0x33
-
--- a history from the empty room
-happens : Sizes → List Call → List Event
-happens sizes calls = transcript sizes (emptyRoom sizes) calls
-
-opened : Unit {0}
-unfolding happens numberOf bytesOf sameKey check kindOf bodyOf sizeRight relayTakes clientTakes numberRight lengthRight pingRight checked client.fromClient client.relayRead relay.relayBytes relay.fromRelay relay.clientRead emptyRoom orLater find seatOf isVacant routeTo isFree routesOf seatAt routeAt withRoute apply applyAll refuse recordBytes sentBytes accept to roomAfter joinedBy peerAt peerIn peer toPeer arriveAt tellPeer tellPeers leaveFrom tellBoth requestAt dropAt oobTo carryTo dataAt act actOn packetFrom outcome event transcript isAccepted sitsAfterArrival sitsAfter sitter maker numberRead numberAnswered standsAfterPacket standsAfterOwn standsAfter stands when byKey otherPacket otherCall ifAccepted madeBy entriesBy entries recordFor isClient handedIf handed packetsFor answerIf answersFor asksFor turnsAway zeroForC
-opened = tt
+-- ---- examples: KC is C
 
 -- the other client's number for C is 16
 short : List Call
@@ -85,7 +65,7 @@ lengths-differ = (refl, refl)
 
 -- the other client's number for C is 16 in one and 17 in the other
 numbers-differ : (stands fromEmpty (pastAfter [] (happens baseSizes short)) ka 16 kc ≡ true) × (stands fromEmpty (pastAfter [] (happens baseSizes long)) ka 17 kc ≡ true)
-unfolding opened short long pastAfter
+unfolding opened short long
 numbers-differ = (refl, refl)
 
 -- ---- the condition on 0
@@ -130,7 +110,6 @@ pub needs-no-zero : ((sizes : Sizes) (c : Key) (h₁ h₂ : List Call)
     → zeroForC fromEmpty [] c (transcript sizes (emptyRoom sizes) h₁) ≡ false
     → recordFor fromEmpty [] c (transcript sizes (emptyRoom sizes) h₁) ≡ recordFor fromEmpty [] c (transcript sizes (emptyRoom sizes) h₂)
     → packetsFor fromEmpty [] c (transcript sizes (emptyRoom sizes) h₁) ≡ packetsFor fromEmpty [] c (transcript sizes (emptyRoom sizes) h₂)) → ⊥
-unfolding happens
 needs-no-zero claim = packets-differ (claim small kc answeredNumber answeredZero one-has-none records-equal)
 
 -- ---- what adds nothing to the record for C

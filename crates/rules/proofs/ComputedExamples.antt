@@ -1,0 +1,147 @@
+-- Document 01, "Examples" and "Errors that students make", as far as they speak of the room: facts of the definitions at 40 seats and 32 numbers, each by
+-- computation. P1 to P11; the 32nd request and the 33rd, the 40th arrival and the 41st; data goes on under the receiver's number; nothing goes to who
+-- took the seat of a client that left; a disconnect leaves the peer's request standing. Assumes nothing.
+use mathlib.Core.Path.{_≡_, refl}
+use mathlib.Core.Bool.{true}
+use mathlib.Core.List.{List, [], _∷_, _++_}
+use Prim.Native.Nat.{ℕ, zero, suc}
+use lib.ListN.{replicate, drop}
+use Rattle.refusal.specs.Numbers.{refusalNumber}
+use Rattle.rules.specs.Room.{Key, baseSizes}
+use Rattle.rules.specs.Call.{Call, arrive, leave, packetCall, Answer, accepted, refused}
+use Rattle.rules.specs.Outcome.{sentBytes}
+use Rattle.rules.specs.History.{Event}
+use Rattle.rules.specs.Transcript.{fromEmpty, stands}
+use Rattle.rules.specs.After.{pastAfter}
+use Rattle.rules.specs.Record.{packetsFor}
+use Rattle.rules.proofs.Computed.{ka, kb, kc, happens, opened}
+
+-- a call's answer, the refusal by its number, and its output's bytes
+pub data Shown : Type 0 where
+  wrote : ℕ → ℕ → List ℕ → Shown
+  refusal : ℕ → List ℕ → Shown
+
+show : Answer → List ℕ → Shown
+show (accepted seat count) output = wrote seat count output
+show (refused why) output = refusal (refusalNumber why) output
+
+showAll : List Event → List Shown
+showAll [] = []
+showAll (e ∷ es) = show (e .answer) (sentBytes (e .sent)) ∷ showAll es
+
+-- what calls show, from the empty room
+shows : List Call → List Shown
+shows calls = showAll (happens baseSizes calls)
+
+-- a seat taken
+took : ℕ → Shown
+took seat = wrote seat 0 []
+
+-- "A refusal answers its number with 0 bytes written"
+gets : ℕ → Shown
+gets number = refusal number []
+
+-- ---- P1 to P9, with P8 after P4 and after P5
+
+-- "00 KB", "10 61 62", "data on 11 hex"
+ask : ℕ → Key → Call
+ask seat key = packetCall seat (0 ∷ key)
+
+data10 : ℕ → Call
+data10 seat = packetCall seat (0x10 ∷ 0x61 ∷ 0x62 ∷ [])
+
+data11 : ℕ → Call
+data11 seat = packetCall seat (0x11 ∷ 0x61 ∷ 0x62 ∷ [])
+
+-- the calls in this order: P1, P2, P3; P4, P7, P8; P5, P6, P8; P9 in three
+p1-to-p9 : shows (arrive ka ∷ arrive kb ∷ arrive ka ∷ ask 0 kb ∷ data10 0 ∷ data11 0 ∷ ask 1 ka ∷ data10 0 ∷ data11 0 ∷ leave 0 ∷ arrive kc ∷ data10 1 ∷ [])
+    ≡ took 0 ∷ took 1 ∷ gets 2
+    ∷ wrote 0 37 (0 ∷ 0 ∷ 0x22 ∷ 1 ∷ 0x10 ∷ kb) ∷ gets 9 ∷ gets 8
+    ∷ wrote 1 47 ((1 ∷ 0 ∷ 0x22 ∷ 1 ∷ 0x10 ∷ ka) ++ (1 ∷ 0 ∷ 2 ∷ 2 ∷ 0x10 ∷ 0 ∷ 0 ∷ 2 ∷ 2 ∷ 0x10 ∷ []))
+    ∷ wrote 0 6 (1 ∷ 0 ∷ 3 ∷ 0x10 ∷ 0x61 ∷ 0x62 ∷ []) ∷ gets 8
+    ∷ wrote 0 5 (1 ∷ 0 ∷ 2 ∷ 3 ∷ 0x10 ∷ []) ∷ took 0 ∷ gets 9 ∷ []
+unfolding opened shows showAll show took gets ask data10 data11
+p1-to-p9 = refl
+
+-- ---- P10 and P11, for a seated client
+
+p10-and-p11 : shows (arrive ka ∷ packetCall 0 (4 ∷ replicate 8 0) ∷ packetCall 0 (0x10 ∷ []) ∷ []) ≡ took 0 ∷ gets 7 ∷ gets 6 ∷ []
+unfolding opened shows showAll show took gets
+p10-and-p11 = refl
+
+-- ---- "32nd request numbered 47; 33rd answered 0."
+
+-- requests of seat 0 for so many keys, all of bytes 0, all of bytes 1, ..
+askAll : ℕ → ℕ → List Call
+askAll first zero = []
+askAll first (suc many) = ask 0 (replicate 32 first) ∷ askAll (suc first) many
+
+request-33 : drop 32 (shows (arrive ka ∷ askAll 0 33))
+    ≡ wrote 0 37 (0 ∷ 0 ∷ 0x22 ∷ 1 ∷ 47 ∷ replicate 32 31) ∷ wrote 0 37 (0 ∷ 0 ∷ 0x22 ∷ 1 ∷ 0 ∷ replicate 32 32) ∷ []
+unfolding opened shows showAll show ask askAll
+request-33 = refl
+
+-- ---- "40th arrival accepted; 41st refused with 1."
+
+arriveAll : ℕ → ℕ → List Call
+arriveAll first zero = []
+arriveAll first (suc many) = arrive (replicate 32 first) ∷ arriveAll (suc first) many
+
+arrival-41 : drop 39 (shows (arriveAll 0 41)) ≡ took 39 ∷ gets 1 ∷ []
+unfolding opened shows showAll show took gets arriveAll
+arrival-41 = refl
+
+-- ---- "a client that asks for its own key gets a number that waits for ever"
+
+own-key-waits : shows (arrive ka ∷ ask 0 ka ∷ data10 0 ∷ []) ≡ took 0 ∷ wrote 0 37 (0 ∷ 0 ∷ 0x22 ∷ 1 ∷ 0x10 ∷ ka) ∷ gets 9 ∷ []
+unfolding opened shows showAll show took gets ask data10
+own-key-waits = refl
+
+-- ---- "Sending the sender's number on. If KB asked for KC first, its number for KA is 17, and P6 must show 11 hex."
+
+receivers-number : drop 4 (shows (arrive ka ∷ arrive kb ∷ ask 1 kc ∷ ask 0 kb ∷ ask 1 ka ∷ data10 0 ∷ []))
+    ≡ wrote 1 47 ((1 ∷ 0 ∷ 0x22 ∷ 1 ∷ 0x11 ∷ ka) ++ (1 ∷ 0 ∷ 2 ∷ 2 ∷ 0x11 ∷ 0 ∷ 0 ∷ 2 ∷ 2 ∷ 0x10 ∷ []))
+    ∷ wrote 0 6 (1 ∷ 0 ∷ 3 ∷ 0x11 ∷ 0x61 ∷ 0x62 ∷ []) ∷ []
+unfolding opened shows showAll show ask data10
+receivers-number = refl
+
+-- ---- "Keeping a link to a seat after its client left (P9)."
+
+-- KC sits where KA sat, and KB sends data to KA
+takenOver : List Call
+takenOver = arrive ka ∷ arrive kb ∷ ask 0 kb ∷ ask 1 ka ∷ leave 0 ∷ arrive kc ∷ data10 1 ∷ []
+
+no-link-to-seat : drop 5 (shows takenOver) ≡ took 0 ∷ gets 9 ∷ []
+unfolding opened shows showAll show took gets ask data10 takenOver
+no-link-to-seat = refl
+
+nothing-for-kc : packetsFor fromEmpty [] kc (happens baseSizes takenOver) ≡ []
+unfolding opened ask data10 takenOver
+nothing-for-kc = refl
+
+-- ---- "Clearing the peer's request at a disconnect: when the other asks again, both must be told connected."
+
+-- KA and KB are connected; then KA drops its number, or leaves and comes back
+connectedThen : List Call → List Call
+connectedThen calls = arrive ka ∷ arrive kb ∷ ask 0 kb ∷ ask 1 ka ∷ calls
+
+-- KB's request for KA stands
+stands-after-drop : stands fromEmpty (pastAfter [] (happens baseSizes (connectedThen (packetCall 0 (3 ∷ 0x10 ∷ []) ∷ [])))) kb 0x10 ka ≡ true
+unfolding opened ask connectedThen
+stands-after-drop = refl
+
+stands-after-leave : stands fromEmpty (pastAfter [] (happens baseSizes (connectedThen (leave 0 ∷ [])))) kb 0x10 ka ≡ true
+unfolding opened ask connectedThen
+stands-after-leave = refl
+
+-- and KA, which asks again, and KB are told connected
+bothTold : Shown
+bothTold = wrote 0 47 ((0 ∷ 0 ∷ 0x22 ∷ 1 ∷ 0x10 ∷ kb) ++ (0 ∷ 0 ∷ 2 ∷ 2 ∷ 0x10 ∷ 1 ∷ 0 ∷ 2 ∷ 2 ∷ 0x10 ∷ []))
+
+told-after-drop : drop 4 (shows (connectedThen (packetCall 0 (3 ∷ 0x10 ∷ []) ∷ ask 0 kb ∷ []))) ≡ wrote 0 5 (1 ∷ 0 ∷ 2 ∷ 3 ∷ 0x10 ∷ []) ∷ bothTold ∷ []
+unfolding opened shows showAll show ask connectedThen bothTold
+told-after-drop = refl
+
+told-after-leave : drop 4 (shows (connectedThen (leave 0 ∷ arrive ka ∷ ask 0 kb ∷ []))) ≡ wrote 0 5 (1 ∷ 0 ∷ 2 ∷ 3 ∷ 0x10 ∷ []) ∷ took 0 ∷ bothTold ∷ []
+unfolding opened shows showAll show took ask connectedThen bothTold
+told-after-leave = refl
