@@ -11,6 +11,7 @@ pub mod SentLaws
 pub mod OutcomeLaws
 pub mod Whole
 pub mod PeerLaws
+pub mod OtherSeats
 pub mod Tied
 pub mod DataGoesOn
 pub mod View

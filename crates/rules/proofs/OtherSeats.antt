@@ -1,0 +1,105 @@
+-- A call changes at most the seat it is made at: every other seat keeps its key and its routes. So a disconnect, by a drop or by a leave, leaves the peer's
+-- request standing: "its route goes on waiting". And where a client asks for one whose request for it stands, both are told connected, each with its own
+-- number, whatever was before: "when the other asks again, both must be told connected". Assumes nothing.
+use mathlib.Core.Path.{_≡_, refl, ap, ap₂, _∙_}
+use mathlib.Core.List.{List, [], _∷_}
+use mathlib.Core.Logic.{_≢_}
+use Prim.Native.Nat.{ℕ, _-_}
+use native.Mathlib.Omega.{arith}
+use Rattle.packet.specs.Read.{Read}
+use Rattle.packet.specs.Read as read
+use Rattle.packet.specs.FromClient as client
+use Rattle.packet.specs.FromRelay as relay
+use Rattle.rules.specs.Room.{Sizes, Key, Route, free, wants, Seat, vacant, holds, Room, Found, none, at, find, seatOf, isVacant, routeTo, isFree, seatAt, routeAt, firstNumber, numberOfPlace, Peer, apart, joined}
+use Rattle.rules.specs.Whole.{Whole}
+use Rattle.rules.specs.Call.{Call, arrive, leave, packetCall, accepted}
+use Rattle.rules.specs.Outcome.{withRoute, apply, applyAll, Outcome, refuse, accept, to, roomAfter, peer, arriveAt, leaveFrom, tellBoth, requestAt, dropAt, oobTo, carryTo, dataAt, act, actOn, packetFrom, outcome}
+use Rattle.rules.proofs.FindLaws.{clash, seat-set-other, wanted-high}
+use Rattle.rules.proofs.PeerLaws.{has-peer}
+
+module _ (sizes : Sizes) (room : Room) (seat other : ℕ) (ne : other ≢ seat) where
+  -- the other seat is as it was
+  abbrev Stays : Outcome → Type 0
+  Stays o = seatAt (roomAfter sizes room o) other ≡ seatAt room other
+
+  request-stays : (held lowest : Found) (key wanted : Key) → Stays (requestAt held lowest room seat key wanted)
+  unfolding requestAt accept roomAfter applyAll apply
+  request-stays (at place) lowest key wanted = refl
+  request-stays none none key wanted = refl
+  request-stays none (at place) key wanted = seat-set-other room seat (withRoute (seatAt room seat) place (wants wanted)) other ne
+
+  drop-stays : (route : Route) (key : Key) (number : ℕ) → Stays (dropAt route room seat key number)
+  unfolding dropAt accept refuse roomAfter applyAll apply
+  drop-stays free key number = refl
+  drop-stays (wants wanted) key number = seat-set-other room seat (withRoute (seatAt room seat) (number - firstNumber) free) other ne
+
+  oob-stays : (f : Found) (key : Key) (bytes : List ℕ) → Stays (oobTo f seat key bytes)
+  unfolding oobTo accept roomAfter applyAll
+  oob-stays none key bytes = refl
+  oob-stays (at i) key bytes = refl
+
+  carry-stays : (p : Peer) (bytes : List ℕ) → Stays (carryTo p seat bytes)
+  unfolding carryTo accept refuse roomAfter applyAll
+  carry-stays apart bytes = refl
+  carry-stays (joined i place) bytes = refl
+
+  data-stays : (route : Route) (key : Key) (bytes : List ℕ) → Stays (dataAt route room seat key bytes)
+  unfolding dataAt refuse roomAfter applyAll
+  data-stays free key bytes = refl
+  data-stays (wants wanted) key bytes = carry-stays (peer room seat key wanted) bytes
+
+  read-stays : (r : Read client.FromClient) (key : Key) (routes : List Route) → Stays (actOn r room seat key routes)
+  unfolding actOn act accept refuse roomAfter applyAll
+  read-stays (read.packet (client.routingRequest wanted)) key routes = request-stays (find (routeTo wanted) routes) (find isFree routes) key wanted
+  read-stays (read.packet (client.dropRoute number)) key routes = drop-stays (routeAt routes number) key number
+  read-stays (read.packet (client.ping n)) key routes = refl
+  read-stays (read.packet (client.pong n)) key routes = refl
+  read-stays (read.packet (client.oobSend wanted bytes)) key routes = oob-stays (find (seatOf wanted) room) key bytes
+  read-stays (read.packet (client.routedData number bytes)) key routes = data-stays (routeAt routes number) key bytes
+  read-stays (read.refused why) key routes = refl
+
+  packet-from : (bytes : List ℕ) (s : Seat) → Stays (packetFrom s room seat bytes)
+  unfolding packetFrom refuse roomAfter applyAll
+  packet-from bytes vacant = refl
+  packet-from bytes (holds key routes) = read-stays (client.relayRead bytes) key routes
+
+  leave-from : (s : Seat) → Stays (leaveFrom s room seat)
+  unfolding leaveFrom accept refuse roomAfter applyAll apply
+  leave-from vacant = refl
+  leave-from (holds key routes) = seat-set-other room seat vacant other ne
+
+  arrive-at : (seated empty : Found) (key : Key) (count : ℕ) → arriveAt seated empty key .answer ≡ accepted seat count → Stays (arriveAt seated empty key)
+  unfolding arriveAt accept refuse roomAfter applyAll apply
+  arrive-at (at i) empty key count h = refl
+  arrive-at none none key count h = refl
+  arrive-at none (at i) key count h = seat-set-other room i _ other (λ q. ne (q ∙ (let z : i ≡ seat = cc in z)))
+
+  -- every packet of a client, drops among them
+  pub packet-keeps-others : (bytes : List ℕ) → seatAt (roomAfter sizes room (outcome room (packetCall seat bytes))) other ≡ seatAt room other
+  unfolding outcome
+  packet-keeps-others bytes = packet-from bytes (seatAt room seat)
+
+  pub leave-keeps-others : seatAt (roomAfter sizes room (outcome room (leave seat))) other ≡ seatAt room other
+  unfolding outcome
+  leave-keeps-others = leave-from (seatAt room seat)
+
+  -- an arrival that is answered with the seat
+  pub arrive-keeps-others : (key : Key) (count : ℕ) → outcome room (arrive key) .answer ≡ accepted seat count
+      → seatAt (roomAfter sizes room (outcome room (arrive key))) other ≡ seatAt room other
+  unfolding outcome
+  arrive-keeps-others key count h = arrive-at (find (seatOf key) room) (find isVacant room) key count h
+
+-- the client in `seat` asks for the one in `other`, which has a request for it under `number`; it has none itself, and a number is free
+module _ (sizes : Sizes) (room : Room) (whole : Whole sizes room) (seat other : ℕ) (ne : seat ≢ other) (key wanted : Key) (routes routes′ : List Route)
+  (here : seatAt room seat ≡ holds key routes) (there : seatAt room other ≡ holds wanted routes′) (number : ℕ) (stands : routeAt routes′ number ≡ wants key)
+  (place : ℕ) (notAsked : find (routeTo wanted) routes ≡ none) (lowest : find isFree routes ≡ at place) where
+  their-number : numberOfPlace (number - firstNumber) ≡ number
+  their-number = let h = wanted-high routes′ number key stands in omega arith
+
+  pub both-told : (bytes : List ℕ) → client.relayRead bytes ≡ read.packet (client.routingRequest wanted)
+      → outcome room (packetCall seat bytes) .sent
+      ≡ to seat (relay.routingResponse (numberOfPlace place) wanted) ∷ to seat (relay.connectNotice (numberOfPlace place)) ∷ to other (relay.connectNotice number) ∷ []
+  unfolding outcome packetFrom actOn act requestAt accept tellBoth
+  both-told bytes asks =
+      rw (here, asks, notAsked, lowest, has-peer room seat key wanted sizes whole other number (record { apart = ne; routes = routes′; sits = there; asked = stands }))
+      (ap (λ (n : ℕ). to seat (relay.routingResponse (numberOfPlace place) wanted) ∷ to seat (relay.connectNotice (numberOfPlace place)) ∷ to other (relay.connectNotice n) ∷ []) their-number)
