@@ -91,8 +91,8 @@ module _ (sizes : Sizes) (room : Room) (seat other : ℕ) (ne : other ≢ seat) 
 
 -- the client in `seat` asks for the one in `other`, which has a request for it under `number`; it has none itself, and a number is free
 module _ (sizes : Sizes) (room : Room) (whole : Whole sizes room) (seat other : ℕ) (ne : seat ≢ other) (key wanted : Key) (routes routes′ : List Route)
-  (here : seatAt room seat ≡ holds key routes) (there : seatAt room other ≡ holds wanted routes′) (number : ℕ) (stands : routeAt routes′ number ≡ wants key)
-  (place : ℕ) (notAsked : find (routeTo wanted) routes ≡ none) (lowest : find isFree routes ≡ at place) where
+    (here : seatAt room seat ≡ holds key routes) (there : seatAt room other ≡ holds wanted routes′) (number : ℕ) (stands : routeAt routes′ number ≡ wants key)
+    (place : ℕ) (notAsked : find (routeTo wanted) routes ≡ none) (lowest : find isFree routes ≡ at place) where
   their-number : numberOfPlace (number - firstNumber) ≡ number
   their-number = let h = wanted-high routes′ number key stands in omega arith
 
