@@ -1,6 +1,6 @@
 -- Document 01, "Examples" and "Errors that students make", as far as they speak of the room: facts of the definitions at 40 seats and 32 numbers, each by
--- computation. P1 to P11; the 32nd request and the 33rd, the 40th arrival and the 41st; data goes on under the receiver's number; nothing goes to who
--- took the seat of a client that left; a disconnect leaves the peer's request standing. Assumes nothing.
+-- computation. P1 to P11; the bounds of requests, arrivals, out-of-band packets and data; data goes on under the receiver's number; nothing goes to who took
+-- the seat of a client that left; a disconnect leaves the peer's request standing. Assumes nothing.
 use mathlib.Core.Path.{_≡_, refl}
 use mathlib.Core.Bool.{true}
 use mathlib.Core.List.{List, [], _∷_, _++_}
@@ -90,6 +90,41 @@ arriveAll first (suc many) = arrive (replicate 32 first) ∷ arriveAll (suc firs
 arrival-41 : drop 39 (shows (arriveAll 0 41)) ≡ took 39 ∷ gets 1 ∷ []
 unfolding opened shows showAll show took gets arriveAll
 arrival-41 = refl
+
+-- ---- "Out-of-band of 34 and 1,057 bytes accepted; 33 and 1,058 refused with 6. Packet of 2,032 data accepted; 2,033 refused with 4."
+
+-- out of band to a key, so many bytes 61
+outOfBand : ℕ → Key → ℕ → Call
+outOfBand seat key many = packetCall seat (6 ∷ (key ++ replicate many 0x61))
+
+-- the sender's key is put in
+out-of-band-bounds : drop 2 (shows (arrive ka ∷ arrive kb ∷ outOfBand 0 kb 1 ∷ outOfBand 0 kb 1024 ∷ outOfBand 0 kb 0 ∷ outOfBand 0 kb 1025 ∷ []))
+    ≡ wrote 0 37 (1 ∷ 0 ∷ 0x22 ∷ 7 ∷ (ka ++ replicate 1 0x61)) ∷ wrote 0 1060 (1 ∷ 0x04 ∷ 0x21 ∷ 7 ∷ (ka ++ replicate 1024 0x61)) ∷ gets 6 ∷ gets 6 ∷ []
+unfolding opened shows showAll show gets outOfBand
+out-of-band-bounds = refl
+
+-- "the sender included", and "With no such seat it is accepted and nothing is sent"
+out-of-band-seats : drop 1 (shows (arrive ka ∷ outOfBand 0 ka 1 ∷ outOfBand 0 kb 1 ∷ [])) ≡ wrote 0 37 (0 ∷ 0 ∷ 0x22 ∷ 7 ∷ (ka ++ replicate 1 0x61)) ∷ wrote 0 0 [] ∷ []
+unfolding opened shows showAll show outOfBand
+out-of-band-seats = refl
+
+data-bounds : drop 4 (shows (arrive ka ∷ arrive kb ∷ ask 0 kb ∷ ask 1 ka ∷ packetCall 0 (0x10 ∷ replicate 2031 0x61) ∷ packetCall 0 (0x10 ∷ replicate 2032 0x61) ∷ []))
+    ≡ wrote 0 2035 (1 ∷ 0x07 ∷ 0xf0 ∷ 0x10 ∷ replicate 2031 0x61) ∷ gets 4 ∷ []
+unfolding opened shows showAll show gets ask
+data-bounds = refl
+
+-- ---- "Ping sends the asker a pong with the same number. Pong does nothing."
+
+ping-and-pong : drop 1 (shows (arrive ka ∷ packetCall 0 (4 ∷ replicate 8 0x61) ∷ packetCall 0 (5 ∷ replicate 8 0x61) ∷ []))
+    ≡ wrote 0 12 (0 ∷ 0 ∷ 9 ∷ 5 ∷ replicate 8 0x61) ∷ wrote 0 0 [] ∷ []
+unfolding opened shows showAll show
+ping-and-pong = refl
+
+-- ---- "a key already named by this seat gets its old number again and nothing else happens", here of a connected one
+
+asked-twice : drop 4 (shows (arrive ka ∷ arrive kb ∷ ask 0 kb ∷ ask 1 ka ∷ ask 0 kb ∷ [])) ≡ wrote 0 37 (0 ∷ 0 ∷ 0x22 ∷ 1 ∷ 0x10 ∷ kb) ∷ []
+unfolding opened shows showAll show ask
+asked-twice = refl
 
 -- ---- "a client that asks for its own key gets a number that waits for ever"
 

@@ -1,7 +1,7 @@
 -- A call changes at most the seat it is made at: every other seat keeps its key and its routes. So a disconnect, by a drop or by a leave, leaves the peer's
 -- request standing: "its route goes on waiting". And where a client asks for one whose request for it stands, both are told connected, each with its own
 -- number, whatever was before: "when the other asks again, both must be told connected". Assumes nothing.
-use mathlib.Core.Path.{_≡_, refl, ap, ap₂, _∙_}
+use mathlib.Core.Path.{_≡_, refl, ap, _∙_}
 use mathlib.Core.List.{List, [], _∷_}
 use mathlib.Core.Logic.{_≢_}
 use Prim.Native.Nat.{ℕ, _-_}
@@ -12,9 +12,9 @@ use Rattle.packet.specs.FromClient as client
 use Rattle.packet.specs.FromRelay as relay
 use Rattle.rules.specs.Room.{Sizes, Key, Route, free, wants, Seat, vacant, holds, Room, Found, none, at, find, seatOf, isVacant, routeTo, isFree, seatAt, routeAt, firstNumber, numberOfPlace, Peer, apart, joined}
 use Rattle.rules.specs.Whole.{Whole}
-use Rattle.rules.specs.Call.{Call, arrive, leave, packetCall, accepted}
+use Rattle.rules.specs.Call.{arrive, leave, packetCall, accepted}
 use Rattle.rules.specs.Outcome.{withRoute, apply, applyAll, Outcome, refuse, accept, to, roomAfter, peer, arriveAt, leaveFrom, tellBoth, requestAt, dropAt, oobTo, carryTo, dataAt, act, actOn, packetFrom, outcome}
-use Rattle.rules.proofs.FindLaws.{clash, seat-set-other, wanted-high}
+use Rattle.rules.proofs.FindLaws.{seat-set-other, wanted-high}
 use Rattle.rules.proofs.PeerLaws.{has-peer}
 
 module _ (sizes : Sizes) (room : Room) (seat other : ℕ) (ne : other ≢ seat) where
