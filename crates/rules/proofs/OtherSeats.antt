@@ -1,21 +1,16 @@
 -- A call changes at most the seat it is made at: every other seat keeps its key and its routes. So a disconnect, by a drop or by a leave, leaves the peer's
--- request standing: "its route goes on waiting". And where a client asks for one whose request for it stands, both are told connected, each with its own
--- number, whatever was before: "when the other asks again, both must be told connected". Assumes nothing.
-use mathlib.Core.Path.{_≡_, refl, ap, _∙_}
-use mathlib.Core.List.{List, [], _∷_}
+-- request standing: "its route goes on waiting". Assumes nothing.
+use mathlib.Core.Path.{_≡_, refl, _∙_}
+use mathlib.Core.List.{List}
 use mathlib.Core.Logic.{_≢_}
 use Prim.Native.Nat.{ℕ, _-_}
-use native.Mathlib.Omega.{arith}
 use Rattle.packet.specs.Read.{Read}
 use Rattle.packet.specs.Read as read
 use Rattle.packet.specs.FromClient as client
-use Rattle.packet.specs.FromRelay as relay
-use Rattle.rules.specs.Room.{Sizes, Key, Route, free, wants, Seat, vacant, holds, Room, Found, none, at, find, seatOf, isVacant, routeTo, isFree, seatAt, routeAt, firstNumber, numberOfPlace, Peer, apart, joined}
-use Rattle.rules.specs.Whole.{Whole}
+use Rattle.rules.specs.Room.{Sizes, Key, Route, free, wants, Seat, vacant, holds, Room, Found, none, at, find, seatOf, isVacant, routeTo, isFree, seatAt, routeAt, firstNumber, Peer, apart, joined}
 use Rattle.rules.specs.Call.{arrive, leave, packetCall, accepted}
-use Rattle.rules.specs.Outcome.{withRoute, apply, applyAll, Outcome, refuse, accept, to, roomAfter, peer, arriveAt, leaveFrom, tellBoth, requestAt, dropAt, oobTo, carryTo, dataAt, act, actOn, packetFrom, outcome}
-use Rattle.rules.proofs.FindLaws.{seat-set-other, wanted-high}
-use Rattle.rules.proofs.PeerLaws.{has-peer}
+use Rattle.rules.specs.Outcome.{withRoute, apply, applyAll, Outcome, refuse, accept, roomAfter, peer, arriveAt, leaveFrom, requestAt, dropAt, oobTo, carryTo, dataAt, act, actOn, packetFrom, outcome}
+use Rattle.rules.proofs.FindLaws.{seat-set-other}
 
 module _ (sizes : Sizes) (room : Room) (seat other : ℕ) (ne : other ≢ seat) where
   -- the other seat is as it was
@@ -88,18 +83,3 @@ module _ (sizes : Sizes) (room : Room) (seat other : ℕ) (ne : other ≢ seat) 
       → seatAt (roomAfter sizes room (outcome room (arrive key))) other ≡ seatAt room other
   unfolding outcome
   arrive-keeps-others key count h = arrive-at (find (seatOf key) room) (find isVacant room) key count h
-
--- the client in `seat` asks for the one in `other`, which has a request for it under `number`; it has none itself, and a number is free
-module _ (sizes : Sizes) (room : Room) (whole : Whole sizes room) (seat other : ℕ) (ne : seat ≢ other) (key wanted : Key) (routes routes′ : List Route)
-    (here : seatAt room seat ≡ holds key routes) (there : seatAt room other ≡ holds wanted routes′) (number : ℕ) (stands : routeAt routes′ number ≡ wants key)
-    (place : ℕ) (notAsked : find (routeTo wanted) routes ≡ none) (lowest : find isFree routes ≡ at place) where
-  their-number : numberOfPlace (number - firstNumber) ≡ number
-  their-number = let h = wanted-high routes′ number key stands in omega arith
-
-  pub both-told : (bytes : List ℕ) → client.relayRead bytes ≡ read.packet (client.routingRequest wanted)
-      → outcome room (packetCall seat bytes) .sent
-      ≡ to seat (relay.routingResponse (numberOfPlace place) wanted) ∷ to seat (relay.connectNotice (numberOfPlace place)) ∷ to other (relay.connectNotice number) ∷ []
-  unfolding outcome packetFrom actOn act requestAt accept tellBoth
-  both-told bytes asks =
-      rw (here, asks, notAsked, lowest, has-peer room seat key wanted sizes whole other number (record { apart = ne; routes = routes′; sits = there; asked = stands }))
-      (ap (λ (n : ℕ). to seat (relay.routingResponse (numberOfPlace place) wanted) ∷ to seat (relay.connectNotice (numberOfPlace place)) ∷ to other (relay.connectNotice n) ∷ []) their-number)
