@@ -3,7 +3,7 @@
 -- [..], so demand 2 turns it away too. Demand 3 would suit a silent relay; it is therefore stated of a relay that takes the steps above."
 -- A relay is whatever gives an event for each call of a history from the empty room; nothing is said of how it does it. Demand 2 is that it takes the steps:
 -- its events are those of the rules, for every history. Each wrong relay is any that has the fault named, and a history of one or two calls shows it.
--- A relay that takes the steps isolates its clients (demand 3), and so does one that never sends. Assumes nothing.
+-- A relay that takes the steps isolates its clients (demand 3), and so does one that answers every call alike and never sends. Assumes nothing.
 use mathlib.Core.Path.{_≡_, refl, sym, ap, ap₂, _∙_}
 use mathlib.Core.Bool.{Bool, true, false, _&&_, not, true≢false}
 use mathlib.Core.List.{List, [], _∷_, _++_, map}
