@@ -1,0 +1,16 @@
+-- The laws of a table kept in bytes, in the order in which they rest on each other; the proofs of the functions cite them.
+pub mod KeyOrder
+pub mod FitsLaws
+pub mod Shift
+pub mod Listed
+pub mod SearchLaws
+pub mod Stores
+pub mod Places
+pub mod Distinct
+pub mod TableLaws
+pub mod LowestLaws
+pub mod RecordLaws
+pub mod NoneListed
+pub mod PutLaws
+pub mod FoundLaws
+pub mod BytesKept

@@ -1,0 +1,70 @@
+-- The lowest place that is not listed, by marks.
+use mathlib.Core.Path.{_≡_, refl, sym, _∙_}
+use mathlib.Core.Bool.{Bool, true, false, _||_, not, cond}
+use Prim.Native.Nat.{ℕ, suc, _+_, _-_, _<_}
+use native.Mathlib.Numerals.{add-one}
+use native.Mathlib.Omega.{arith}
+use mathlib.Core.List.{List, [], _∷_, _++_}
+use lib.ListN.{length, take, getD, set, replicate, getD-replicate}
+use lib.Seq.{take-suc, getD-set-same, getD-set-other}
+use lib.Dec.{eqb, ltb}
+use borrow.Author.Tests.{eqb-true, eqb-false, lt-ltb, le-ltb}
+use Rattle.table.specs.Bytes.{member, indexOf}
+use Rattle.table.specs.Table.{listed, lowest}
+use Rattle.table.specs.Marks.{Marked}
+use Rattle.table.proofs.Places.{or-swap, index-member, index-none}
+
+pub used-is : (n : ℕ) (ns : List ℕ) (i c : ℕ) → i ≡ indexOf n ns → c ≡ length ns → ltb i c ≡ member n ns
+used-is n ns i c e d = go (member n ns) refl
+  where
+    go : (t : Bool) → member n ns ≡ t → ltb i c ≡ t
+    go true h = lt-ltb i c (let q = index-member n ns h in omega arith)
+    go false h = le-ltb i c (let q = index-none n ns h in omega arith)
+
+pub mark-none : Marked (replicate 256 0) []
+unfolding member
+mark-none x h = getD-replicate 256 x 0 0 h
+
+member-end : (x : ℕ) (a : List ℕ) (n : ℕ) → member x (a ++ (n ∷ [])) ≡ (eqb n x || member x a)
+unfolding member
+member-end x [] n = refl
+member-end x (m ∷ a) n = rw (member-end x a n) (or-swap (eqb m x) (eqb n x) (member x a))
+
+pub mark-step : (seen ns : List ℕ) (i n : ℕ) → length seen ≡ 256 → i < length ns → n ≡ getD ns i 0 → n < 256 → Marked seen (take i ns) → Marked (set seen n 1) (take (i + 1) ns)
+mark-step seen ns i n l h e b m x k =
+    rw (add-one, take-suc ns i 0 h, ← e, member-end x (take i ns) n) (go (eqb n x) refl)
+  where
+    go : (t : Bool) → eqb n x ≡ t → getD (set seen n 1) x 0 ≡ cond (t || member x (take i ns)) 1 0
+    go true q = rw (← eqb-true n x q) (getD-set-same seen n 1 0 (omega arith))
+    go false q = getD-set-other seen n x 1 0 (λ z. eqb-false n x q (sym z)) ∙ m x k
+
+module _ (seen ns : List ℕ) (j : ℕ) (m : Marked seen ns) (b : j < 256) where
+  pub mark-not : getD seen j 0 ≡ 0 → member j ns ≡ false
+  mark-not e = go (member j ns) (sym (m j b) ∙ e)
+    where
+      go : (t : Bool) → _≡_ {A = ℕ} (cond t 1 0) 0 → t ≡ false
+      go true q = absurd (omega arith)
+      go false q = refl
+
+  pub mark-is : (getD seen j 0 ≡ 0 → ⊥) → member j ns ≡ true
+  mark-is e = go (member j ns) (λ q. e (m j b ∙ q))
+    where
+      go : (t : Bool) → (_≡_ {A = ℕ} (cond t 1 0) 0 → ⊥) → t ≡ true
+      go true q = refl
+      go false q = absurd (q refl)
+
+module _ (p j : ℕ) (ns : List ℕ) where
+  back : j < p → p - j ≡ suc (p - (j + 1))
+  back h = omega arith
+
+  pub lowest-here : j < p → member j ns ≡ false → lowest j (p - j) ns ≡ j
+  unfolding lowest
+  lowest-here h e = rw (back h, e)
+
+  pub lowest-next : j < p → member j ns ≡ true → lowest j (p - j) ns ≡ lowest (j + 1) (p - (j + 1)) ns
+  unfolding lowest
+  lowest-next h e = rw (back h, e, add-one)
+
+  pub lowest-end : j ≡ p → lowest j (p - j) ns ≡ p
+  unfolding lowest
+  lowest-end e = let z : p - j ≡ 0 = omega arith in rw z e

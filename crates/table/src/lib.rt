@@ -1,0 +1,134 @@
+// A table in lent bytes: a count, the used places listed in the rising order of their keys, and records of one size that begin with a key.
+//
+//     count (1) | order (one byte a place) | record 0 | record 1 | ..
+//
+// A place is used exactly when the order lists it; what is not listed is never read. So neighbours decide that all keys differ, one pass tests a
+// table, and there is no mark that could disagree with it. A room is a table of seats, and each seat has a table of routes.
+ghost use mathlib.Core.Path.{_≡_};
+ghost use Rattle.table.specs.Table.{fitsTable, isTable, found, keyOfPlace, isUsed, lowestFree, mayPut, putIn, freedIn};
+
+mod order;
+mod records;
+
+use key::Key;
+
+// A place is a byte of the order.
+pub const MOST_PLACES: usize = 255;
+
+pub const WIDEST_RECORD: usize = 65535;
+
+// Whether the bytes are as long as a table of so many places, with records of such a width.
+pub fn fits(table: &[u8], places: usize, width: usize) -> bool
+    ensures { λ r. ⌜ r ≡ fitsTable places width (now (table .entry)) ⌝ }
+{
+    if MOST_PLACES < places {
+        return false;
+    }
+    if width < Key::BYTES {
+        return false;
+    }
+    if WIDEST_RECORD < width {
+        return false;
+    }
+    table.len() == 1 + places + places * width
+}
+
+// Whether the bytes are a table that keeps its rules: each place listed is a place, and the keys listed strictly rise.
+pub fn is_whole(table: &[u8], places: usize, width: usize) -> bool
+    ensures { λ r. ⌜ r ≡ isTable places width (now (table .entry)) ⌝ }
+{
+    if !fits(table, places, width) {
+        return false;
+    }
+    records::all_rise(table, places, width)
+}
+
+// The place that has the key, or `places` where none has.
+pub fn find(table: &[u8], places: usize, width: usize, key: Key) -> usize
+    ensures { λ r. ⌜ r ≡ found places width (now (table .entry)) (key .0) ⌝ }
+{
+    if !fits(table, places, width) {
+        return places;
+    }
+    let bytes = key.0;
+    records::place_of(table, places, width, &bytes)
+}
+
+// The key of a place, used or not; the key of zeros where there is no such place.
+pub fn key_at(table: &[u8], places: usize, width: usize, place: usize) -> Key
+    ensures { λ r. ⌜ r .0 ≡ keyOfPlace places width (now (table .entry)) place ⌝ }
+{
+    if !fits(table, places, width) {
+        return Key([0u8; 32]);
+    }
+    if places <= place {
+        return Key([0u8; 32]);
+    }
+    records::key_of(table, places, width, place)
+}
+
+// Whether a place is used.
+pub fn is_used(table: &[u8], places: usize, place: usize) -> bool
+    ensures { λ r. ⌜ r ≡ isUsed places (now (table .entry)) place ⌝ }
+{
+    if table.len() <= places {
+        return false;
+    }
+    order::index_of(table, places, place) < order::length(table, places)
+}
+
+// The lowest place that is not used, or `places` where all are.
+pub fn lowest_free(table: &[u8], places: usize) -> usize
+    ensures { λ r. ⌜ r ≡ lowestFree places (now (table .entry)) ⌝ }
+{
+    if MOST_PLACES < places {
+        return places;
+    }
+    if table.len() <= places {
+        return places;
+    }
+    order::lowest_unlisted(table, places)
+}
+
+// Whether a place may be put in use: there is such a place, the order has room, and the record is no shorter than a key and no longer than the
+// table's.
+fn may_put(table: &[u8], places: usize, width: usize, place: usize, record: &[u8]) -> bool
+    ensures { λ r. ⌜ r ≡ mayPut places width (now (table .entry)) place (now («record» .entry)) ⌝ }
+{
+    if !fits(table, places, width) {
+        return false;
+    }
+    if places <= table[0] as usize {
+        return false;
+    }
+    if places <= place {
+        return false;
+    }
+    if record.len() < Key::BYTES {
+        return false;
+    }
+    record.len() <= width
+}
+
+// A place is put in use, where it may be: its record begins with `record`, whose first 32 bytes are the key.
+pub fn put(table: &mut [u8], places: usize, width: usize, place: usize, record: &[u8])
+    ensures { λ _. ⌜ now (table .exit) ≡ putIn places width (now (table .entry)) place (now («record» .entry)) ⌝ }
+{
+    if !may_put(table, places, width, place, record) {
+        return;
+    }
+    records::enter(table, places, width, place, record);
+}
+
+// A place is no longer used. Its record stays as it is, and is not read again.
+pub fn free(table: &mut [u8], places: usize, place: usize)
+    ensures { λ _. ⌜ now (table .exit) ≡ freedIn places (now (table .entry)) place ⌝ }
+{
+    if table.len() <= places {
+        return;
+    }
+    if places < table[0] as usize {
+        return;
+    }
+    order::remove(table, places, place);
+}
