@@ -1,0 +1,47 @@
+-- The empty room: where the memory is long enough, what is written is a whole room, it is the rules' empty room, and the memory keeps its length.
+use mathlib.Core.Path.{_≡_, refl, _∙_}
+use mathlib.Core.Bool.{true}
+use mathlib.Core.List.{List, _∷_}
+use Prim.Native.Nat.{ℕ}
+use native.Mathlib.Omega.{arith}
+use lib.ListN.{length, drop, length-drop}
+use lib.Seq.{getD-take}
+use borrow.Author.Tests.{eq-eqb}
+use Rattle.table.specs.Bytes.{member}
+use Rattle.table.specs.Table.{count, listed, tableWhole}
+use Rattle.table.proofs.KeyOrder.{no}
+use Rattle.table.proofs.Listed.{whole-none}
+use Rattle.table.proofs.NoneListed.{listed-none, view-none}
+use Rattle.rules.specs.Room.{vacant, emptyRoom}
+use Rattle.room.specs.Layout.{keyBytes, seatBytes, seatsBytes, fitsRoom, seatTable, routesTable}
+use Rattle.room.specs.View.{seatIn, viewRoom}
+use Rattle.room.specs.Whole.{headerRight, roomWhole}
+use Rattle.room.specs.Store.{emptied}
+use Rattle.room.proofs.LayoutLaws.{room-long}
+use Rattle.room.proofs.TablesLaws.{sizesOf, fits-same}
+use Rattle.room.proofs.WholeLaws.{make-whole}
+
+module _ (s n : ℕ) (b : List ℕ) (f : fitsRoom s n b ≡ true) where
+  pub empty-length : length (emptied s n b) ≡ length b
+  unfolding emptied
+  empty-length = rw length-drop (let q = room-long s n b f in omega arith)
+
+  empty-count : count (seatTable s n (emptied s n b)) ≡ 0
+  unfolding emptied seatTable
+  empty-count = getD-take (seatsBytes s n) (0 ∷ drop 3 b) 0 0 (omega arith)
+
+  empty-header : headerRight s n (emptied s n b) ≡ true
+  unfolding emptied headerRight
+  empty-header = rw (eq-eqb s s refl, eq-eqb n n refl)
+
+  pub empty-whole : roomWhole s n (emptied s n b) ≡ true
+  empty-whole =
+      make-whole s n (emptied s n b) (fits-same s n (emptied s n b) b empty-length ∙ f) empty-header
+      (whole-none s (seatBytes n) (seatTable s n (emptied s n b)) empty-count) none
+    where
+      none : (i : ℕ) → member i (listed s (seatTable s n (emptied s n b))) ≡ true → tableWhole n keyBytes (routesTable s n (emptied s n b) i) ≡ true
+      none i m = absurd (no (unfold member in rw (listed-none s (seatTable s n (emptied s n b)) empty-count) at m))
+
+  pub empty-view : viewRoom s n (emptied s n b) ≡ emptyRoom (sizesOf s n)
+  unfolding viewRoom emptyRoom seatIn
+  empty-view = view-none s (seatBytes n) (seatIn n) (seatTable s n (emptied s n b)) vacant empty-count (λ r. refl)

@@ -1,0 +1,131 @@
+-- What is looked up in the bytes of a whole room is what the rules look up in the room that the bytes are: the seat that holds a key, the lowest
+-- empty seat, whether a seat is taken and what it holds, the route of a seat that wants a key, its lowest free place, and the route at a place.
+use mathlib.Core.Path.{_≡_, refl, sym, ap, ap₂, _∙_}
+use mathlib.Core.Bool.{Bool, true, false, _&&_, not, cond, Bool·not-not}
+use mathlib.Core.List.{List}
+use Prim.Native.Nat.{ℕ, _<_}
+use native.Mathlib.Omega.{arith}
+use lib.Dec.{ltb}
+use lib.ListN.{length, take, drop, getD}
+use borrow.Author.Tests.{ltb-true, ltb-false, lt-ltb}
+use Rattle.key.specs.Keys.{sameKey}
+use Rattle.table.specs.Bytes.{member}
+use Rattle.table.specs.Table.{listed, recordAt, keyAt}
+use Rattle.table.proofs.KeyOrder.{both}
+use Rattle.table.proofs.FitsLaws.{used-in}
+use Rattle.table.proofs.TableLaws.{key-record}
+use Rattle.rules.specs.Room.{Key, free, vacant, holds, find, seatOf, isVacant, routeTo, isFree, routesOf, seatAt}
+use Rattle.rules.proofs.FindLaws.{vacant-no-key, free-not-to}
+use Rattle.room.specs.Layout.{seatBytes, fitsRoom, seatTable, seatStart, routesTable}
+use Rattle.room.specs.View.{routeIn, viewRoutes, seatIn, viewRoom}
+use Rattle.room.specs.Whole.{roomWhole}
+use Rattle.room.specs.Lookup.{seatHolding, lowestEmpty, taken, routeWanting, lowestRoute, routeAtPlace, routeOfPlace, hasSeat}
+use Rattle.room.proofs.LayoutLaws.{length-seats, length-routes}
+use Rattle.room.proofs.TablesLaws.{seat-key-stands, routes-in-record}
+use Rattle.room.proofs.ViewLaws.{route-at, route-past, seat-at, seat-past}
+use Rattle.room.proofs.WholeLaws.{whole-fits, whole-seats, whole-seat-table, whole-routes, whole-routes-table}
+use Rattle.room.proofs.ViewFinds.{finds-by-key, finds-unlisted}
+
+-- ---- the tests, on what a place is
+
+vacant-unlisted : (n : ℕ) (u : Bool) (r : List ℕ) → isVacant (seatIn n u r) ≡ not u
+unfolding isVacant seatIn
+vacant-unlisted n true r = refl
+vacant-unlisted n false r = refl
+
+free-unlisted : (u : Bool) (r : List ℕ) → isFree (routeIn u r) ≡ not u
+unfolding isFree routeIn
+free-unlisted true r = refl
+free-unlisted false r = refl
+
+seat-keyed : (n : ℕ) (key : Key) (r : List ℕ) → seatOf key (seatIn n true r) ≡ sameKey (take 32 r) key
+unfolding seatOf seatIn
+seat-keyed n key r = refl
+
+-- a route's record is its key
+route-keyed : (n : ℕ) (table : List ℕ) (key : Key) (m : ℕ) → routeTo key (routeIn true (recordAt n 32 table m)) ≡ sameKey (keyAt n 32 table m) key
+unfolding routeTo routeIn recordAt keyAt
+route-keyed n table key m = refl
+
+-- ---- THE LAWS, in a whole room
+
+module _ (s n : ℕ) (b : List ℕ) (whole : roomWhole s n b ≡ true) where
+  fits : fitsRoom s n b ≡ true
+  fits = whole-fits s n b whole
+
+  long : s < length (seatTable s n b)
+  long = let q = length-seats s n b fits in omega arith
+
+  -- ---- seats
+
+  pub seat-holding-finds : (key : Key) → seatHolding s n b key ≡ find (seatOf key) (viewRoom s n b)
+  unfolding seatHolding viewRoom
+  seat-holding-finds key =
+      rw fits
+      (sym (finds-by-key s (seatBytes n) (seatTable s n b) (whole-seat-table s n b whole) (whole-seats s n b whole) (seatIn n) vacant (seatOf key) key
+      (λ r. vacant-no-key key (seatIn n false r) (vacant-unlisted n false r))
+      (λ m l.
+      seat-keyed n key (recordAt s (seatBytes n) (seatTable s n b) m)
+      ∙ ap (λ (k : Key). sameKey k key) (sym (key-record s (seatBytes n) (seatTable s n b) m (omega arith))))))
+
+  pub lowest-empty-finds : lowestEmpty s n b ≡ find isVacant (viewRoom s n b)
+  unfolding lowestEmpty viewRoom
+  lowest-empty-finds =
+      rw fits
+      (sym (finds-unlisted s (seatBytes n) (seatTable s n b) (whole-seat-table s n b whole) (whole-seats s n b whole) (seatIn n) vacant isVacant (vacant-unlisted n)))
+
+  pub taken-is : (i : ℕ) → taken s n b i ≡ not (isVacant (seatAt (viewRoom s n b) i))
+  unfolding taken
+  taken-is i = rw (fits, used-in s (seatTable s n b) long i) (go (ltb i s) refl)
+    where
+      go : (u : Bool) → ltb i s ≡ u → (u && member i (listed s (seatTable s n b))) ≡ not (isVacant (seatAt (viewRoom s n b) i))
+      go true e =
+          rw (seat-at s n b i (ltb-true i s e), vacant-unlisted n (member i (listed s (seatTable s n b))) (recordAt s (seatBytes n) (seatTable s n b) i))
+          (sym (Bool·not-not (member i (listed s (seatTable s n b)))))
+      go false e = rw (seat-past s n b i (ltb-false i s e)) (unfold isVacant in refl)
+
+  -- ---- a seat that is taken
+
+  module _ (i : ℕ) (sits : taken s n b i ≡ true) where
+    within : i < s
+    unfolding taken
+    within = ltb-true i s (both (fitsRoom s n b) _ (both (fitsRoom s n b && ltb i s) _ sits .0) .1)
+
+    lists : member i (listed s (seatTable s n b)) ≡ true
+    unfolding taken
+    lists = sym (used-in s (seatTable s n b) long i) ∙ both (fitsRoom s n b && ltb i s) _ sits .1
+
+    pub taken-holds : seatAt (viewRoom s n b) i ≡ holds (take 32 (drop (seatStart s n i) b)) (viewRoutes n (routesTable s n b i))
+    unfolding seatIn
+    taken-holds =
+        rw (seat-at s n b i within, lists)
+        (ap₂ holds (seat-key-stands s n b i within) (ap (viewRoutes n) (sym (routes-in-record s n b i within))))
+
+    routes-are : routesOf (seatAt (viewRoom s n b) i) ≡ viewRoutes n (routesTable s n b i)
+    unfolding routesOf
+    routes-are = ap routesOf taken-holds
+
+    pub route-wanting-finds : (key : Key) → routeWanting s n b i key ≡ find (routeTo key) (routesOf (seatAt (viewRoom s n b) i))
+    unfolding routeWanting viewRoutes
+    route-wanting-finds key =
+        rw (fits, lt-ltb i s within, routes-are)
+        (sym (finds-by-key n 32 (routesTable s n b i) (whole-routes-table s n b whole i lists) (whole-routes s n b whole i lists) routeIn free (routeTo key) key
+        (λ r. free-not-to key (routeIn false r) (free-unlisted false r)) (λ m l. route-keyed n (routesTable s n b i) key m)))
+
+    pub lowest-route-finds : lowestRoute s n b i ≡ find isFree (routesOf (seatAt (viewRoom s n b) i))
+    unfolding lowestRoute viewRoutes
+    lowest-route-finds =
+        rw (fits, lt-ltb i s within, routes-are)
+        (sym (finds-unlisted n 32 (routesTable s n b i) (whole-routes-table s n b whole i lists) (whole-routes s n b whole i lists) routeIn free isFree free-unlisted))
+
+    pub route-at-place-is : (j : ℕ) → routeAtPlace s n b i j ≡ getD (routesOf (seatAt (viewRoom s n b) i)) j free
+    unfolding routeAtPlace routeOfPlace hasSeat
+    route-at-place-is j =
+        let l : n < length (routesTable s n b i) = let q = length-routes s n b fits i within in omega arith in
+        rw (fits, lt-ltb i s within, routes-are, used-in n (routesTable s n b i) l j) (go (ltb j n) refl)
+      where
+        go : (u : Bool) → ltb j n ≡ u →
+            cond u (routeIn (member j (listed n (routesTable s n b i))) (recordAt n 32 (routesTable s n b i) j)) free
+            ≡ getD (viewRoutes n (routesTable s n b i)) j free
+        go true e = sym (route-at n (routesTable s n b i) j (ltb-true j n e))
+        go false e = sym (route-past n (routesTable s n b i) j (ltb-false j n e))

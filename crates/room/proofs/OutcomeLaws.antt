@@ -1,0 +1,124 @@
+-- What a call makes of a whole room fits it. So a call's changes stored in the bytes of a whole room are the room that the rules leave, and the
+-- bytes stay whole. The key of one who arrives has 32 bytes; that of a routing request has, by the packet's length.
+use mathlib.Core.Path.{_≡_, refl}
+use mathlib.Core.Bool.{true, false≢true}
+use mathlib.Core.List.{List}
+use Prim.Native.Nat.{ℕ, _<_}
+use native.Mathlib.Omega.{arith}
+use lib.ListN.{length, getD}
+use Rattle.packet.specs.Read.{Read}
+use Rattle.packet.specs.Read as read
+use Rattle.packet.specs.FromClient as client
+use Rattle.rules.specs.Room.{Key, Route, free, wants, Seat, vacant, holds, Room, Found, none, at, find, seatOf, isVacant, routeTo, isFree, seatAt, routeAt, Peer, apart, joined}
+use Rattle.rules.specs.Whole.{Whole}
+use Rattle.rules.specs.Call.{Call, arrive, leave, packetCall}
+use Rattle.rules.specs.Outcome.{refuse, accept, roomAfter, peer, arriveAt, leaveFrom, requestAt, dropAt, oobTo, carryTo, dataAt, act, actOn, packetFrom, outcome}
+use Rattle.rules.proofs.FindLaws.{find-hit, find-within, wanted-place}
+use Rattle.rules.proofs.AnswerLaws.{request-key-long}
+use Rattle.room.specs.View.{viewRoom}
+use Rattle.room.specs.Whole.{roomWhole}
+use Rattle.room.specs.Store.{storeAll}
+use Rattle.room.proofs.TablesLaws.{sizesOf}
+use Rattle.room.proofs.WholeLaws.{whole-view}
+use Rattle.room.proofs.StoreLaws.{takes, empties, gives, frees, FitAll, store-all-is-apply-all}
+
+-- a key that arrives has 32 bytes
+abbrev pub KeyOf32 : Call → Type 0
+KeyOf32 (arrive key) = length key ≡ 32
+KeyOf32 (leave seat) = Unit {0}
+KeyOf32 (packetCall seat bytes) = Unit {0}
+
+is-vacant : (x : Seat) → isVacant x ≡ true → x ≡ vacant
+unfolding isVacant
+is-vacant vacant h = refl
+is-vacant (holds k routes) h = absurd (false≢true h)
+
+is-free : (x : Route) → isFree x ≡ true → x ≡ free
+unfolding isFree
+is-free free h = refl
+is-free (wants k) h = absurd (false≢true h)
+
+module _ (s n : ℕ) (room : Room) (whole : Whole (sizesOf s n) room) where
+  arrive-fits : (key : Key) → length key ≡ 32 → (seated empty : Found) → find (seatOf key) room ≡ seated → find isVacant room ≡ empty
+      → FitAll s n room (arriveAt seated empty key .changes)
+  unfolding arriveAt refuse accept
+  arrive-fits key l (at i) empty e d = tt
+  arrive-fits key l none none e d = tt
+  arrive-fits key l none (at seat) e d =
+      let w = find-within isVacant room seat d in
+      let q = whole .seats in
+      let below : seat < s = omega arith in
+      (takes below (unfold seatAt in is-vacant (getD room seat vacant) (find-hit isVacant vacant room seat d)) e l, tt)
+
+  leave-fits : (seat : ℕ) (x : Seat) → seatAt room seat ≡ x → FitAll s n room (leaveFrom x room seat .changes)
+  unfolding leaveFrom refuse accept
+  leave-fits seat vacant e = tt
+  leave-fits seat (holds key routes) e = (empties e, tt)
+
+  module _ (seat : ℕ) (key : Key) (routes : List Route) (sits : seatAt room seat ≡ holds key routes) where
+    request-fits : (wanted : Key) → length wanted ≡ 32 → (held lowest : Found) → find (routeTo wanted) routes ≡ held → find isFree routes ≡ lowest
+        → FitAll s n room (requestAt held lowest room seat key wanted .changes)
+    unfolding requestAt accept
+    request-fits wanted l (at place) lowest e d = tt
+    request-fits wanted l none none e d = tt
+    request-fits wanted l none (at place) e d =
+        let w = find-within isFree routes place d in
+        let q = whole .numbers seat key routes sits in
+        let below : place < n = omega arith in
+        (gives sits below (is-free (getD routes place free) (find-hit isFree free routes place d)) e l, tt)
+
+    drop-fits : (number : ℕ) (route : Route) → routeAt routes number ≡ route → FitAll s n room (dropAt route room seat key number .changes)
+    unfolding dropAt accept refuse
+    drop-fits number free e = tt
+    drop-fits number (wants wanted) e = (frees sits (wanted-place routes number wanted e), tt)
+
+    oob-fits : (other : Found) (bytes : List ℕ) → FitAll s n room (oobTo other seat key bytes .changes)
+    unfolding oobTo accept
+    oob-fits none bytes = tt
+    oob-fits (at other) bytes = tt
+
+    carry-fits : (p : Peer) (bytes : List ℕ) → FitAll s n room (carryTo p seat bytes .changes)
+    unfolding carryTo accept refuse
+    carry-fits apart bytes = tt
+    carry-fits (joined other place) bytes = tt
+
+    data-fits : (route : Route) (bytes : List ℕ) → FitAll s n room (dataAt route room seat key bytes .changes)
+    unfolding dataAt refuse
+    data-fits free bytes = tt
+    data-fits (wants wanted) bytes = carry-fits (peer room seat key wanted) bytes
+
+    act-fits : (bytes : List ℕ) (p : client.FromClient) → client.relayRead bytes ≡ read.packet p → FitAll s n room (act p room seat key routes .changes)
+    unfolding act accept
+    act-fits bytes (client.routingRequest wanted) e =
+        request-fits wanted (request-key-long bytes wanted e) (find (routeTo wanted) routes) (find isFree routes) refl refl
+    act-fits bytes (client.dropRoute number) e = drop-fits number (routeAt routes number) refl
+    act-fits bytes (client.ping m) e = tt
+    act-fits bytes (client.pong m) e = tt
+    act-fits bytes (client.oobSend wanted content) e = oob-fits (find (seatOf wanted) room) content
+    act-fits bytes (client.routedData number content) e = data-fits (routeAt routes number) content
+
+    read-fits : (bytes : List ℕ) (r : Read client.FromClient) → client.relayRead bytes ≡ r → FitAll s n room (actOn r room seat key routes .changes)
+    unfolding actOn refuse
+    read-fits bytes (read.packet p) e = act-fits bytes p e
+    read-fits bytes (read.refused why) e = tt
+
+  packet-fits : (seat : ℕ) (bytes : List ℕ) (x : Seat) → seatAt room seat ≡ x → FitAll s n room (packetFrom x room seat bytes .changes)
+  unfolding packetFrom refuse
+  packet-fits seat bytes vacant e = tt
+  packet-fits seat bytes (holds key routes) e = read-fits seat key routes e bytes (client.relayRead bytes) refl
+
+  -- what a call makes of a whole room fits it
+  pub outcome-fits : (call : Call) → KeyOf32 call → FitAll s n room (outcome room call .changes)
+  unfolding outcome
+  outcome-fits (arrive key) l = arrive-fits key l (find (seatOf key) room) (find isVacant room) refl refl
+  outcome-fits (leave seat) l = leave-fits seat (seatAt room seat) refl
+  outcome-fits (packetCall seat bytes) l = packet-fits seat bytes (seatAt room seat) refl
+
+-- THE LAW: a call's changes stored in whole bytes are the room that the rules leave, whole, and the memory keeps its length
+pub outcome-stored : (s n : ℕ) (b : List ℕ) → roomWhole s n b ≡ true → (call : Call) → KeyOf32 call
+    → (viewRoom s n (storeAll s n b (outcome (viewRoom s n b) call .changes)) ≡ roomAfter (sizesOf s n) (viewRoom s n b) (outcome (viewRoom s n b) call))
+    × (roomWhole s n (storeAll s n b (outcome (viewRoom s n b) call .changes)) ≡ true)
+    × (length (storeAll s n b (outcome (viewRoom s n b) call .changes)) ≡ length b)
+unfolding roomAfter
+outcome-stored s n b o call l =
+    store-all-is-apply-all s n b o (outcome (viewRoom s n b) call .changes) (outcome-fits s n (viewRoom s n b) (whole-view s n b o) call l)

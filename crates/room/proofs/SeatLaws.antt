@@ -1,0 +1,174 @@
+-- A seat of a whole room taken or emptied in its table of seats: the room changes at that seat alone, and stays whole.
+use mathlib.Core.Path.{_≡_, refl, sym, ap, ap₂, _∙_}
+use mathlib.Core.Bool.{Bool, true, false, _||_, true≢false}
+use mathlib.Core.List.{List, [], _∷_, _++_, append-assoc}
+use Prim.Native.Nat.{ℕ, _≤_, _<_}
+use native.Mathlib.Omega.{arith}
+use lib.ListN.{length, take, drop, set, replicate, length-append}
+use lib.Seq.{take-at, drop-at, drop-drop}
+use lib.Dec.{eqb}
+use borrow.Author.Tests.{eqb-true, eqb-false}
+use Rattle.key.proofs.Same.{same-refl}
+use Rattle.table.specs.Bytes.{member, indexOf}
+use Rattle.table.specs.Table.{Table, count, listed, recordAt, keyAt, tableWhole, placeOf, put, putIn, freed, freedIn}
+use Rattle.table.proofs.Listed.{whole-count, whole-none}
+use Rattle.table.proofs.Places.{member-in}
+use Rattle.table.proofs.TableLaws.{key-record, put-listed, put-other, put-same, length-put, view-put, whole-put, freed-listed, freed-record, length-freed, view-freed, whole-freed}
+use Rattle.table.proofs.Distinct.{member-less, unlisted-leaves-room}
+use Rattle.table.proofs.FitsLaws.{freed-in}
+use Rattle.table.proofs.PutLaws.{put-in-is-put}
+use Rattle.table.proofs.NoneListed.{view-none}
+use Rattle.rules.specs.Room.{Key, Route, free, Seat, vacant, holds, none, find, seatOf, seatAt}
+use Rattle.rules.proofs.FindLaws.{find-miss}
+use Rattle.room.specs.Layout.{keyBytes, routesInSeat, seatBytes, seatsBytes, fitsRoom, seatTable}
+use Rattle.room.specs.View.{routeIn, viewRoutes, seatIn, viewRoom}
+use Rattle.room.specs.Whole.{roomWhole}
+use Rattle.room.specs.Store.{newSeat, withSeats}
+use Rattle.room.proofs.ViewLaws.{view-is, seat-at, seat-vacant, seat-holds}
+use Rattle.room.proofs.WholeLaws.{whole-fits, whole-header, whole-seats, whole-seat-table, listed-below, whole-record-routes}
+use Rattle.room.proofs.ReplaceLaws.{seats-view, seats-length, seats-whole}
+
+-- ---- how a seat's record begins
+
+no-routes : (n : ℕ) (x : List ℕ) → viewRoutes n (0 ∷ x) ≡ replicate n free
+unfolding viewRoutes routeIn
+no-routes n x = view-none n keyBytes routeIn (0 ∷ x) free refl (λ r. refl)
+
+module _ (key : Key) (e : length key ≡ 32) where
+  new-length : length (newSeat key) ≡ 41
+  unfolding newSeat
+  new-length = rw length-append (omega arith)
+
+  new-key : take 32 (newSeat key) ≡ key
+  unfolding newSeat
+  new-key = take-at key (replicate 8 0 ++ (0 ∷ [])) 32 e
+
+  module _ (x : List ℕ) where
+    new-routes : drop routesInSeat (newSeat key ++ x) ≡ 0 ∷ x
+    unfolding newSeat
+    new-routes =
+        ap (drop 40) (append-assoc key (replicate 8 0 ++ (0 ∷ [])) x)
+        ∙ sym (drop-drop 8 32 (key ++ ((replicate 8 0 ++ (0 ∷ [])) ++ x)))
+        ∙ ap (drop 8) (drop-at key ((replicate 8 0 ++ (0 ∷ [])) ++ x) 32 e)
+
+    first-key : take keyBytes (newSeat key ++ x) ≡ key
+    unfolding newSeat
+    first-key =
+        ap (take 32) (append-assoc key (replicate 8 0 ++ (0 ∷ [])) x)
+        ∙ take-at key ((replicate 8 0 ++ (0 ∷ [])) ++ x) 32 e
+
+    new-seat : (n : ℕ) → seatIn n true (newSeat key ++ x) ≡ holds key (replicate n free)
+    unfolding seatIn
+    new-seat n = ap₂ holds first-key (ap (viewRoutes n) new-routes ∙ no-routes n x)
+
+module _ (s n : ℕ) (b : List ℕ) (o : roomWhole s n b ≡ true) (i : ℕ) where
+  f : fitsRoom s n b ≡ true
+  f = whole-fits s n b o
+
+  t : Table s (seatBytes n) (seatTable s n b)
+  t = whole-seat-table s n b o
+
+  long : s < length (seatTable s n b)
+  long = let q = t .long in omega arith
+
+  -- ---- taken
+
+  module _ (h : i < s) (key : Key) (e : length key ≡ 32) (unused : seatAt (viewRoom s n b) i ≡ vacant) (fresh : find (seatOf key) (viewRoom s n b) ≡ none) where
+    absent : member i (listed s (seatTable s n b)) ≡ false
+    absent = seat-vacant s n b i h unused
+
+    left-room : count (seatTable s n b) < s
+    left-room = unlisted-leaves-room s (seatBytes n) (seatTable s n b) long (whole-seats s n b o) i h absent
+
+    most : length (newSeat key) ≤ seatBytes n
+    most = let q = new-length key e in omega arith
+
+    is-put : putIn s (seatBytes n) (seatTable s n b) i (newSeat key) ≡ put s (seatBytes n) (seatTable s n b) i (newSeat key)
+    is-put = put-in-is-put s (seatBytes n) (seatTable s n b) t (whole-seats s n b o) i h absent (newSeat key) (let q = new-length key e in omega arith) most
+
+    put-long : length (put s (seatBytes n) (seatTable s n b) i (newSeat key)) ≡ seatsBytes s n
+    put-long = length-put s (seatBytes n) (seatTable s n b) i (newSeat key) t left-room h most ∙ t .long
+
+    -- a seat that is listed holds its key
+    holds-key : (x : ℕ) → member x (listed s (seatTable s n b)) ≡ true → seatOf (keyAt s (seatBytes n) (seatTable s n b) x) (seatAt (viewRoom s n b) x) ≡ true
+    holds-key x m =
+        ap (seatOf (keyAt s (seatBytes n) (seatTable s n b) x))
+        (seat-at s n b x (listed-below s n b o x m) ∙ ap (λ (u : Bool). seatIn n u (recordAt s (seatBytes n) (seatTable s n b) x)) m)
+        ∙ passes (recordAt s (seatBytes n) (seatTable s n b) x) (keyAt s (seatBytes n) (seatTable s n b) x) (key-record s (seatBytes n) (seatTable s n b) x (omega arith))
+      where
+        passes : (r : List ℕ) (k : Key) → k ≡ take 32 r → seatOf k (seatIn n true r) ≡ true
+        passes r k q = rw q (unfold seatOf seatIn in same-refl (take 32 r))
+
+    key-fresh : (x : ℕ) → member x (listed s (seatTable s n b)) ≡ true → keyAt s (seatBytes n) (seatTable s n b) x ≡ take 32 (newSeat key) → ⊥
+    key-fresh x m q =
+        true≢false
+        (sym (ap (λ (k : Key). seatOf k (seatAt (viewRoom s n b) x)) (sym (q ∙ new-key key e)) ∙ holds-key x m)
+        ∙ missed)
+      where
+        missed : seatOf key (seatAt (viewRoom s n b) x) ≡ false
+        missed = unfold seatAt in find-miss (seatOf key) vacant (viewRoom s n b) (unfold seatOf in refl) fresh x
+
+    put-routes : (j : ℕ) (u : Bool) → eqb i j ≡ u → (u || member j (listed s (seatTable s n b))) ≡ true
+        → (j < s) × (tableWhole n keyBytes (drop routesInSeat (recordAt s (seatBytes n) (put s (seatBytes n) (seatTable s n b) i (newSeat key)) j)) ≡ true)
+    put-routes j true q m = rw (← eqb-true i j q) (
+      h,
+      ap (tableWhole n keyBytes)
+          (ap (drop routesInSeat) (put-same s (seatBytes n) (seatTable s n b) i (newSeat key) t left-room h most)
+          ∙ new-routes key e (drop (length (newSeat key)) (recordAt s (seatBytes n) (seatTable s n b) i)))
+          ∙ whole-none n keyBytes (0 ∷ drop (length (newSeat key)) (recordAt s (seatBytes n) (seatTable s n b) i)) refl,
+    )
+    put-routes j false q m = (
+      listed-below s n b o j m,
+      ap (λ (x : List ℕ). tableWhole n keyBytes (drop routesInSeat x))
+          (put-other s (seatBytes n) (seatTable s n b) i (newSeat key) t left-room h most j (listed-below s n b o j m) (λ d. eqb-false i j q (sym d)))
+          ∙ whole-record-routes s n b o j m,
+    )
+
+    pub seat-taken : (viewRoom s n (withSeats s n b (putIn s (seatBytes n) (seatTable s n b) i (newSeat key))) ≡ set (viewRoom s n b) i (holds key (replicate n free)))
+        × (roomWhole s n (withSeats s n b (putIn s (seatBytes n) (seatTable s n b) i (newSeat key))) ≡ true)
+        × (length (withSeats s n b (putIn s (seatBytes n) (seatTable s n b) i (newSeat key))) ≡ length b)
+    seat-taken = rw is-put (
+      seats-view s n b f (put s (seatBytes n) (seatTable s n b) i (newSeat key)) put-long
+          ∙ view-put s (seatBytes n) (seatTable s n b) i (newSeat key) t left-room h most (seatIn n)
+          ∙ ap₂ (λ (x : List Seat) (y : Seat). set x i y) (view-is s n b) (new-seat key e (drop (length (newSeat key)) (recordAt s (seatBytes n) (seatTable s n b) i)) n),
+      seats-whole s n b f (put s (seatBytes n) (seatTable s n b) i (newSeat key)) put-long (whole-header s n b o)
+          (whole-put s (seatBytes n) (seatTable s n b) i (newSeat key) t left-room h most (whole-seats s n b o) (let q = new-length key e in omega arith) absent key-fresh)
+          (λ j m. put-routes j (eqb i j) refl
+          (sym (member-in j (placeOf s (seatBytes n) (seatTable s n b) (take 32 (newSeat key))) i (listed s (seatTable s n b)))
+          ∙ ap (member j) (sym (put-listed s (seatBytes n) (seatTable s n b) i (newSeat key) t left-room h most)) ∙ m)),
+      seats-length s n b f (put s (seatBytes n) (seatTable s n b) i (newSeat key)) put-long,
+    )
+
+  -- ---- emptied
+
+  module _ (key : Key) (routes : List Route) (e : seatAt (viewRoom s n b) i ≡ holds key routes) where
+    present : member i (listed s (seatTable s n b)) ≡ true
+    present = seat-holds s n b i key routes e .1
+
+    freed-long : length (freed s (seatTable s n b) i) ≡ seatsBytes s n
+    freed-long = length-freed s (seatBytes n) (seatTable s n b) i t (whole-seats s n b o) present ∙ t .long
+
+    freed-routes : (j : ℕ) → member j (listed s (freed s (seatTable s n b) i)) ≡ true
+        → (j < s) × (tableWhole n keyBytes (drop routesInSeat (recordAt s (seatBytes n) (freed s (seatTable s n b) i) j)) ≡ true)
+    freed-routes j m =
+        let d = member-less j (indexOf i (listed s (seatTable s n b))) (listed s (seatTable s n b))
+        (ap (member j) (sym (freed-listed s (seatBytes n) (seatTable s n b) i t (whole-seats s n b o) present)) ∙ m) in (
+          listed-below s n b o j d,
+          ap (λ (x : List ℕ). tableWhole n keyBytes (drop routesInSeat x)) (freed-record s (seatBytes n) (seatTable s n b) i t (whole-seats s n b o) present j)
+              ∙ whole-record-routes s n b o j d,
+        )
+
+    pub seat-emptied : (viewRoom s n (withSeats s n b (freedIn s (seatTable s n b) i)) ≡ set (viewRoom s n b) i vacant)
+        × (roomWhole s n (withSeats s n b (freedIn s (seatTable s n b) i)) ≡ true)
+        × (length (withSeats s n b (freedIn s (seatTable s n b) i)) ≡ length b)
+    seat-emptied = rw (freed-in s (seatTable s n b) long (whole-count s (seatBytes n) (seatTable s n b) (whole-seats s n b o)) i) (
+      seats-view s n b f (freed s (seatTable s n b) i) freed-long
+          ∙ view-freed s (seatBytes n) (seatTable s n b) i t (whole-seats s n b o) present (seatIn n)
+          ∙ ap₂ (λ (x : List Seat) (y : Seat). set x i y) (view-is s n b) empty,
+      seats-whole s n b f (freed s (seatTable s n b) i) freed-long (whole-header s n b o)
+          (whole-freed s (seatBytes n) (seatTable s n b) i t (whole-seats s n b o) present) freed-routes,
+      seats-length s n b f (freed s (seatTable s n b) i) freed-long,
+    )
+      where
+        empty : seatIn n false (recordAt s (seatBytes n) (seatTable s n b) i) ≡ vacant
+        empty = unfold seatIn in refl

@@ -1,0 +1,67 @@
+-- A store keeps bytes: of memory that is bytes, with a key that is bytes, it makes memory that is bytes. So does emptying.
+use mathlib.Core.Bool.{Bool, true, false, _&&_, cond}
+use mathlib.Core.List.{List, [], _∷_, _++_}
+use Prim.Native.Nat.{ℕ, zero, suc, _<_}
+use native.Mathlib.Omega.{arith}
+use lib.Dec.{ltb}
+use lib.ListN.{drop, replicate}
+use Rattle.wire.specs.Numbers.{Bytes}
+use Rattle.wire.proofs.Numbers.{bytes-append, bytes-take, bytes-drop}
+use Rattle.table.specs.Table.{putIn, freedIn}
+use Rattle.table.proofs.BytesKept.{bytes-splice, put-in-bytes, freed-in-bytes}
+use Rattle.rules.specs.Room.{Key}
+use Rattle.rules.specs.Outcome.{Change, seatTaken, seatEmptied, routeGiven, routeFreed}
+use Rattle.room.specs.Layout.{keyBytes, seatHeader, routesBytes, seatBytes, seatsBytes, roomHeader, fitsRoom, seatTable, routesStart, routesTable}
+use Rattle.room.specs.Store.{emptied, newSeat, withSeats, withRoutes, store}
+use Rattle.room.proofs.BuiltUp.{Brings}
+
+pub bytes-replicate : (n x : ℕ) → x < 256 → Bytes (replicate n x)
+bytes-replicate zero x h = tt
+bytes-replicate (suc n) x h = (h, bytes-replicate n x h)
+
+bytes-new-seat : (key : Key) → Bytes key → Bytes (newSeat key)
+unfolding newSeat
+bytes-new-seat key g =
+    bytes-append key (replicate seatHeader 0 ++ (0 ∷ [])) g
+    (bytes-append (replicate seatHeader 0) (0 ∷ []) (bytes-replicate seatHeader 0 (omega arith)) (omega arith, tt))
+
+module _ (s n : ℕ) (b : List ℕ) (g : Bytes b) where
+  bytes-seats : Bytes (seatTable s n b)
+  unfolding seatTable
+  bytes-seats = bytes-take (seatsBytes s n) (drop roomHeader b) (bytes-drop roomHeader b g)
+
+  bytes-routes : (i : ℕ) → Bytes (routesTable s n b i)
+  unfolding routesTable
+  bytes-routes i = bytes-take (routesBytes n) (drop (routesStart s n i) b) (bytes-drop (routesStart s n i) b g)
+
+  seats-back : (table : List ℕ) → Bytes table → Bytes (withSeats s n b table)
+  unfolding withSeats
+  seats-back table h = bytes-splice b roomHeader table (seatsBytes s n) g h
+
+  routes-back : (i : ℕ) (table : List ℕ) → Bytes table → Bytes (withRoutes s n b i table)
+  unfolding withRoutes
+  routes-back i table h = bytes-splice b (routesStart s n i) table (routesBytes n) g h
+
+  either : (u : Bool) (c : List ℕ) → Bytes c → Bytes (cond u c b)
+  either true c h = h
+  either false c h = g
+
+  pub store-bytes : (change : Change) → Brings Bytes change → Bytes (store s n b change)
+  unfolding store
+  store-bytes (seatTaken i key) h =
+      either (fitsRoom s n b) (withSeats s n b (putIn s (seatBytes n) (seatTable s n b) i (newSeat key)))
+      (seats-back (putIn s (seatBytes n) (seatTable s n b) i (newSeat key))
+      (put-in-bytes s (seatTable s n b) bytes-seats (seatBytes n) i (newSeat key) (bytes-new-seat key h)))
+  store-bytes (seatEmptied i) h =
+      either (fitsRoom s n b) (withSeats s n b (freedIn s (seatTable s n b) i))
+      (seats-back (freedIn s (seatTable s n b) i) (freed-in-bytes s (seatTable s n b) bytes-seats i))
+  store-bytes (routeGiven i j key) h =
+      either (fitsRoom s n b && ltb i s) (withRoutes s n b i (putIn n keyBytes (routesTable s n b i) j key))
+      (routes-back i (putIn n keyBytes (routesTable s n b i) j key) (put-in-bytes n (routesTable s n b i) (bytes-routes i) keyBytes j key h))
+  store-bytes (routeFreed i j) h =
+      either (fitsRoom s n b && ltb i s) (withRoutes s n b i (freedIn n (routesTable s n b i) j))
+      (routes-back i (freedIn n (routesTable s n b i) j) (freed-in-bytes n (routesTable s n b i) (bytes-routes i) j))
+
+  pub emptied-bytes : s < 256 → n < 256 → Bytes (emptied s n b)
+  unfolding emptied
+  emptied-bytes h k = (h, (k, (omega arith, bytes-drop 3 b g)))

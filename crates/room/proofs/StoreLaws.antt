@@ -1,0 +1,112 @@
+-- THE LAW of the stores: a change that fits the room that whole bytes are, stored in the bytes, is the rules' change of that room; the bytes stay
+-- whole and keep their length. A change fits when it takes an empty seat for a key that has none, empties a seat that holds a key, gives a free
+-- route of such a seat to a key that it does not want yet, or frees one that wants a key.
+use mathlib.Core.Path.{_≡_, refl, sym, ap, _∙_, subst}
+use mathlib.Core.Bool.{true, _&&_}
+use mathlib.Core.List.{List, [], _∷_, _++_}
+use Prim.Native.Nat.{ℕ, _<_}
+use lib.ListN.{length, getD, set}
+use lib.Dec.{ltb}
+use borrow.Author.Tests.{lt-ltb}
+use Rattle.table.specs.Table.{Table, tableWhole, putIn, freedIn}
+use Rattle.rules.specs.Room.{Key, Route, free, wants, Seat, vacant, holds, Room, none, find, seatOf, routeTo, seatAt}
+use Rattle.rules.specs.Outcome.{Change, seatTaken, seatEmptied, routeGiven, routeFreed, withRoute, apply, applyAll}
+use Rattle.room.specs.Layout.{keyBytes, routesBytes, fitsRoom, routesTable}
+use Rattle.room.specs.View.{viewRoutes, viewRoom}
+use Rattle.room.specs.Whole.{roomWhole}
+use Rattle.room.specs.Store.{withRoutes, store, storeAll}
+use Rattle.room.proofs.LayoutLaws.{length-routes}
+use Rattle.room.proofs.TablesLaws.{sizesOf}
+use Rattle.room.proofs.ViewLaws.{seat-holds}
+use Rattle.room.proofs.WholeLaws.{whole-fits, whole-routes-table, held-routes}
+use Rattle.room.proofs.ReplaceLaws.{routes-view, routes-whole, routes-length}
+use Rattle.room.proofs.RouteLaws.{route-put, route-out}
+use Rattle.room.proofs.SeatLaws.{seat-taken, seat-emptied}
+
+-- a change that fits a room
+pub data Fit (s n : ℕ) (room : Room) : Change → Type 0 where
+  takes : {i : ℕ} {key : Key} → i < s → seatAt room i ≡ vacant → find (seatOf key) room ≡ none → length key ≡ 32 → Fit s n room (seatTaken i key)
+  empties : {i : ℕ} {key : Key} {routes : List Route} → seatAt room i ≡ holds key routes → Fit s n room (seatEmptied i)
+  gives : {i j : ℕ} {key k : Key} {routes : List Route} → seatAt room i ≡ holds k routes → j < n → getD routes j free ≡ free
+      → find (routeTo key) routes ≡ none → length key ≡ 32 → Fit s n room (routeGiven i j key)
+  frees : {i j : ℕ} {k w : Key} {routes : List Route} → seatAt room i ≡ holds k routes → getD routes j free ≡ wants w → Fit s n room (routeFreed i j)
+
+module _ (s n : ℕ) (b : List ℕ) (o : roomWhole s n b ≡ true) where
+  -- where the room fits and there is a seat i, a store is done
+  fits-at : (i : ℕ) → i < s → (fitsRoom s n b && ltb i s) ≡ true
+  fits-at i h = rw (whole-fits s n b o, lt-ltb i s h)
+
+  -- a seat's routes replaced by a whole table that has one of them changed
+  module _ (i : ℕ) (key : Key) (routes : List Route) (e : seatAt (viewRoom s n b) i ≡ holds key routes) (j : ℕ) (route : Route) (new : List ℕ)
+      (q : (viewRoutes n new ≡ set (viewRoutes n (routesTable s n b i)) j route) × (tableWhole n keyBytes new ≡ true) × (length new ≡ length (routesTable s n b i))) where
+    below : i < s
+    below = seat-holds s n b i key routes e .0
+
+    long : length new ≡ routesBytes n
+    long = q .2 ∙ length-routes s n b (whole-fits s n b o) i below
+
+    route-changed : (viewRoom s n (withRoutes s n b i new) ≡ set (viewRoom s n b) i (withRoute (seatAt (viewRoom s n b) i) j route))
+        × (roomWhole s n (withRoutes s n b i new) ≡ true) × (length (withRoutes s n b i new) ≡ length b)
+    unfolding withRoute
+    route-changed = (
+      routes-view s n b o i key routes e new long
+          ∙ ap (λ (x : List Route). set (viewRoom s n b) i (holds key x)) (q .0 ∙ ap (λ (x : List Route). set x j route) (held-routes s n b o i key routes e .1))
+          ∙ ap (λ (x : Seat). set (viewRoom s n b) i (withRoute x j route)) (sym e),
+      routes-whole s n b o i key routes e new long (q .1),
+      routes-length s n b o i key routes e new long,
+    )
+
+  -- the table of routes of a seat that holds a key
+  module _ (i : ℕ) (key : Key) (routes : List Route) (e : seatAt (viewRoom s n b) i ≡ holds key routes) where
+    held-table : Table n keyBytes (routesTable s n b i)
+    held-table = whole-routes-table s n b o i (seat-holds s n b i key routes e .1)
+
+    held-whole : tableWhole n keyBytes (routesTable s n b i) ≡ true
+    held-whole = held-routes s n b o i key routes e .0
+
+    held-view : viewRoutes n (routesTable s n b i) ≡ routes
+    held-view = held-routes s n b o i key routes e .1
+
+  -- THE LAW
+  pub store-is-apply : (change : Change) → Fit s n (viewRoom s n b) change
+      → (viewRoom s n (store s n b change) ≡ apply (sizesOf s n) (viewRoom s n b) change)
+      × (roomWhole s n (store s n b change) ≡ true) × (length (store s n b change) ≡ length b)
+  unfolding store apply
+  store-is-apply (seatTaken i key) (takes h unused fresh long) =
+      rw (whole-fits s n b o) (seat-taken s n b o i h key long unused fresh)
+  store-is-apply (seatEmptied i) (empties {key = key} {routes = routes} e) =
+      rw (whole-fits s n b o) (seat-emptied s n b o i key routes e)
+  store-is-apply (routeGiven i j key) (gives {k = k} {routes = routes} e h unused fresh long) =
+      rw (fits-at i (seat-holds s n b i k routes e .0))
+      (route-changed i k routes e j (wants key) (putIn n keyBytes (routesTable s n b i) j key)
+      (route-put n (routesTable s n b i) (held-table i k routes e) (held-whole i k routes e) j h key long
+      (ap (λ (x : List Route). getD x j free) (held-view i k routes e) ∙ unused)
+      (ap (find (routeTo key)) (held-view i k routes e) ∙ fresh)))
+  store-is-apply (routeFreed i j) (frees {k = k} {w = w} {routes = routes} e h) =
+      rw (fits-at i (seat-holds s n b i k routes e .0))
+      (route-changed i k routes e j free (freedIn n (routesTable s n b i) j)
+      (route-out n (routesTable s n b i) (held-table i k routes e) (held-whole i k routes e) j w
+      (ap (λ (x : List Route). getD x j free) (held-view i k routes e) ∙ h)))
+
+-- ---- several changes
+
+-- each fits the room that those before it leave
+abbrev pub FitAll : ℕ → ℕ → Room → List Change → Type 0
+FitAll s n room [] = Unit {0}
+FitAll s n room (change ∷ changes) = Fit s n room change × FitAll s n (apply (sizesOf s n) room change) changes
+
+pub fit-append : (s n : ℕ) (room : Room) (first second : List Change) → FitAll s n room first → FitAll s n (applyAll (sizesOf s n) room first) second
+    → FitAll s n room (first ++ second)
+unfolding applyAll
+fit-append s n room [] second f g = g
+fit-append s n room (change ∷ first) second f g = (f .0, fit-append s n (apply (sizesOf s n) room change) first second (f .1) g)
+
+pub store-all-is-apply-all : (s n : ℕ) (b : List ℕ) → roomWhole s n b ≡ true → (changes : List Change) → FitAll s n (viewRoom s n b) changes
+    → (viewRoom s n (storeAll s n b changes) ≡ applyAll (sizesOf s n) (viewRoom s n b) changes)
+    × (roomWhole s n (storeAll s n b changes) ≡ true) × (length (storeAll s n b changes) ≡ length b)
+unfolding storeAll applyAll
+store-all-is-apply-all s n b o [] f = (refl, o, refl)
+store-all-is-apply-all s n b o (change ∷ changes) f =
+    let q = store-is-apply s n b o change (f .0) in
+    let r = store-all-is-apply-all s n (store s n b change) (q .1) changes (subst (λ (x : Room). FitAll s n x changes) (sym (q .0)) (f .1)) in
+    (r .0 ∙ ap (λ (x : Room). applyAll (sizesOf s n) x changes) (q .0), r .1, r .2 ∙ q .2)

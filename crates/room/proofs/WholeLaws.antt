@@ -1,0 +1,124 @@
+-- Bytes that are a whole room: they fit, the header is right, the table of seats is whole, and so is the table of routes of each seat that is
+-- listed. The room that they are is whole as the rules mean it: seated keys differ, and the wanted keys of one seat differ.
+use mathlib.Core.Path.{_≡_, refl, sym, ap, _∙_}
+use mathlib.Core.Bool.{Bool, true, false, _||_, or-true}
+use mathlib.Core.List.{List, [], _∷_}
+use Prim.Native.Nat.{ℕ, _-_, _<_}
+use native.Mathlib.Omega.{arith}
+use lib.ListN.{length, take, drop, getD}
+use lib.Dec.{eqb}
+use borrow.Author.Tests.{eq-eqb, eqb-true}
+use Rattle.table.specs.Bytes.{member}
+use Rattle.table.specs.Table.{Table, listed, recordAt, keyAt, tableWhole}
+use Rattle.table.proofs.KeyOrder.{no, both, rising-below}
+use Rattle.table.proofs.Listed.{whole-rising}
+use Rattle.table.proofs.TableLaws.{keys-apart}
+use Rattle.rules.specs.Room.{Key, Route, free, wants, holds, seatAt, firstNumber}
+use Rattle.rules.specs.Whole.{Whole}
+use Rattle.rules.proofs.FindLaws.{wanted-high, wanted-place}
+use Rattle.room.specs.Layout.{keyBytes, routesInSeat, seatBytes, fitsRoom, seatTable, routesTable}
+use Rattle.room.specs.View.{viewRoutes, viewRoom}
+use Rattle.room.specs.Whole.{headerRight, routesWhole, roomWhole}
+use Rattle.room.proofs.LayoutLaws.{seats-table, routes-table}
+use Rattle.room.proofs.TablesLaws.{sizesOf, routes-in-record}
+use Rattle.room.proofs.ViewLaws.{view-routes-length, route-wants, view-room-length, seat-holds}
+
+-- ---- the routes of several seats, by membership
+
+module _ (s n : ℕ) (b : List ℕ) where
+  routes-of : (is : List ℕ) → routesWhole s n b is ≡ true → (i : ℕ) → member i is ≡ true → tableWhole n keyBytes (routesTable s n b i) ≡ true
+  unfolding routesWhole member
+  routes-of [] h i m = absurd (no m)
+  routes-of (j ∷ is) h i m =
+      let q = both (tableWhole n keyBytes (routesTable s n b j)) _ h in
+      go (eqb j i) refl m (q .0) (routes-of is (q .1) i)
+    where
+      go : (t : Bool) → eqb j i ≡ t → (t || member i is) ≡ true → tableWhole n keyBytes (routesTable s n b j) ≡ true
+          → (member i is ≡ true → tableWhole n keyBytes (routesTable s n b i) ≡ true) → tableWhole n keyBytes (routesTable s n b i) ≡ true
+      go true e m a ih = rw (← eqb-true j i e) a
+      go false e m a ih = ih m
+
+  routes-made : (is : List ℕ) → ((i : ℕ) → member i is ≡ true → tableWhole n keyBytes (routesTable s n b i) ≡ true) → routesWhole s n b is ≡ true
+  unfolding routesWhole member
+  routes-made [] h = refl
+  routes-made (j ∷ is) h = rw (h j (rw (eq-eqb j j refl))) (routes-made is (λ i m. h i (rw (m, or-true (eqb j i)))))
+
+  -- bytes are a whole room where all of this is so
+  pub make-whole : fitsRoom s n b ≡ true → headerRight s n b ≡ true → tableWhole s (seatBytes n) (seatTable s n b) ≡ true
+      → ((i : ℕ) → member i (listed s (seatTable s n b)) ≡ true → tableWhole n keyBytes (routesTable s n b i) ≡ true) → roomWhole s n b ≡ true
+  unfolding roomWhole
+  make-whole f h t r = rw (f, h, t) (routes-made (listed s (seatTable s n b)) r)
+
+-- ---- what a whole room is
+
+module _ (s n : ℕ) (b : List ℕ) (o : roomWhole s n b ≡ true) where
+  parts : (fitsRoom s n b ≡ true) × (headerRight s n b ≡ true) × (tableWhole s (seatBytes n) (seatTable s n b) ≡ true)
+      × (routesWhole s n b (listed s (seatTable s n b)) ≡ true)
+  unfolding roomWhole
+  parts =
+      let q = both (fitsRoom s n b) _ o in
+      let r = both (headerRight s n b) _ (q .1) in
+      let t = both (tableWhole s (seatBytes n) (seatTable s n b)) _ (r .1) in
+      (q .0, r .0, t .0, t .1)
+
+  pub whole-fits : fitsRoom s n b ≡ true
+  whole-fits = parts .0
+
+  pub whole-header : headerRight s n b ≡ true
+  whole-header = parts .1
+
+  pub whole-seats : tableWhole s (seatBytes n) (seatTable s n b) ≡ true
+  whole-seats = parts .2
+
+  pub whole-seat-table : Table s (seatBytes n) (seatTable s n b)
+  whole-seat-table = seats-table s n b whole-fits
+
+  pub listed-below : (i : ℕ) → member i (listed s (seatTable s n b)) ≡ true → i < s
+  listed-below =
+      rising-below s (keyAt s (seatBytes n) (seatTable s n b)) (listed s (seatTable s n b)) (whole-rising s (seatBytes n) (seatTable s n b) whole-seats)
+
+  pub whole-routes : (i : ℕ) → member i (listed s (seatTable s n b)) ≡ true → tableWhole n keyBytes (routesTable s n b i) ≡ true
+  whole-routes = routes-of s n b (listed s (seatTable s n b)) (parts .3)
+
+  -- and so by the end of the seat's record
+  pub whole-record-routes : (i : ℕ) → member i (listed s (seatTable s n b)) ≡ true
+      → tableWhole n keyBytes (drop routesInSeat (recordAt s (seatBytes n) (seatTable s n b) i)) ≡ true
+  whole-record-routes i m = ap (tableWhole n keyBytes) (sym (routes-in-record s n b i (listed-below i m))) ∙ whole-routes i m
+
+  pub whole-routes-table : (i : ℕ) → member i (listed s (seatTable s n b)) ≡ true → Table n keyBytes (routesTable s n b i)
+  whole-routes-table i m = routes-table s n b whole-fits i (listed-below i m)
+
+  -- a seat that holds a key: its table of routes is whole, and has its routes
+  pub held-routes : (i : ℕ) (key : Key) (routes : List Route) → seatAt (viewRoom s n b) i ≡ holds key routes
+      → (tableWhole n keyBytes (routesTable s n b i) ≡ true) × (viewRoutes n (routesTable s n b i) ≡ routes)
+  held-routes i key routes e =
+      let q = seat-holds s n b i key routes e in
+      (whole-routes i (q .1), ap (viewRoutes n) (routes-in-record s n b i (q .0)) ∙ q .3)
+
+-- in a whole table of routes a key is wanted at one place
+wanted-once : (n : ℕ) (r : List ℕ) → tableWhole n keyBytes r ≡ true → (key : Key) (i j : ℕ)
+    → getD (viewRoutes n r) i free ≡ wants key → getD (viewRoutes n r) j free ≡ wants key → i ≡ j
+wanted-once n r o key i j ei ej =
+    let a = route-wants n r i key ei in
+    let c = route-wants n r j key ej in
+    keys-apart n keyBytes r o (omega arith) i j (a .1) (c .1) (ap (take 32) (a .2 ∙ sym (c .2)))
+
+-- THE LAW: the room that whole bytes are is whole
+pub whole-view : (s n : ℕ) (b : List ℕ) → roomWhole s n b ≡ true → Whole (sizesOf s n) (viewRoom s n b)
+whole-view s n b o = record {
+  seats = view-room-length s n b;
+  numbers = λ i key routes e. ap length (sym (held-routes s n b o i key routes e .1)) ∙ view-routes-length n (routesTable s n b i);
+  seated = λ key i j routes routes′ ei ej.
+      let a = seat-holds s n b i key routes ei in
+      let c = seat-holds s n b j key routes′ ej in
+      keys-apart s (seatBytes n) (seatTable s n b) (whole-seats s n b o) (omega arith) i j (a .1) (c .1) (a .2 ∙ sym (c .2));
+  wanted = λ i key routes e other x y ex ey.
+      let q = held-routes s n b o i key routes e in
+      let hx = wanted-high routes x other ex in
+      let hy = wanted-high routes y other ey in
+      let z : x - firstNumber ≡ y - firstNumber
+      = wanted-once n (routesTable s n b i) (q .0) other (x - firstNumber) (y - firstNumber)
+      (ap (λ (l : List Route). getD l (x - firstNumber) free) (q .1) ∙ wanted-place routes x other ex)
+      (ap (λ (l : List Route). getD l (y - firstNumber) free) (q .1) ∙ wanted-place routes y other ey) in
+      omega arith;
+}

@@ -1,0 +1,23 @@
+-- The room that bytes are: document 01's room as `rules` has it. A seat or a route that its table does not list is empty or free, whatever its
+-- record holds.
+use mathlib.Core.Bool.{Bool, true, false}
+use mathlib.Core.List.{List}
+use Prim.Native.Nat.{ℕ}
+use lib.ListN.{take, drop}
+use Rattle.table.specs.Table.{view}
+use Rattle.rules.specs.Room.{Route, free, wants, Seat, vacant, holds, Room}
+use Rattle.room.specs.Layout.{keyBytes, routesInSeat, seatBytes, seatTable}
+
+unfoldable pub routeIn : Bool → List ℕ → Route
+routeIn false bytes = free
+routeIn true bytes = wants bytes
+
+unfoldable pub viewRoutes : ℕ → List ℕ → List Route
+viewRoutes n table = view n keyBytes routeIn table
+
+unfoldable pub seatIn : ℕ → Bool → List ℕ → Seat
+seatIn n false bytes = vacant
+seatIn n true bytes = holds (take keyBytes bytes) (viewRoutes n (drop routesInSeat bytes))
+
+unfoldable pub viewRoom : ℕ → ℕ → List ℕ → Room
+viewRoom s n b = view s (seatBytes n) (seatIn n) (seatTable s n b)

@@ -1,0 +1,100 @@
+// The changes of a room, each a change of one of its tables. Nothing is asked of the memory; on a whole room, a change that the rules make leaves a
+// whole room.
+ghost use mathlib.Core.Path.{_≡_};
+ghost use Rattle.rules.specs.Outcome.{seatTaken, seatEmptied};
+ghost use Rattle.room.specs.Store.{store, newSeat};
+ghost use Rattle.room.specs.Numbers.{givenNumber, freedNumber};
+use crate::layout;
+use crate::layout::Seat;
+use crate::lookup;
+use key::Key;
+use packet::ConnectionNumber;
+
+// How the record of a seat that is taken begins: its key, a header of zeros, and no route.
+fn new_seat(key: Key) -> [u8; 41]
+    ensures { λ r. ⌜ r ≡ newSeat (key .0) ⌝ }
+{
+    let mut record = [0u8; 41];
+    key.write(&mut record[0..32]);
+    record
+}
+
+// A seat, which is empty, is taken by a key.
+pub fn take_seat(memory: &mut [u8], seats: usize, numbers: usize, seat: Seat, key: Key)
+    ensures { λ _. ⌜ now (memory .exit) ≡ store seats numbers (now (memory .entry)) (seatTaken (seat .0) (key .0)) ⌝ }
+{
+    if !layout::fits(memory, seats, numbers) {
+        return;
+    }
+    let record = new_seat(key);
+    let width = layout::seat_bytes(numbers);
+    let end = layout::room_bytes(seats, numbers);
+    table::put(
+        &mut memory[layout::ROOM_HEADER..end],
+        seats,
+        width,
+        seat.0 as usize,
+        &record,
+    );
+}
+
+// A seat is emptied, and its routes with it.
+pub fn empty_seat(memory: &mut [u8], seats: usize, numbers: usize, seat: Seat)
+    ensures { λ _. ⌜ now (memory .exit) ≡ store seats numbers (now (memory .entry)) (seatEmptied (seat .0)) ⌝ }
+{
+    if !layout::fits(memory, seats, numbers) {
+        return;
+    }
+    let end = layout::room_bytes(seats, numbers);
+    table::free(
+        &mut memory[layout::ROOM_HEADER..end],
+        seats,
+        seat.0 as usize,
+    );
+}
+
+// A route of a seat, which is free, is given a key. A number below the first names no route.
+pub fn give_route(
+    memory: &mut [u8],
+    seats: usize,
+    numbers: usize,
+    seat: Seat,
+    number: ConnectionNumber,
+    key: Key,
+)
+    ensures { λ _. ⌜ now (memory .exit) ≡ givenNumber seats numbers (now (memory .entry)) (seat .0) (number .0) (key .0) ⌝ }
+{
+    if number.0 < layout::FIRST_NUMBER {
+        return;
+    }
+    if !lookup::has_seat(memory, seats, numbers, seat) {
+        return;
+    }
+    let wanted = key.0;
+    let place = (number.0 - layout::FIRST_NUMBER) as usize;
+    let at = layout::routes_start(seats, numbers, seat.0 as usize);
+    let end = at + layout::routes_bytes(numbers);
+    table::put(&mut memory[at..end], numbers, Key::BYTES, place, &wanted);
+}
+
+// A route of a seat is freed.
+pub fn free_route(
+    memory: &mut [u8],
+    seats: usize,
+    numbers: usize,
+    seat: Seat,
+    number: ConnectionNumber,
+)
+    ensures { λ _. ⌜ now (memory .exit) ≡ freedNumber seats numbers (now (memory .entry)) (seat .0) (number .0) ⌝ }
+{
+    if number.0 < layout::FIRST_NUMBER {
+        return;
+    }
+    if !lookup::has_seat(memory, seats, numbers, seat) {
+        return;
+    }
+    let place = (number.0 - layout::FIRST_NUMBER) as usize;
+    let at = layout::routes_start(seats, numbers, seat.0 as usize);
+    let end = at + layout::routes_bytes(numbers);
+    table::free(&mut memory[at..end], numbers, place);
+}

@@ -1,0 +1,10 @@
+// The relay's room in memory that the host lends: where its bytes stand, whether they are a whole room, what is looked up in them, and the changes
+// that the relay makes to them. Document 01's section "The room".
+//
+// Sizes are parameters here. Who calls, what a packet asks for and what is sent stand above; sockets and sealing stay with the host.
+pub mod change;
+pub mod layout;
+pub mod lookup;
+pub mod whole;
+
+pub use layout::Seat;
