@@ -1,6 +1,7 @@
--- `Codes` has the laws of answers as signed numbers; `Reading`, `Writing` and `NodeTelling` carry the promises of `packet` and `node` over to the
--- exports.
+-- `Codes` has the laws of answers as signed numbers; `Reading`, `Writing`, `NodeTelling` and `HeldTelling` carry the promises of `packet`, `node`
+-- and `lent_list` over to the exports.
 mod Codes
+mod HeldTelling
 mod NodeTelling
 mod Reading
 mod Writing

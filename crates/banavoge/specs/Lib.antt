@@ -3,3 +3,4 @@ pub mod Answers
 pub mod Fields
 pub mod Written
 pub mod Nodes
+pub mod Nearest

@@ -3,6 +3,9 @@ ghost use mathlib.Core.Path.{_≡_};
 ghost use Prim.Native.Nat.{_≤_};
 ghost use lib.IntN.{pos};
 ghost use Rattle.banavoge.specs.Answers.{refusalCode, writtenCode, Counted};
+ghost use Rattle.banavoge.specs.Nearest.{doneCode, keptCode};
+use nearest::Answer;
+use nearest::OfferAnswer;
 use packet::write::Written;
 use refusal::Refusal;
 
@@ -30,5 +33,26 @@ pub(crate) fn written(answer: Written) -> i32
     match answer {
         Written::Bytes(bytes) => count(bytes),
         Written::Refused(why) => refused(why),
+    }
+}
+
+// 0, or minus the refusal's number.
+pub(crate) fn done(answer: Answer) -> i32
+    ensures { λ r. ⌜ r ≡ doneCode answer ⌝ }
+{
+    match answer {
+        Answer::Done => 0,
+        Answer::Refused(why) => refused(why),
+    }
+}
+
+// 1 kept, 0 not kept, or minus the refusal's number.
+pub(crate) fn kept(answer: OfferAnswer) -> i32
+    ensures { λ r. ⌜ r ≡ keptCode answer ⌝ }
+{
+    match answer {
+        OfferAnswer::Kept => 1,
+        OfferAnswer::NotKept => 0,
+        OfferAnswer::Refused(why) => refused(why),
     }
 }

@@ -1,0 +1,26 @@
+-- `banavoge_nearest_remove` meets its contract: that of `lent_list`, with its answer as one number. Assumes nothing.
+use borrow.Author.Needs.{needs}
+use mathlib.Core.Path.{_∙_, ap}
+use mir.Syntax.{w32}
+use mir.ValLaws.{toZ-ofZ}
+use Rattle.banavoge.specs.Nearest.{doneCode}
+use Rattle.banavoge.proofs.nearest_lists.banavoge_nearest_remove.Statement.{statement}
+use Rattle.banavoge.proofs.nearest_lists.banavoge_nearest_remove.Tie as tie
+
+remove-requires : tie.Need-remove-requires
+remove-requires c κs = search needs
+
+done-requires : tie.Need-done-requires
+done-requires c κs = search needs
+
+same-length : tie.Need-same-length
+same-length c = search needs
+
+returns : tie.Need-returns
+returns c =
+    let r = c .before .before .before .remove .ensures in
+    record { answers = toZ-ofZ w32 (c .done .result) (record { sfits = c .done .ok }) ∙ c .done .ensures ∙ ap doneCode (r .answers); leaves = r .leaves }
+
+pub banavoge-nearest-remove-spec : {M : Type 1} → statement M
+banavoge-nearest-remove-spec =
+    tie.close (tie.spec remove-requires done-requires same-length returns)
