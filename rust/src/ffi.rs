@@ -3,6 +3,7 @@
 //! Bytes are lent as a pointer and a count, a key as a pointer to 32 bytes.
 //! An answer below 0 is a refusal number with its sign changed.
 
+pub mod nearest;
 pub mod node;
 
 use crate::Key;

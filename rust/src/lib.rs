@@ -20,9 +20,10 @@
 //! # Ok::<(), banavoge::Refusal>(())
 //! ```
 //!
-//! [`node`] has the packed nodes.
+//! [`node`] has the packed nodes, [`nearest`] the nearest lists.
 
 mod ffi;
+pub mod nearest;
 pub mod node;
 pub mod raw;
 

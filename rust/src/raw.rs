@@ -3,6 +3,7 @@
 //! The answer is the library's own: the kind, or a refusal number with its
 //! sign changed. On a refusal the lent places are as they were.
 
+pub mod nearest;
 pub mod node;
 
 use crate::{ffi, Key};
