@@ -1,6 +1,8 @@
--- Theorems: `RoundTrips`, a list written and read, and that a refusal leaves the memory. Laws that they and the functions rest on: `SlotLaws` of
--- slots, `StoreLaws` of a list put into memory part by part, `CallLaws` of each call's ways out.
+-- Theorems: `RoundTrips`, a list written and read, and that a refusal leaves the memory; `AfterCalls`, the list in memory after a call is the one
+-- handed back by value. Laws that they and the functions rest on: `SlotLaws` of slots, `StoreLaws` of a list put into memory part by part, `CallLaws`
+-- of each call's ways out.
 pub mod RoundTrips
+pub mod AfterCalls
 pub mod SlotLaws
 pub mod StoreLaws
 pub mod CallLaws
