@@ -16,7 +16,6 @@ use Rattle.node.specs.Values.{blankNode}
 use Rattle.nearest.specs.declared.NearestList.{NearestList}
 use Rattle.nearest.specs.declared.Answer.{Answer}
 use Rattle.nearest.specs.declared.Answer.the-variants as answer
-use Rattle.nearest.specs.declared.OfferAnswer.{OfferAnswer}
 use Rattle.nearest.specs.declared.OfferAnswer.the-variants as offer
 use Rattle.nearest.specs.declared.Begun.{Begun}
 use Rattle.nearest.specs.declared.Offered.{Offered}
@@ -26,7 +25,7 @@ use Rattle.nearest.proofs.Front.{noNode}
 use Rattle.nearest.proofs.Judge.{whole}
 use Rattle.lent_list.specs.declared.Held.the-variants as found
 use Rattle.lent_list.specs.declared.HeldNode.{HeldNode}
-use Rattle.lent_list.specs.Layout.{listAt, slotsAt, stored}
+use Rattle.lent_list.specs.Layout.{listAt, stored}
 use Rattle.lent_list.specs.Calls.{begunAnswer, Begins, offerAnswered, Offers, removeAnswered, Removes, nothingShown, heldAfter, heldAt}
 use Rattle.lent_list.proofs.SlotLaws.{slots-number}
 use Rattle.lent_list.proofs.StoreLaws.{stored-short}

@@ -2,7 +2,7 @@
 -- other. Assumes nothing.
 use mathlib.Core.Path.{_≡_, _∙_, refl, sym, ap, ap₂}
 use mathlib.Core.List.{List, [], _∷_, _++_, append-assoc, append-nil}
-use Prim.Native.Nat.{ℕ, zero, suc, _+_, _*_, _<_, _≤_, _^_}
+use Prim.Native.Nat.{ℕ, zero, suc, _+_, _-_, _*_, _<_, _≤_, _^_}
 use native.Mathlib.Nat.{le-of-suc-le-suc, not-suc-le-zero}
 use native.Mathlib.Omega.{arith}
 use native.Mathlib.Numerals.{add-one}
@@ -81,6 +81,10 @@ module _ (n : Node) (is : IsNode n) where
       ∙ take-all 32 (n .key .0) (let k = is .key .long in omega arith))
 
 -- ---- slots one behind the other
+
+-- the part lent at a place is one slot
+pub slot-lent : (l : List ℕ) (at : ℕ) → at + 51 ≤ length l → length (take (at + 51 - at) (drop at l)) ≡ 51
+slot-lent l at h = ap (λ (k : ℕ). length (take k (drop at l))) (let e : at + 51 - at ≡ 51 = omega arith in e) ∙ length-lent l at 51 h
 
 pub slots-at : (n i : ℕ) (s : List ℕ) (d : Node) → i < n → getD (slotsAt n s) i d ≡ slotAt (take 51 (drop (i * 51) s))
 unfolding slotsAt

@@ -1,11 +1,7 @@
 -- `held_at` meets its contract: each way out is a case of `CallLaws`. Assumes nothing.
 use borrow.Author.Needs.{needs}
-use mathlib.Core.Path.{_≡_, _∙_, sym}
-use Prim.Native.Nat.{_≤_}
+use mathlib.Core.Path.{_∙_, sym}
 use native.Mathlib.Omega.{arith}
-use lib.ListN.{length}
-use Rattle.nearest.specs.declared.NearestList.{NearestList}
-use Rattle.lent_list.specs.Layout.{listAt}
 use Rattle.lent_list.proofs.StoreLaws.{loaded-whole}
 use Rattle.lent_list.proofs.CallLaws.{held-short, held-refused, held-nothing, within, held-node}
 use Rattle.lent_list.proofs.held_at.Statement.{statement}

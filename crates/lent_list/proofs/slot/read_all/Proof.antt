@@ -1,23 +1,18 @@
 -- `slot::read_all` meets its contract. The invariant: the slots passed are read, the others still blank. Assumes nothing.
 use borrow.Author.Needs.{needs}
-use mathlib.Core.Path.{_≡_, _∙_, refl, sym, ap, ap₂}
+use mathlib.Core.Path.{_≡_, _∙_, refl, sym, ap₂}
 use mathlib.Core.List.{List, _++_, append-nil}
 use Prim.Native.Nat.{ℕ, _+_, _*_, _-_, _≤_}
 use native.Mathlib.Omega.{arith}
 use lib.ListN.{length, getD, take, drop, set, drop-of-length-le}
 use lib.Seq.{take-all}
-use Rattle.wire.proofs.Copy.{length-lent}
 use Rattle.node.specs.declared.Node.{Node}
 use Rattle.node.specs.Values.{blankNode}
 use Rattle.nearest.proofs.Shift.{slot-stored}
 use Rattle.lent_list.specs.Layout.{slotAt, slotsAt}
-use Rattle.lent_list.proofs.SlotLaws.{slots-at, slots-number}
+use Rattle.lent_list.proofs.SlotLaws.{slot-lent, slots-at, slots-number}
 use Rattle.lent_list.proofs.slot.read_all.Statement.{statement}
 use Rattle.lent_list.proofs.slot.read_all.Tie as tie
-
--- the part lent at a place is one slot
-part-long : (b : List ℕ) (at : ℕ) → at + 51 ≤ length b → length (take (at + 51 - at) (drop at b)) ≡ 51
-part-long b at h = ap (λ (k : ℕ). length (take k (drop at b))) (let e : at + 51 - at ≡ 51 = omega arith in e) ∙ length-lent b at 51 h
 
 at-slot : (b : List ℕ) (i at : ℕ) → i + 1 ≤ 16 → at ≡ i * 51 → slotAt (take (at + 51 - at) (drop at b)) ≡ getD (slotsAt 16 b) i blankNode
 at-slot b i at h e =
@@ -52,7 +47,7 @@ read-requires : tie.Need-read-requires Inv-loop μ-loop
 read-requires c κs =
     let l = c .before .before .loop in
     let b = c .before .before .before .before .before .args .bytes .now in
-    part-long b (l .at) (omega arith)
+    slot-lent b (l .at) (omega arith)
 
 mul-nodes : tie.Need-mul-nodes Inv-loop μ-loop
 mul-nodes c = search needs

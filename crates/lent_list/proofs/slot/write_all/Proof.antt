@@ -4,19 +4,15 @@ use mathlib.Core.Path.{_≡_, _∙_, refl, sym, ap, ap₂}
 use mathlib.Core.List.{List, _++_, append-nil}
 use Prim.Native.Nat.{ℕ, _+_, _*_, _-_, _<_, _≤_}
 use native.Mathlib.Omega.{arith}
-use lib.ListN.{length, getD, take, drop, length-append, length-drop, length-map, drop-of-length-le}
+use lib.ListN.{length, getD, take, drop, length-append, length-drop, drop-of-length-le}
 use lib.Seq.{take-all}
-use Rattle.wire.proofs.Copy.{written-part, length-lent, length-written}
+use Rattle.wire.proofs.Copy.{written-part}
 use Rattle.node.specs.declared.Node.{Node}
 use Rattle.nearest.proofs.Front.{noNode}
 use Rattle.lent_list.specs.Layout.{slotBytes, slotsBytes}
-use Rattle.lent_list.proofs.SlotLaws.{slots-more}
+use Rattle.lent_list.proofs.SlotLaws.{slot-lent, slots-more}
 use Rattle.lent_list.proofs.slot.write_all.Statement.{statement}
 use Rattle.lent_list.proofs.slot.write_all.Tie as tie
-
--- the part lent at a place is one slot
-part-long : (l : List ℕ) (at : ℕ) → at + 51 ≤ length l → length (take (at + 51 - at) (drop at l)) ≡ 51
-part-long l at h = ap (λ (k : ℕ). length (take k (drop at l))) (let e : at + 51 - at ≡ 51 = omega arith in e) ∙ length-lent l at 51 h
 
 -- one slot more
 one-more : (ns : List Node) (out l new : List ℕ) (i at : ℕ) → i < length ns → length l ≡ length out → at + 51 ≤ length out
@@ -62,7 +58,7 @@ part-write-end c = search needs
 write-requires : tie.Need-write-requires Inv-loop μ-loop
 write-requires c κs =
     let l = c .before .before .before .loop in
-    part-long (l .out) (l .at) (omega arith)
+    slot-lent (l .out) (l .at) (omega arith)
 
 add-i : tie.Need-add-i Inv-loop μ-loop
 add-i c = search needs
