@@ -1,6 +1,7 @@
 // Nearest lists that live in the host's memory. Document 01's section "The nearest list"; docs/ARCHITECTURE.md draws the memory.
 //
-// Every call tests the list in full before it uses it: 14 for memory too short, then 12, 14.
+// Every call on a list that was begun tests it in full before it uses it: 14 for memory too short, then 12, 14. A refused offer or removal leaves
+// every byte of the memory.
 ghost use mathlib.Core.Path.{_≡_};
 ghost use Rattle.lent_list.specs.Layout.{listLength};
 ghost use Rattle.lent_list.specs.Calls.{heldAt};

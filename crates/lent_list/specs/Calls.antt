@@ -33,7 +33,8 @@ pub record Begins (target : Key) (size : ℕ) (memory : List ℕ) (answer : Answ
   pub answers : answer ≡ begunAnswer (begun target size .answer) memory
   pub leaves : left ≡ stored (begun target size .list) memory
 
--- ---- offer and remove: of memory too short nothing is judged
+-- ---- offer and remove: of memory too short nothing is judged. A refusal hands back the list that stands there, and then what is left is the
+-- memory as it was, by `refused-offer-leaves` and `refused-remove-leaves` of proofs/RoundTrips.
 
 unfoldable pub offerAnswered : List ℕ → Node → OfferAnswer
 offerAnswered memory n = cond (leb listLength (length memory)) (offered (listAt memory) n .answer) (offer.Refused ListNotWhole)
