@@ -12,7 +12,7 @@ use Rattle.refusal.specs.declared.Refusal.the-variants.{RoomFull, AlreadySeated
 use Rattle.packet.specs.Read.{Read}
 use Rattle.packet.specs.Read as read
 use Rattle.packet.specs.FromClient as client
-use Rattle.rules.specs.Room.{Sizes, Key, Route, free, wants, Seat, vacant, holds, Room, Found, none, at, find, seatOf, isVacant, routeTo, isFree, seatAt, routeAt, Peer, apart, joined}
+use Rattle.rules.specs.Room.{Sizes, Key, Route, free, wants, Seat, vacant, holds, Room, Found, none, at, find, seatOf, isVacant, routeTo, isFree, seatAt, routeAt, Peer, alone, joined}
 use Rattle.rules.specs.Call.{Call, arrive, leave, packetCall, Answer, accepted, refused, Sent}
 use Rattle.rules.specs.Outcome.{Change, seatTaken, Outcome, refuse, sentBytes, accept, roomAfter, peer, arriveAt, leaveFrom, requestAt, dropAt, oobTo, carryTo, dataAt, act, actOn, packetFrom, outcome}
 use Rattle.rules.specs.History.{Event, event, transcript}
@@ -67,7 +67,7 @@ module _ (room : Room) where
 
   carry-counted : (p : Peer) (seat : ℕ) (bytes : List ℕ) → Counted (carryTo p seat bytes)
   unfolding carryTo
-  carry-counted apart seat bytes = refuse-counted NotConnected
+  carry-counted alone seat bytes = refuse-counted NotConnected
   carry-counted (joined i place) seat bytes = accept-counted seat _ _
 
   data-counted : (route : Route) (seat : ℕ) (key : Key) (bytes : List ℕ) → Counted (dataAt route room seat key bytes)

@@ -9,7 +9,7 @@ use Rattle.refusal.specs.declared.Refusal.the-variants.{NotSeated, NoSuchRoute,
 use Rattle.packet.specs.Read as read
 use Rattle.packet.specs.FromClient as client
 use Rattle.packet.specs.FromRelay as relay
-use Rattle.rules.specs.Room.{Sizes, Key, Route, free, wants, Seat, vacant, holds, Room, emptyRoom, at, routesOf, seatAt, routeAt, firstNumber, numberOfPlace, Peer, apart, joined}
+use Rattle.rules.specs.Room.{Sizes, Key, Route, free, wants, Seat, vacant, holds, Room, emptyRoom, at, routesOf, seatAt, routeAt, firstNumber, numberOfPlace, Peer, alone, joined}
 use Rattle.rules.specs.Whole.{Whole}
 use Rattle.rules.specs.Call.{Call, packetCall, refused, Sent}
 use Rattle.rules.specs.Outcome.{refuse, accept, to, Outcome, roomAfter, peer, carryTo, dataAt, act, actOn, packetFrom, outcome}
@@ -138,7 +138,7 @@ module _ (sizes : Sizes) (start : Start) (past : Past) (room : Room) (whole : Wh
     module _ (key : Key) (routes : List Route) (sits : seatAt room seat ≡ holds key routes) where
       goes-peer : (wanted : Key) → routeAt routes number ≡ wants wanted → (p : Peer) → peer room seat key wanted ≡ p → Goes (carryTo p seat payload)
       unfolding carryTo refuse accept
-      goes-peer wanted asks apart q =
+      goes-peer wanted asks alone q =
           case-waits start past seat number payload _ refl refl
           (record {
             key = key;

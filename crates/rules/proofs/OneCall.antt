@@ -14,7 +14,7 @@ use Rattle.packet.specs.Read.{Read}
 use Rattle.packet.specs.Read as read
 use Rattle.packet.specs.FromClient as client
 use Rattle.packet.specs.FromRelay as relay
-use Rattle.rules.specs.Room.{Sizes, Key, Route, free, wants, Seat, vacant, holds, Room, Found, none, at, orLater, find, seatOf, isVacant, routeTo, isFree, seatAt, routeAt, firstNumber, numberOfPlace, Peer, apart, joined}
+use Rattle.rules.specs.Room.{Sizes, Key, Route, free, wants, Seat, vacant, holds, Room, Found, none, at, orLater, find, seatOf, isVacant, routeTo, isFree, seatAt, routeAt, firstNumber, numberOfPlace, Peer, alone, joined}
 use Rattle.rules.specs.Whole.{Whole}
 use Rattle.rules.specs.Call.{Call, arrive, leave, packetCall, Answer, accepted, refused, Sent}
 use Rattle.rules.specs.Outcome.{withRoute, apply, applyAll, Outcome, refuse, sentBytes, accept, to, roomAfter, peer, toPeer, arriveAt, tellPeer, tellPeers, leaveFrom, tellBoth, requestAt, dropAt, oobTo, carryTo, dataAt, act, actOn, packetFrom, outcome}
@@ -110,7 +110,7 @@ module _ (sizes : Sizes) (room : Room) (whole : Whole sizes room) (c : Key) (sea
 
   own-both : (wanted : Key) (number : ℕ) (l : Peer) → peer room seat c wanted ≡ l → only (isJoined l) (relay.relayBytes (relay.connectNotice number) ∷ []) ≡ handedBy c room (tellBoth seat number l)
   unfolding only isJoined handedBy handedIf tellBoth to
-  own-both wanted number apart e = refl
+  own-both wanted number alone e = refl
   own-both wanted number (joined other place) e = rw (held, peer-else sizes room whole c seat routes sits wanted other place e)
 
   own-request : (wanted : Key) (f lowest : Found)
@@ -141,7 +141,7 @@ module _ (sizes : Sizes) (room : Room) (whole : Whole sizes room) (c : Key) (sea
   own-carry : (wanted : Key) (bytes : List ℕ) (l : Peer) → peer room seat c wanted ≡ l
       → ownCarry (isJoined l) (project c room) seat bytes ≡ observedOf sizes c room (carryTo l seat bytes) (carryTo l seat bytes .answer ∷ [])
   unfolding ownCarry isJoined carryTo refuse accept roomAfter applyAll handedBy handedIf to relay.relayBytes
-  own-carry wanted bytes apart e = refl
+  own-carry wanted bytes alone e = refl
   own-carry wanted bytes (joined other place) e =
       observed-same refl (rw (peer-else sizes room whole c seat routes sits wanted other place e)) (counted-same seat _ _ (count-same _ _ [] [] refl refl))
 
@@ -223,7 +223,7 @@ module _ (sizes : Sizes) (room : Room) (whole : Whole sizes room) (c : Key) (sea
   -- of a notice to both, C is handed what goes to the peer
   other-both : (number : ℕ) (l : Peer) → handedBy c room (tellBoth seat number l) ≡ handedBy c room (toPeer relay.connectNotice l)
   unfolding handedBy handedIf tellBoth toPeer to
-  other-both number apart = refl
+  other-both number alone = refl
   other-both number (joined other place) = rw not-held
 
   -- a request for another key
@@ -274,13 +274,13 @@ module _ (sizes : Sizes) (room : Room) (whole : Whole sizes room) (c : Key) (sea
   data-else : (bytes : List ℕ) (wanted : Key) → sameKey wanted c ≡ false → (l : Peer) → peer room seat key wanted ≡ l
       → observed (project c room) [] [] ≡ observedOf sizes c room (carryTo l seat bytes) []
   unfolding carryTo refuse accept roomAfter applyAll handedBy handedIf to
-  data-else bytes wanted hw apart e = refl
+  data-else bytes wanted hw alone e = refl
   data-else bytes wanted hw (joined other place) e = observed-same refl (rw (else-seat c room seat key wanted hw other place e)) refl
 
   data-mine : (bytes : List ℕ) (l : Peer) → peer room seat key c ≡ l
       → observeAll sizes c (project c room) (ifAccepted (carryTo l seat bytes .answer) (dataForC key bytes ∷ [])) ≡ observedOf sizes c room (carryTo l seat bytes) []
   unfolding carryTo refuse accept ifAccepted observeAll roomAfter applyAll handedBy observe toPeer
-  data-mine bytes apart e = refl
+  data-mine bytes alone e = refl
   data-mine bytes (joined other place) e =
       observe-one sizes c (project c room) (dataForC key bytes)
       ∙ observed-same refl (handed-packet (λ n. relay.routedData n bytes) ∙ ap (λ (l : Peer). handedBy c room (toPeer (λ n. relay.routedData n bytes) l)) e) refl

@@ -7,7 +7,7 @@ use Prim.Native.Nat.{ℕ, _-_}
 use Rattle.packet.specs.Read.{Read}
 use Rattle.packet.specs.Read as read
 use Rattle.packet.specs.FromClient as client
-use Rattle.rules.specs.Room.{Sizes, Key, Route, free, wants, Seat, vacant, holds, Room, Found, none, at, find, seatOf, isVacant, routeTo, isFree, seatAt, routeAt, firstNumber, Peer, apart, joined}
+use Rattle.rules.specs.Room.{Sizes, Key, Route, free, wants, Seat, vacant, holds, Room, Found, none, at, find, seatOf, isVacant, routeTo, isFree, seatAt, routeAt, firstNumber, Peer, alone, joined}
 use Rattle.rules.specs.Call.{arrive, leave, packetCall, accepted}
 use Rattle.rules.specs.Outcome.{withRoute, apply, applyAll, Outcome, refuse, accept, roomAfter, peer, arriveAt, leaveFrom, requestAt, dropAt, oobTo, carryTo, dataAt, act, actOn, packetFrom, outcome}
 use Rattle.rules.proofs.FindLaws.{seat-set-other}
@@ -35,7 +35,7 @@ module _ (sizes : Sizes) (room : Room) (seat other : ℕ) (ne : other ≢ seat) 
 
   carry-stays : (p : Peer) (bytes : List ℕ) → Stays (carryTo p seat bytes)
   unfolding carryTo accept refuse roomAfter applyAll
-  carry-stays apart bytes = refl
+  carry-stays alone bytes = refl
   carry-stays (joined i place) bytes = refl
 
   data-stays : (route : Route) (key : Key) (bytes : List ℕ) → Stays (dataAt route room seat key bytes)

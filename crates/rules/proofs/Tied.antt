@@ -15,7 +15,7 @@ use Rattle.key.proofs.Same.{same-refl, same-sound}
 use Rattle.packet.specs.Read.{Read}
 use Rattle.packet.specs.Read as read
 use Rattle.packet.specs.FromClient as client
-use Rattle.rules.specs.Room.{Sizes, Key, Route, free, wants, Seat, vacant, holds, Room, emptyRoom, Found, none, at, find, seatOf, isVacant, routeTo, isFree, routesOf, seatAt, routeAt, firstNumber, numberOfPlace, Peer, apart, joined}
+use Rattle.rules.specs.Room.{Sizes, Key, Route, free, wants, Seat, vacant, holds, Room, emptyRoom, Found, none, at, find, seatOf, isVacant, routeTo, isFree, routesOf, seatAt, routeAt, firstNumber, numberOfPlace, Peer, alone, joined}
 use Rattle.rules.specs.Whole.{Whole}
 use Rattle.rules.specs.Call.{Call, arrive, leave, packetCall}
 use Rattle.rules.specs.Outcome.{withRoute, apply, applyAll, refuse, accept, Outcome, roomAfter, peer, arriveAt, leaveFrom, requestAt, dropAt, oobTo, carryTo, dataAt, act, actOn, packetFrom, outcome}
@@ -267,7 +267,7 @@ module _ (sizes : Sizes) (start : Start) (past : Past) (room : Room) (whole : Wh
     module _ (bytes : List ℕ) (number : ℕ) (payload : List ℕ) (e : client.relayRead bytes ≡ read.packet (client.routedData number payload)) where
       tied-carry : (p : Peer) → Keeps (packetCall seat bytes) (carryTo p seat payload)
       unfolding roomAfter applyAll carryTo accept refuse standsAfterPacket
-      tied-carry apart = keeps-same bytes _ e (carryTo apart seat payload) refl (λ n w. refl)
+      tied-carry alone = keeps-same bytes _ e (carryTo alone seat payload) refl (λ n w. refl)
       tied-carry (joined other place) = keeps-same bytes _ e (carryTo (joined other place) seat payload) refl (λ n w. refl)
 
       tied-data : (route : Route) → Keeps (packetCall seat bytes) (dataAt route room seat key payload)

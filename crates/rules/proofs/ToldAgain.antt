@@ -13,7 +13,7 @@ use Rattle.key.proofs.Same.{same-refl}
 use Rattle.packet.specs.Read as read
 use Rattle.packet.specs.FromClient as client
 use Rattle.packet.specs.FromRelay as relay
-use Rattle.rules.specs.Room.{Sizes, Key, Route, free, wants, Seat, vacant, holds, Room, Found, none, at, orLater, find, seatOf, isVacant, routeTo, isFree, seatAt, routeAt, firstNumber, numberOfPlace, apart}
+use Rattle.rules.specs.Room.{Sizes, Key, Route, free, wants, Seat, vacant, holds, Room, Found, none, at, orLater, find, seatOf, isVacant, routeTo, isFree, seatAt, routeAt, firstNumber, numberOfPlace, alone}
 use Rattle.rules.specs.Whole.{Whole}
 use Rattle.rules.specs.Call.{arrive, leave, packetCall, accepted}
 use Rattle.rules.specs.Outcome.{withRoute, apply, applyAll, Outcome, refuse, accept, to, roomAfter, arriveAt, leaveFrom, tellBoth, requestAt, dropAt, act, actOn, packetFrom, outcome}

@@ -12,7 +12,7 @@ use borrow.Author.Tests.{eqb-true}
 use Rattle.key.specs.Keys.{sameKey}
 use Rattle.key.proofs.Same.{same-refl, same-sound}
 use Rattle.packet.specs.FromRelay as relay
-use Rattle.rules.specs.Room.{Sizes, Key, Route, free, wants, Seat, vacant, holds, Room, Found, none, at, orLater, find, seatOf, isVacant, routeTo, routesOf, seatAt, Peer, apart, joined}
+use Rattle.rules.specs.Room.{Sizes, Key, Route, free, wants, Seat, vacant, holds, Room, Found, none, at, orLater, find, seatOf, isVacant, routeTo, routesOf, seatAt, Peer, alone, joined}
 use Rattle.rules.specs.Whole.{Whole}
 use Rattle.rules.specs.Call.{Sent}
 use Rattle.rules.specs.Outcome.{sentBytes, to, joinedBy, peerAt, peerIn, peer, toPeer, tellBoth, tellPeer, tellPeers}
@@ -110,7 +110,7 @@ module _ (c : Key) where
 -- ---- connected
 
 unfoldable pub isJoined : Peer → Bool
-isJoined apart = false
+isJoined alone = false
 isJoined (joined seat place) = true
 
 joined-found : (seat : ℕ) (f : Found) → isFound f ≡ isJoined (joinedBy seat f)
@@ -173,7 +173,7 @@ unfolding handedBy handedIf toPeer to
 not-handed c room seat key wanted p h = go (peer room seat key wanted) refl
   where
     go : (l : Peer) → peer room seat key wanted ≡ l → handedBy c room (toPeer p l) ≡ []
-    go apart e = refl
+    go alone e = refl
     go (joined other place) e = rw (else-seat c room seat key wanted h other place e)
 
 pub found-held : (key : Key) (room : Room) (seat : ℕ) → find (seatOf key) room ≡ at seat → seatOf key (seatAt room seat) ≡ true
@@ -220,7 +220,7 @@ module _ (sizes : Sizes) (room : Room) (whole : Whole sizes room) (c : Key) (sea
   own-not-handed wanted p = go (peer room seat c wanted) refl
     where
       go : (l : Peer) → peer room seat c wanted ≡ l → handedBy c room (toPeer p l) ≡ []
-      go apart e = refl
+      go alone e = refl
       go (joined other place) e = rw (peer-else wanted other place e)
 
   pub own-tells : (t : List Route) → handedBy c room (tellPeers room seat c t) ≡ []
@@ -233,12 +233,12 @@ module _ (sizes : Sizes) (room : Room) (whole : Whole sizes room) (c : Key) (sea
 
 pub count-told : (l : Peer) → length (sentBytes (toPeer relay.disconnectNotice l)) ≡ length (sentBytes (toOne relay.disconnectNotice (isJoined l)))
 unfolding toPeer toOne isJoined to relay.relayBytes
-count-told apart = refl
+count-told alone = refl
 count-told (joined other place) = count-same _ _ [] [] refl refl
 
 pub count-both : (seat number : ℕ) (l : Peer) → length (sentBytes (tellBoth seat number l)) ≡ length (sentBytes (toBoth (isJoined l)))
 unfolding tellBoth toBoth isJoined to relay.relayBytes
-count-both seat number apart = refl
+count-both seat number alone = refl
 count-both seat number (joined other place) = count-same _ _ _ _ refl (count-same _ _ [] [] refl refl)
 
 pub count-tells : (c : Key) (room : Room) (seat : ℕ) (t : List Route) → length (sentBytes (tellPeers room seat c t)) ≡ length (sentBytes (noticesByView c (project c room) seat t))

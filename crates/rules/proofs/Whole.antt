@@ -11,7 +11,7 @@ use Rattle.packet.specs.Read.{Read}
 use Rattle.packet.specs.Read as read
 use Rattle.packet.specs.FromClient as client
 use Rattle.key.proofs.Same.{same-refl, same-sound}
-use Rattle.rules.specs.Room.{Sizes, Key, Route, free, wants, Seat, vacant, holds, Room, emptyRoom, Found, none, at, find, seatOf, isVacant, routeTo, isFree, seatAt, routeAt, firstNumber, numberOfPlace, Peer, apart, joined}
+use Rattle.rules.specs.Room.{Sizes, Key, Route, free, wants, Seat, vacant, holds, Room, emptyRoom, Found, none, at, find, seatOf, isVacant, routeTo, isFree, seatAt, routeAt, firstNumber, numberOfPlace, Peer, alone, joined}
 use Rattle.rules.specs.Whole.{Whole}
 use Rattle.rules.specs.Call.{Call, arrive, leave, packetCall}
 use Rattle.rules.specs.Outcome.{withRoute, apply, applyAll, refuse, accept, roomAfter, peer, arriveAt, leaveFrom, requestAt, dropAt, oobTo, carryTo, dataAt, act, actOn, packetFrom, outcome}
@@ -85,9 +85,9 @@ module _ (sizes : Sizes) (room : Room) (whole : Whole sizes room) where
   whole-set : (seat : ℕ) (s : Seat) → ((key : Key) → seatOf key s ≡ true → (j : ℕ) → seatOf key (getD room j vacant) ≡ true → j ≡ seat)
       → WholeSeat sizes s → Whole sizes (set room seat s)
   unfolding seatAt
-  whole-set seat s alone good =
+  whole-set seat s only good =
       make-whole sizes (set room seat s) (length-set room seat s ∙ whole .seats) (set-all (WholeSeat sizes) vacant room seat s good (whole-seat sizes room whole))
-      (λ key. once-set (seatOf key) vacant room seat s (key-once sizes room whole key) (alone key))
+      (λ key. once-set (seatOf key) vacant room seat s (key-once sizes room whole key) (only key))
 
   whole-arrive : (key : Key) (seated empty : Found) → find (seatOf key) room ≡ seated → Whole sizes (roomAfter sizes room (arriveAt seated empty key))
   unfolding roomAfter applyAll apply arriveAt refuse accept seatOf routeTo
@@ -108,10 +108,10 @@ module _ (sizes : Sizes) (room : Room) (whole : Whole sizes room) where
     whole-route : (place : ℕ) (route : Route) → ((w : Key) → routeTo w route ≡ true → (j : ℕ) → routeTo w (getD routes j free) ≡ true → j ≡ place)
         → Whole sizes (set room seat (withRoute (seatAt room seat) place route))
     unfolding withRoute seatOf seatAt
-    whole-route place route alone =
+    whole-route place route only =
         rw sits
         (whole-set seat (holds key (set routes place route)) (λ k h j hj. key-once sizes room whole k j seat hj (rw sits h))
-        (length-set routes place route ∙ whole .numbers seat key routes sits, λ w. once-set (routeTo w) free routes place route (wanted-once sizes room whole seat key routes sits w) (alone w)))
+        (length-set routes place route ∙ whole .numbers seat key routes sits, λ w. once-set (routeTo w) free routes place route (wanted-once sizes room whole seat key routes sits w) (only w)))
 
     whole-request : (wanted : Key) (held lowest : Found) → find (routeTo wanted) routes ≡ held → Whole sizes (roomAfter sizes room (requestAt held lowest room seat key wanted))
     unfolding roomAfter applyAll apply requestAt accept routeTo
@@ -133,7 +133,7 @@ module _ (sizes : Sizes) (room : Room) (whole : Whole sizes room) where
 
     whole-carry : (p : Peer) (bytes : List ℕ) → Whole sizes (roomAfter sizes room (carryTo p seat bytes))
     unfolding roomAfter applyAll carryTo accept refuse
-    whole-carry apart bytes = whole
+    whole-carry alone bytes = whole
     whole-carry (joined other place) bytes = whole
 
     whole-data : (route : Route) (bytes : List ℕ) → Whole sizes (roomAfter sizes room (dataAt route room seat key bytes))

@@ -9,7 +9,8 @@ pub data Call : Type 0 where
   leave : ℕ → Call
   packetCall : ℕ → List ℕ → Call
 
--- an accepted call answers a seat and how many bytes it wrote
+-- an accepted call answers a seat and how many bytes it wrote. An Arrive's seat is the one it takes, and its count 0; document 01 has no seat in the answer
+-- of a Leave or a packet: there it is the call's own
 pub data Answer : Type 0 where
   accepted : ℕ → ℕ → Answer
   refused : Refusal → Answer

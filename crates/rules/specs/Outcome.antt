@@ -1,5 +1,5 @@
 -- What each call does: document 01, "The room", sentence by sentence. An outcome is an answer, the changes that it makes to the room, and what
--- it sends.
+-- it sends. To be read for whole rooms (`Whole`): refusal 11, and 10, belong to lent memory and stand where the lent room and output do.
 use mathlib.Core.Bool.{Bool, true, false}
 use mathlib.Core.List.{List, [], _∷_, _++_}
 use Prim.Native.Nat.{ℕ, _+_, _-_}
@@ -12,11 +12,12 @@ use Rattle.packet.specs.Read.{Read}
 use Rattle.packet.specs.Read as read
 use Rattle.packet.specs.FromClient as client
 use Rattle.packet.specs.FromRelay as relay
-use Rattle.rules.specs.Room.{Sizes, Key, Route, free, wants, Seat, vacant, holds, Room, Found, none, at, find, seatOf, isVacant, routeTo, isFree, routesOf, seatAt, routeAt, firstNumber, numberOfPlace, Peer, apart, joined}
+use Rattle.rules.specs.Room.{Sizes, Key, Route, free, wants, Seat, vacant, holds, Room, Found, none, at, find, seatOf, isVacant, routeTo, isFree, routesOf, seatAt, routeAt, firstNumber, numberOfPlace, Peer, alone, joined}
 use Rattle.rules.specs.Call.{Call, arrive, leave, packetCall, Answer, accepted, refused, Sent}
 
 -- ---- changes
 
+-- a route by its seat and its place, which is its number less 16
 pub data Change : Type 0 where
   seatTaken : ℕ → Key → Change
   seatEmptied : ℕ → Change
@@ -80,16 +81,17 @@ andThen sizes room first next = let second = next (roomAfter sizes room first) i
 -- ---- connected: "Two clients are connected when they sit in different seats and each has a route naming the other's key."
 
 unfoldable pub joinedBy : ℕ → Found → Peer
-joinedBy seat none = apart
+joinedBy seat none = alone
 joinedBy seat (at place) = joined seat place
 
 unfoldable pub peerAt : Bool → Room → Key → ℕ → Peer
-peerAt true room key seat = apart
+peerAt true room key seat = alone
 peerAt false room key seat = joinedBy seat (find (routeTo key) (routesOf (seatAt room seat)))
 
--- where the client at `seat`, whose key is `key`, has a route naming `wanted`: its peer, if they are connected
+-- where the client at `seat`, whose key is `key`, has a route naming `wanted`, or is being given one: its peer, if they are connected. Asked of the other
+-- side alone, so the room before the new route serves; that what it finds is who is connected is `proofs/PeerConnected.antt`
 unfoldable pub peerIn : Found → Room → ℕ → Key → Peer
-peerIn none room seat key = apart
+peerIn none room seat key = alone
 peerIn (at other) room seat key = peerAt (eqb seat other) room key other
 
 unfoldable pub peer : Room → ℕ → Key → Key → Peer
@@ -97,7 +99,7 @@ peer room seat key wanted = peerIn (find (seatOf wanted) room) room seat key
 
 -- one packet for a connected peer, under the peer's own number
 unfoldable pub toPeer : (ℕ → relay.FromRelay) → Peer → List Sent
-toPeer p apart = []
+toPeer p alone = []
 toPeer p (joined seat place) = to seat (p (numberOfPlace place)) ∷ []
 
 -- ---- Arrive(key): "takes the lowest empty seat and answers with it. It writes nothing." Order: 2, 1.
@@ -126,7 +128,7 @@ leaveFrom (holds key routes) room seat = accept seat (seatEmptied seat ∷ []) (
 
 -- "connected is sent to the asker, then to the peer, each with its own number"
 unfoldable pub tellBoth : ℕ → ℕ → Peer → List Sent
-tellBoth seat number apart = []
+tellBoth seat number alone = []
 tellBoth seat number (joined other place) = to seat (relay.connectNotice number) ∷ to other (relay.connectNotice (numberOfPlace place)) ∷ []
 
 -- Request: "a key already named by this seat gets its old number again and nothing else happens. Otherwise the lowest free number is taken, or, with
@@ -152,7 +154,7 @@ oobTo (at other) seat key bytes = accept seat [] (to other (relay.oobReceived ke
 
 -- Data: "on a connected number goes to the peer under the peer's number"
 unfoldable pub carryTo : Peer → ℕ → List ℕ → Outcome
-carryTo apart seat bytes = refuse NotConnected
+carryTo alone seat bytes = refuse NotConnected
 carryTo (joined other place) seat bytes = accept seat [] (to other (relay.routedData (numberOfPlace place) bytes) ∷ [])
 
 unfoldable pub dataAt : Route → Room → ℕ → Key → List ℕ → Outcome

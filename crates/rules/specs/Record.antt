@@ -20,7 +20,8 @@ pub data Entry : Type 0 where
   own : Call → Entry
   -- "from each other client, named by its key, accepted requests for C's key and out-of-band sends to C's key, in full"
   toC : Key → Call → Entry
-  -- "and that client's accepted drops and data on a number that names C at that moment, with data but with the number struck out"
+  -- "and that client's accepted drops and data on a number that names C at that moment, with data but with the number struck out". The seat is left out too:
+  -- the record is the smaller, so what is claimed of equal records is no weaker
   droppedC : Key → Entry
   dataForC : Key → List ℕ → Entry
 
@@ -98,7 +99,8 @@ unfoldable pub answersFor : Start → Past → Key → List Event → List Answe
 answersFor start past c [] = []
 answersFor start past c (e ∷ events) = answerIf (isClient c (maker start past (e .call))) (e .answer) ++ answersFor start (e ∷ past) c events
 
--- ---- the condition on 0: "neither answers another client's request for C with 0"
+-- ---- the condition on 0, which is demand 3's and not document 01's. Demand 3: "If their records for C are equal and neither answers another client's request
+-- for C with 0"
 
 unfoldable pub asksFor : Key → Read client.FromClient → Bool
 asksFor c (read.packet (client.routingRequest wanted)) = sameKey wanted c

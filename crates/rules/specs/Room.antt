@@ -1,5 +1,6 @@
 -- Document 01, "The room": "40 seats, 0 to 39; each is empty or holds one key and 32 routes, numbers 16 to 47; each route is free or names one
--- wanted key." The sizes are parameters.
+-- wanted key." The sizes are parameters. Seats, numbers and places are numbers here: a seat counts from 0, a route's number from 16, and its place in the
+-- seat's list is its number less 16.
 use mathlib.Core.Bool.{Bool, true, false, cond}
 use mathlib.Core.List.{List, [], _∷_}
 use Prim.Native.Nat.{ℕ, suc, _+_, _-_}
@@ -15,7 +16,7 @@ pub record Sizes : Type 0 where
 abbrev pub baseSizes : Sizes
 baseSizes = record { seats = 40; numbers = 32 }
 
--- a key is its bytes
+-- a key is its bytes: any list here, so what holds of all lists holds of document 01's 32 bytes
 abbrev pub Key : Type 0
 Key = List ℕ
 
@@ -87,7 +88,7 @@ routeAt routes number = cond (ltb number firstNumber) free (getD routes (number 
 
 -- ---- connected
 
--- the connected peer of a client: the peer's seat, and the place of the peer's route
+-- the connected peer of a client: none, or the peer's seat and the place, not the number, of the peer's route
 pub data Peer : Type 0 where
-  apart : Peer
+  alone : Peer
   joined : ℕ → ℕ → Peer
