@@ -17,10 +17,11 @@ use Rattle.rules.specs.History.{Event, event, transcript}
 use Rattle.rules.specs.Transcript.{Past, nobody, clientOf, Start, fromEmpty, isAccepted, sitter, stands}
 use Rattle.rules.specs.After.{pastAfter, clientIn, Tied}
 use Rattle.rules.specs.GoesOn.{Names, Connected, NoRequest, Waits, noClient, noRequest, waits, connects, Carried, DataGoesOn}
-use Rattle.rules.proofs.FindLaws.{clash, wanted-high}
-use Rattle.rules.proofs.Whole.{whole-after, whole-empty}
-use Rattle.rules.proofs.PeerLaws.{PeerHas, peer-has, has-peer}
-use Rattle.rules.proofs.Tied.{tied-after, tied-empty, seat-holds, sitter-is, stands-wants, wants-stands, free-stands}
+use Rattle.rules.proofs.FindLaws.{clash}
+use Rattle.rules.proofs.Whole.{whole-empty}
+use Rattle.rules.proofs.Tied.{tied-empty, sitter-is, wants-stands, free-stands}
+use Rattle.rules.proofs.PeerConnected.{OnlyPeer, peer-is-connected}
+use Rattle.rules.proofs.EachEvent.{each-event}
 
 -- ---- the four cases, by what has happened
 
@@ -92,88 +93,42 @@ module _ (start : Start) (past : Past) (seat number : ℕ) (payload : List ℕ) 
         silent = λ q. absurd (true≢false (sym (ap isAccepted a) ∙ q));
       }
 
--- ---- connected, by what has happened and by the room's tables
+-- ---- one call
 
-module _ (sizes : Sizes) (start : Start) (past : Past) (room : Room) (whole : Whole sizes room) (tie : Tied start past room) where
-  -- connected: what the search for a peer finds
-  module _ (seat : ℕ) (key : Key) (routes : List Route) (sits : seatAt room seat ≡ holds key routes) (number : ℕ) (wanted : Key) (asks : routeAt routes number ≡ wants wanted) where
-    joined-connected : (other place : ℕ) → peer room seat key wanted ≡ joined other place → Connected start past seat number other (numberOfPlace place)
-    joined-connected other place e =
-        let has = peer-has room seat key wanted other place e in
-        record {
+module _ (sizes : Sizes) (start : Start) (past : Past) (room : Room) (whole : Whole sizes room) (tie : Tied start past room) (seat number : ℕ)
+    (bytes payload : List ℕ) (e : client.relayRead bytes ≡ read.packet (client.routedData number payload)) where
+  abbrev Goes : Outcome → Type 0
+  Goes o = DataGoesOn start past seat number payload (record { call = packetCall seat bytes; answer = o .answer; sent = o .sent })
+
+  module _ (key : Key) (routes : List Route) (sits : seatAt room seat ≡ holds key routes) where
+    goes-peer : (wanted : Key) → routeAt routes number ≡ wants wanted → (p : Peer) → OnlyPeer start past seat number p → Goes (carryTo p seat payload)
+    unfolding carryTo refuse accept OnlyPeer
+    goes-peer wanted asks alone only =
+        case-waits start past seat number payload _ refl refl
+        (record {
           key = key;
           wanted = wanted;
-          apart = has .apart;
           here = record { sits = sitter-is sizes start past room whole tie seat key routes sits; asked = wants-stands sizes start past room whole tie seat key routes sits number wanted asks };
-          there = record { sits = sitter-is sizes start past room whole tie other wanted (has .routes) (has .sits); asked = wants-stands sizes start past room whole tie other wanted (has .routes) (has .sits) (numberOfPlace place) key (has .asked) };
-        }
+          alone = only;
+        })
+    goes-peer wanted asks (joined other place) only =
+        case-connected start past seat number payload _ other (numberOfPlace place) (record { answer = refl; sent = refl }) (only .0) (only .1)
 
-    connected-has : (other number′ : ℕ) → Connected start past seat number other number′ → PeerHas room seat key wanted other number′
-    connected-has other number′ c =
-        let q : c .key ≡ key = (let a = c .here .sits in let b = sitter-is sizes start past room whole tie seat key routes sits in cc) in
-        let asked : stands start past key number (c .wanted) ≡ true = subst (λ (k : Key). stands start past k number (c .wanted) ≡ true) q (c .here .asked) in
-        let r : c .wanted ≡ wanted = (let a = stands-wants sizes start past room whole tie seat key routes sits number (c .wanted) asked in cc) in
-        let there = seat-holds sizes start past room whole tie other (c .wanted) (c .there .sits) in
-        let has : PeerHas room seat (c .key) (c .wanted) other number′ = record {
-          apart = c .apart;
-          routes = routesOf (seatAt room other);
-          sits = there;
-          asked = stands-wants sizes start past room whole tie other (c .wanted) (routesOf (seatAt room other)) there number′ (c .key) (c .there .asked);
-        } in
-        rw (q, r) at has
+    goes-route : (route : Route) → routeAt routes number ≡ route → Goes (dataAt route room seat key payload)
+    unfolding dataAt refuse
+    goes-route free h =
+        case-none start past seat number payload _ refl refl
+        (record { key = key; sits = sitter-is sizes start past room whole tie seat key routes sits; asked = free-stands sizes start past room whole tie seat key routes sits number h })
+    goes-route (wants wanted) h = goes-peer wanted h (peer room seat key wanted) (peer-is-connected sizes start past room whole tie seat key routes sits number wanted h)
 
-    -- so there is at most one
-    connected-joined : (other number′ : ℕ) → Connected start past seat number other number′
-        → (peer room seat key wanted ≡ joined other (number′ - firstNumber)) × (number′ ≡ numberOfPlace (number′ - firstNumber))
-    connected-joined other number′ c =
-        let has = connected-has other number′ c in
-        (has-peer room seat key wanted sizes whole other number′ has, wanted-high (has .routes) number′ key (has .asked))
+  goes-seat : (s : Seat) → seatAt room seat ≡ s → Goes (packetFrom s room seat bytes)
+  unfolding packetFrom actOn act refuse clientIn
+  goes-seat vacant h = case-nobody start past seat number payload _ refl refl (tie .sits seat ∙ ap clientIn h)
+  goes-seat (holds key routes) h = rw e (goes-route key routes h (routeAt routes number) refl)
 
-  -- ---- one call
-
-  module _ (seat number : ℕ) (bytes payload : List ℕ) (e : client.relayRead bytes ≡ read.packet (client.routedData number payload)) where
-    abbrev Goes : Outcome → Type 0
-    Goes o = DataGoesOn start past seat number payload (record { call = packetCall seat bytes; answer = o .answer; sent = o .sent })
-
-    module _ (key : Key) (routes : List Route) (sits : seatAt room seat ≡ holds key routes) where
-      goes-peer : (wanted : Key) → routeAt routes number ≡ wants wanted → (p : Peer) → peer room seat key wanted ≡ p → Goes (carryTo p seat payload)
-      unfolding carryTo refuse accept
-      goes-peer wanted asks alone q =
-          case-waits start past seat number payload _ refl refl
-          (record {
-            key = key;
-            wanted = wanted;
-            here = record { sits = sitter-is sizes start past room whole tie seat key routes sits; asked = wants-stands sizes start past room whole tie seat key routes sits number wanted asks };
-            alone = λ other number′ c.
-                (let h = connected-joined seat key routes sits number wanted asks other number′ c .0 in clash (cc));
-          })
-      goes-peer wanted asks (joined other place) q =
-          case-connected start past seat number payload _ other (numberOfPlace place) (record { answer = refl; sent = refl })
-          (joined-connected seat key routes sits number wanted asks other place q)
-          only
-        where
-          only : (other′ n : ℕ) → Connected start past seat number other′ n → (other ≡ other′) × (numberOfPlace place ≡ n)
-          only other′ n c =
-              let h = connected-joined seat key routes sits number wanted asks other′ n c in
-              let p = h .0 in
-              let i : place ≡ n - firstNumber = cc in
-              (cc, ap numberOfPlace i ∙ sym (h .1))
-
-      goes-route : (route : Route) → routeAt routes number ≡ route → Goes (dataAt route room seat key payload)
-      unfolding dataAt refuse
-      goes-route free h =
-          case-none start past seat number payload _ refl refl
-          (record { key = key; sits = sitter-is sizes start past room whole tie seat key routes sits; asked = free-stands sizes start past room whole tie seat key routes sits number h })
-      goes-route (wants wanted) h = goes-peer wanted h (peer room seat key wanted) refl
-
-    goes-seat : (s : Seat) → seatAt room seat ≡ s → Goes (packetFrom s room seat bytes)
-    unfolding packetFrom actOn act refuse clientIn
-    goes-seat vacant h = case-nobody start past seat number payload _ refl refl (tie .sits seat ∙ ap clientIn h)
-    goes-seat (holds key routes) h = rw e (goes-route key routes h (routeAt routes number) refl)
-
-    pub data-goes-on : DataGoesOn start past seat number payload (event room (packetCall seat bytes))
-    unfolding event outcome
-    data-goes-on = goes-seat (seatAt room seat) refl
+  pub data-goes-on : DataGoesOn start past seat number payload (event room (packetCall seat bytes))
+  unfolding event outcome
+  data-goes-on = goes-seat (seatAt room seat) refl
 
 -- ---- every history
 
@@ -182,18 +137,11 @@ pub data-goes-on-from : (sizes : Sizes) (start : Start) (past : Past) (room : Ro
     → (calls : List Call) (before : List Event) (e : Event) (later : List Event) → transcript sizes room calls ≡ before ++ (e ∷ later)
     → (seat number : ℕ) (bytes payload : List ℕ) → e .call ≡ packetCall seat bytes → client.relayRead bytes ≡ read.packet (client.routedData number payload)
     → DataGoesOn start (pastAfter past before) seat number payload e
-unfolding transcript pastAfter event
-data-goes-on-from sizes start past room whole tie [] [] e later t seat number bytes payload c r = clash (cc)
-data-goes-on-from sizes start past room whole tie [] (b ∷ before) e later t seat number bytes payload c r = clash (cc)
-data-goes-on-from sizes start past room whole tie (call ∷ calls) [] e later t seat number bytes payload c r =
-    let q : event room call ≡ e = cc in
-    let k : call ≡ packetCall seat bytes = ap (λ (x : Event). x .call) q ∙ c in
-    subst (DataGoesOn start past seat number payload) (ap (event room) (sym k) ∙ q) (data-goes-on sizes start past room whole tie seat number bytes payload r)
-data-goes-on-from sizes start past room whole tie (call ∷ calls) (b ∷ before) e later t seat number bytes payload c r =
-    let q : event room call ≡ b = cc in
-    rw (← q)
-    (data-goes-on-from sizes start (event room call ∷ past) (roomAfter sizes room (outcome room call)) (whole-after sizes room whole call)
-    (tied-after sizes start past room whole tie call) calls before e later (cc) seat number bytes payload c r)
+unfolding event
+data-goes-on-from sizes start past room whole tie calls before e later t seat number bytes payload c r =
+    each-event sizes start (λ past e. e .call ≡ packetCall seat bytes → DataGoesOn start past seat number payload e)
+    (λ past room whole tie call c. subst (λ (x : Call). DataGoesOn start past seat number payload (event room x)) (sym c) (data-goes-on sizes start past room whole tie seat number bytes payload r))
+    past room whole tie calls before e later t c
 
 -- from the empty room
 pub data-goes-on-from-empty : (sizes : Sizes) (calls : List Call) (before : List Event) (e : Event) (later : List Event)

@@ -11,12 +11,15 @@ pub mod FindLaws
 pub mod AnswerLaws
 pub mod SentLaws
 pub mod Counts
+pub mod QuietArrival
 pub mod OutcomeLaws
 pub mod Whole
 pub mod PeerLaws
 pub mod OtherSeats
 pub mod ToldAgain
 pub mod Tied
+pub mod EachEvent
+pub mod PeerConnected
 pub mod DataGoesOn
 pub mod View
 pub mod ViewLaws

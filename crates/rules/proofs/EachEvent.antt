@@ -1,0 +1,31 @@
+-- From one call to every history: what holds of each call in each whole room that says what has happened says holds of each event of each history, by
+-- what happened before it. Assumes nothing.
+use mathlib.Core.Path.{_≡_, subst}
+use mathlib.Core.List.{List, [], _∷_, _++_}
+use Prim.Native.Nat.{ℕ}
+use Rattle.rules.specs.Room.{Sizes, Room}
+use Rattle.rules.specs.Whole.{Whole}
+use Rattle.rules.specs.Call.{Call}
+use Rattle.rules.specs.Outcome.{outcome, roomAfter}
+use Rattle.rules.specs.History.{Event, event, transcript}
+use Rattle.rules.specs.Transcript.{Past, Start}
+use Rattle.rules.specs.After.{pastAfter, Tied}
+use Rattle.rules.proofs.FindLaws.{clash}
+use Rattle.rules.proofs.Whole.{whole-after}
+use Rattle.rules.proofs.Tied.{tied-after}
+
+module _ (sizes : Sizes) (start : Start) (P : Past → Event → Type 0)
+    (each : (past : Past) (room : Room) → Whole sizes room → Tied start past room → (call : Call) → P past (event room call)) where
+  -- from a whole room on, with a past that says what it says
+  pub each-event : (past : Past) (room : Room) → Whole sizes room → Tied start past room
+      → (calls : List Call) (before : List Event) (e : Event) (later : List Event) → transcript sizes room calls ≡ before ++ (e ∷ later) → P (pastAfter past before) e
+  unfolding transcript pastAfter
+  each-event past room whole tie [] [] e later t = clash (cc)
+  each-event past room whole tie [] (b ∷ before) e later t = clash (cc)
+  each-event past room whole tie (call ∷ calls) [] e later t =
+      let q : event room call ≡ e = cc in
+      subst (P past) q (each past room whole tie call)
+  each-event past room whole tie (call ∷ calls) (b ∷ before) e later t =
+      let q : event room call ≡ b = cc in
+      rw (← q)
+      (each-event (event room call ∷ past) (roomAfter sizes room (outcome room call)) (whole-after sizes room whole call) (tied-after sizes start past room whole tie call) calls before e later (cc))

@@ -1,0 +1,71 @@
+-- The search for a peer, which goes by the room's tables, finds who is connected by what has happened: in a whole room that says what has happened says,
+-- for each number of a seated client that names a key, it finds nobody where no two are connected on that number, and else the one seat and the one number
+-- that are connected with it. Data, drops, leaves and requests all ask this search. Assumes nothing.
+use mathlib.Core.Path.{_≡_, refl, sym, ap, _∙_, subst}
+use mathlib.Core.Bool.{true}
+use mathlib.Core.List.{List}
+use Prim.Native.Nat.{ℕ, _-_}
+use Rattle.rules.specs.Room.{Sizes, Key, Route, wants, holds, Room, routesOf, seatAt, routeAt, firstNumber, numberOfPlace, Peer, alone, joined}
+use Rattle.rules.specs.Whole.{Whole}
+use Rattle.rules.specs.Outcome.{peer}
+use Rattle.rules.specs.Transcript.{Past, Start, stands}
+use Rattle.rules.specs.After.{Tied}
+use Rattle.rules.specs.GoesOn.{Connected}
+use Rattle.rules.proofs.FindLaws.{clash, wanted-high}
+use Rattle.rules.proofs.PeerLaws.{PeerHas, peer-has, has-peer}
+use Rattle.rules.proofs.Tied.{seat-holds, sitter-is, stands-wants, wants-stands}
+
+-- on `number` of the client in `seat`: nobody is connected, or this one is and no other
+unfoldable pub OnlyPeer : Start → Past → ℕ → ℕ → Peer → Type 0
+OnlyPeer start past seat number alone = (other number′ : ℕ) → Connected start past seat number other number′ → ⊥
+OnlyPeer start past seat number (joined other place) =
+    Connected start past seat number other (numberOfPlace place)
+    × ((other′ number′ : ℕ) → Connected start past seat number other′ number′ → (other ≡ other′) × (numberOfPlace place ≡ number′))
+
+module _ (sizes : Sizes) (start : Start) (past : Past) (room : Room) (whole : Whole sizes room) (tie : Tied start past room) (seat : ℕ) (key : Key)
+    (routes : List Route) (sits : seatAt room seat ≡ holds key routes) (number : ℕ) (wanted : Key) (asks : routeAt routes number ≡ wants wanted) where
+  joined-connected : (other place : ℕ) → peer room seat key wanted ≡ joined other place → Connected start past seat number other (numberOfPlace place)
+  joined-connected other place e =
+      let has = peer-has room seat key wanted other place e in
+      record {
+        key = key;
+        wanted = wanted;
+        apart = has .apart;
+        here = record { sits = sitter-is sizes start past room whole tie seat key routes sits; asked = wants-stands sizes start past room whole tie seat key routes sits number wanted asks };
+        there = record { sits = sitter-is sizes start past room whole tie other wanted (has .routes) (has .sits); asked = wants-stands sizes start past room whole tie other wanted (has .routes) (has .sits) (numberOfPlace place) key (has .asked) };
+      }
+
+  connected-has : (other number′ : ℕ) → Connected start past seat number other number′ → PeerHas room seat key wanted other number′
+  connected-has other number′ c =
+      let q : c .key ≡ key = (let a = c .here .sits in let b = sitter-is sizes start past room whole tie seat key routes sits in cc) in
+      let asked : stands start past key number (c .wanted) ≡ true = subst (λ (k : Key). stands start past k number (c .wanted) ≡ true) q (c .here .asked) in
+      let r : c .wanted ≡ wanted = (let a = stands-wants sizes start past room whole tie seat key routes sits number (c .wanted) asked in cc) in
+      let there = seat-holds sizes start past room whole tie other (c .wanted) (c .there .sits) in
+      let has : PeerHas room seat (c .key) (c .wanted) other number′ = record {
+        apart = c .apart;
+        routes = routesOf (seatAt room other);
+        sits = there;
+        asked = stands-wants sizes start past room whole tie other (c .wanted) (routesOf (seatAt room other)) there number′ (c .key) (c .there .asked);
+      } in
+      rw (q, r) at has
+
+  connected-joined : (other number′ : ℕ) → Connected start past seat number other number′
+      → (peer room seat key wanted ≡ joined other (number′ - firstNumber)) × (number′ ≡ numberOfPlace (number′ - firstNumber))
+  connected-joined other number′ c =
+      let has = connected-has other number′ c in
+      (has-peer room seat key wanted sizes whole other number′ has, wanted-high (has .routes) number′ key (has .asked))
+
+  pub peer-is-connected : OnlyPeer start past seat number (peer room seat key wanted)
+  unfolding OnlyPeer
+  peer-is-connected = go (peer room seat key wanted) refl
+    where
+      go : (p : Peer) → peer room seat key wanted ≡ p → OnlyPeer start past seat number p
+      go alone e = λ other number′ c. (let h = connected-joined other number′ c .0 in clash (cc))
+      go (joined other place) e = (joined-connected other place e, only)
+        where
+          only : (other′ number′ : ℕ) → Connected start past seat number other′ number′ → (other ≡ other′) × (numberOfPlace place ≡ number′)
+          only other′ number′ c =
+              let h = connected-joined other′ number′ c in
+              let p = h .0 in
+              let i : place ≡ number′ - firstNumber = cc in
+              (cc, ap numberOfPlace i ∙ sym (h .1))
