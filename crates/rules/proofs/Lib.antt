@@ -21,6 +21,7 @@ pub mod Tied
 pub mod EachEvent
 pub mod PeerConnected
 pub mod DataGoesOn
+pub mod Told
 pub mod View
 pub mod ViewLaws
 pub mod OneCall

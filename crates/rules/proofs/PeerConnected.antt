@@ -22,6 +22,14 @@ OnlyPeer start past seat number (joined other place) =
     Connected start past seat number other (numberOfPlace place)
     × ((other′ number′ : ℕ) → Connected start past seat number other′ number′ → (other ≡ other′) × (numberOfPlace place ≡ number′))
 
+-- who is connected on a number asked under it
+pub connected-asks : (sizes : Sizes) (start : Start) (past : Past) (room : Room) (whole : Whole sizes room) (tie : Tied start past room)
+    (seat : ℕ) (key : Key) (routes : List Route) → seatAt room seat ≡ holds key routes
+    → (number other number′ : ℕ) (c : Connected start past seat number other number′) → (c .key ≡ key) × (routeAt routes number ≡ wants (c .wanted))
+connected-asks sizes start past room whole tie seat key routes sits number other number′ c =
+    let q : c .key ≡ key = (let a = c .here .sits in let b = sitter-is sizes start past room whole tie seat key routes sits in cc) in
+    (q, stands-wants sizes start past room whole tie seat key routes sits number (c .wanted) (subst (λ (k : Key). stands start past k number (c .wanted) ≡ true) q (c .here .asked)))
+
 module _ (sizes : Sizes) (start : Start) (past : Past) (room : Room) (whole : Whole sizes room) (tie : Tied start past room) (seat : ℕ) (key : Key)
     (routes : List Route) (sits : seatAt room seat ≡ holds key routes) (number : ℕ) (wanted : Key) (asks : routeAt routes number ≡ wants wanted) where
   joined-connected : (other place : ℕ) → peer room seat key wanted ≡ joined other place → Connected start past seat number other (numberOfPlace place)
@@ -37,9 +45,9 @@ module _ (sizes : Sizes) (start : Start) (past : Past) (room : Room) (whole : Wh
 
   connected-has : (other number′ : ℕ) → Connected start past seat number other number′ → PeerHas room seat key wanted other number′
   connected-has other number′ c =
-      let q : c .key ≡ key = (let a = c .here .sits in let b = sitter-is sizes start past room whole tie seat key routes sits in cc) in
-      let asked : stands start past key number (c .wanted) ≡ true = subst (λ (k : Key). stands start past k number (c .wanted) ≡ true) q (c .here .asked) in
-      let r : c .wanted ≡ wanted = (let a = stands-wants sizes start past room whole tie seat key routes sits number (c .wanted) asked in cc) in
+      let mine = connected-asks sizes start past room whole tie seat key routes sits number other number′ c in
+      let q = mine .0 in
+      let r : c .wanted ≡ wanted = (let a = mine .1 in cc) in
       let there = seat-holds sizes start past room whole tie other (c .wanted) (c .there .sits) in
       let has : PeerHas room seat (c .key) (c .wanted) other number′ = record {
         apart = c .apart;

@@ -1,0 +1,313 @@
+-- Who is told of a connection, for every history, by what has happened alone. A drop sends one disconnect notification, to the connected peer under the
+-- peer's own number, exactly when the two are connected on the number dropped, and else nothing. A leave sends, in rising number, exactly one disconnect
+-- notification for each of the leaver's numbers that is connected, to the peer under the peer's own number, and nothing else. A request is answered
+-- first; where its number is new and the two are now connected, connected is sent to the asker, then to the peer, each with its own number, and nothing
+-- else; where no two are now connected, where the number is an old one, and where it is 0, the answer is all. Assumes nothing.
+use mathlib.Core.Path.{_≡_, refl, sym, ap, _∙_, subst}
+use mathlib.Core.Bool.{Bool, true, false, true≢false}
+use mathlib.Core.List.{List, [], _∷_, _++_}
+use mathlib.Core.Logic.{_↔_, _≢_}
+use Prim.Native.Nat.{ℕ, zero, suc, _+_, _-_, _<_, _≤_}
+use native.Mathlib.Omega.{arith}
+use lib.Dec.{eqb}
+use lib.ListN.{getD, set, length}
+use borrow.Author.Tests.{eqb-true, eqb-false}
+use Rattle.key.proofs.Same.{same-refl}
+use Rattle.packet.specs.Read as read
+use Rattle.packet.specs.FromClient as client
+use Rattle.packet.specs.FromRelay as relay
+use Rattle.rules.specs.Room.{Sizes, Key, Route, free, wants, Seat, vacant, holds, Room, emptyRoom, Found, none, at, find, seatOf, routeTo, isFree, routesOf, seatAt, routeAt, firstNumber, numberOfPlace, Peer, alone, joined}
+use Rattle.rules.specs.Whole.{Whole}
+use Rattle.rules.specs.Call.{Call, leave, packetCall, Sent}
+use Rattle.rules.specs.Outcome.{withRoute, apply, applyAll, refuse, accept, to, roomAfter, joinedBy, peerAt, peerIn, peer, toPeer, tellPeer, tellPeers, leaveFrom, tellBoth, requestAt, dropAt, act, actOn, packetFrom, outcome}
+use Rattle.rules.specs.History.{Event, event, transcript}
+use Rattle.rules.specs.Transcript.{Past, nobody, clientOf, Start, fromEmpty, sitter, stands}
+use Rattle.rules.specs.After.{pastAfter, clientIn, Tied}
+use Rattle.rules.specs.GoesOn.{Connected}
+use Rattle.rules.proofs.FindLaws.{clash, find-hit, find-miss, find-within, find-set-same, find-once, seat-set, seat-set-other, held-within, route-to-wants, route-at-place, wanted-high, wanted-place, route-set}
+use Rattle.rules.proofs.Whole.{wanted-once, whole-after, whole-empty}
+use Rattle.rules.proofs.Tied.{tied-after, tied-empty, seat-holds, sitter-is, stands-wants, wants-stands, free-stands}
+use Rattle.rules.proofs.PeerConnected.{OnlyPeer, connected-asks, peer-is-connected}
+use Rattle.rules.proofs.EachEvent.{each-event}
+
+-- ---- what is told at a disconnect
+
+-- on `number` of the client in `seat`: one disconnect notification for the connected peer, under the peer's number, exactly where there is one; else nothing
+pub record Disconnects (start : Start) (past : Past) (seat number : ℕ) (sent : List Sent) : Type 0 where
+  pub told : (other number′ : ℕ) → (sent ≡ to other (relay.disconnectNotice number′) ∷ []) ↔ Connected start past seat number other number′
+  pub otherwise : ((other number′ : ℕ) → Connected start past seat number other number′ → ⊥) → sent ≡ []
+
+-- a record tells its seat and its number
+same-notice : (i j n m : ℕ) → _≡_ {A = List Sent} (to i (relay.disconnectNotice n) ∷ []) (to j (relay.disconnectNotice m) ∷ []) → (i ≡ j) × (n ≡ m)
+unfolding to relay.relayBytes
+same-notice i j n m e =
+    let s : to i (relay.disconnectNotice n) ≡ to j (relay.disconnectNotice m) = cc in
+    let b : _≡_ {A = List ℕ} (3 ∷ n ∷ []) (3 ∷ m ∷ []) = ap (λ (r : Sent). r .bytes) s in
+    (ap (λ (r : Sent). r .seat) s, cc)
+
+module _ (start : Start) (past : Past) (seat number : ℕ) where
+  none-told : ((other number′ : ℕ) → Connected start past seat number other number′ → ⊥) → Disconnects start past seat number []
+  none-told never = record { told = λ other number′. (λ q. clash (cc), λ c. absurd (never other number′ c)); otherwise = λ q. refl }
+
+  peer-told : (p : Peer) → OnlyPeer start past seat number p → Disconnects start past seat number (toPeer relay.disconnectNotice p)
+  unfolding toPeer OnlyPeer
+  peer-told alone only = none-told only
+  peer-told (joined other place) only = record {
+    told = λ other′ n. (
+      λ s. (let q = same-notice other other′ (numberOfPlace place) n s in rw (← (q .0), ← (q .1)) (only .0)),
+      λ c. (let q = only .1 other′ n c in rw (← (q .0), ← (q .1))),
+    );
+    otherwise = λ never. absurd (never other (numberOfPlace place) (only .0));
+  }
+
+-- ---- who is connected sits there, and asked
+
+module _ (sizes : Sizes) (start : Start) (past : Past) (room : Room) (whole : Whole sizes room) (tie : Tied start past room) (seat : ℕ) where
+  empty-alone : seatAt room seat ≡ vacant → (number other number′ : ℕ) → Connected start past seat number other number′ → ⊥
+  unfolding clientIn
+  empty-alone h number other number′ c = let a : sitter start past seat ≡ nobody = tie .sits seat ∙ ap clientIn h in let b = c .here .sits in clash (cc)
+
+  module _ (key : Key) (routes : List Route) (sits : seatAt room seat ≡ holds key routes) where
+    free-alone : (number : ℕ) → routeAt routes number ≡ free → (other number′ : ℕ) → Connected start past seat number other number′ → ⊥
+    free-alone number h other number′ c = let a = connected-asks sizes start past room whole tie seat key routes sits number other number′ c .1 in clash (cc)
+
+    -- ---- a drop
+
+    drop-route : (number : ℕ) (route : Route) → routeAt routes number ≡ route → Disconnects start past seat number (dropAt route room seat key number .sent)
+    unfolding dropAt refuse accept
+    drop-route number free h = none-told start past seat number (free-alone number h)
+    drop-route number (wants wanted) h =
+        peer-told start past seat number (peer room seat key wanted) (peer-is-connected sizes start past room whole tie seat key routes sits number wanted h)
+
+  drop-seat : (number : ℕ) (bytes : List ℕ) → client.relayRead bytes ≡ read.packet (client.dropRoute number) → (s : Seat) → seatAt room seat ≡ s
+      → Disconnects start past seat number (packetFrom s room seat bytes .sent)
+  unfolding packetFrom actOn act refuse
+  drop-seat number bytes e vacant h = none-told start past seat number (empty-alone h number)
+  drop-seat number bytes e (holds key routes) h = rw e (drop-route key routes h number (routeAt routes number) refl)
+
+  pub drop-tells : (number : ℕ) (bytes : List ℕ) → client.relayRead bytes ≡ read.packet (client.dropRoute number)
+      → Disconnects start past seat number (event room (packetCall seat bytes) .sent)
+  unfolding event outcome
+  drop-tells number bytes e = drop-seat number bytes e (seatAt room seat) refl
+
+-- ---- a leave
+
+-- in two parts, of which one holds of the first and one of the rest
+pub record Parts (First Rest : List Sent → Type 0) (sent : List Sent) : Type 0 where
+  pub front : List Sent
+  pub back : List Sent
+  pub both : sent ≡ front ++ back
+  pub first : First front
+  pub rest : Rest back
+
+-- on each number in turn, from `number` on, so many
+unfoldable pub InTurn : Start → Past → ℕ → ℕ → ℕ → List Sent → Type 0
+InTurn start past seat number zero sent = sent ≡ []
+InTurn start past seat number (suc many) sent = Parts (Disconnects start past seat number) (InTurn start past seat (suc number) many) sent
+
+-- what a leave tells: on each of the seat's numbers in turn, and those are all that can be connected
+pub record LeaveTells (sizes : Sizes) (start : Start) (past : Past) (seat : ℕ) (sent : List Sent) : Type 0 where
+  pub inTurn : InTurn start past seat firstNumber (sizes .numbers) sent
+  pub all : (number other number′ : ℕ) → Connected start past seat number other number′ → (firstNumber ≤ number) × (number < firstNumber + sizes .numbers)
+
+module _ (sizes : Sizes) (start : Start) (past : Past) (room : Room) (whole : Whole sizes room) (tie : Tied start past room) (seat : ℕ) where
+  none-in-turn : ((number other number′ : ℕ) → Connected start past seat number other number′ → ⊥) → (number many : ℕ) → InTurn start past seat number many []
+  unfolding InTurn
+  none-in-turn never number zero = refl
+  none-in-turn never number (suc many) =
+      record { front = []; back = []; both = refl; first = none-told start past seat number (never number); rest = none-in-turn never (suc number) many }
+
+  module _ (key : Key) (routes : List Route) (sits : seatAt room seat ≡ holds key routes) where
+    route-told : (number : ℕ) (route : Route) → routeAt routes number ≡ route → Disconnects start past seat number (tellPeer room seat key route)
+    unfolding tellPeer
+    route-told number free h = none-told start past seat number (free-alone sizes start past room whole tie seat key routes sits number h)
+    route-told number (wants wanted) h =
+        peer-told start past seat number (peer room seat key wanted) (peer-is-connected sizes start past room whole tie seat key routes sits number wanted h)
+
+    routes-told : (rest : List Route) (number : ℕ) → ((i : ℕ) → routeAt routes (number + i) ≡ getD rest i free) → InTurn start past seat number (length rest) (tellPeers room seat key rest)
+    unfolding tellPeers InTurn
+    routes-told [] number h = refl
+    routes-told (route ∷ rest) number h = record {
+      front = tellPeer room seat key route;
+      back = tellPeers room seat key rest;
+      both = refl;
+      first = route-told number route (let z : number ≡ number + 0 = omega arith in ap (routeAt routes) z ∙ h 0);
+      rest = routes-told rest (suc number) (λ i. (let z : suc number + i ≡ number + suc i = omega arith in ap (routeAt routes) z ∙ h (suc i)));
+    }
+
+    in-range : (number : ℕ) (wanted : Key) → routeAt routes number ≡ wants wanted → (firstNumber ≤ number) × (number < firstNumber + sizes .numbers)
+    unfolding routeTo
+    in-range number wanted h =
+        let high = wanted-high routes number wanted h in
+        let there : routeTo wanted (getD routes (number - firstNumber) free) ≡ true = ap (routeTo wanted) (wanted-place routes number wanted h) ∙ same-refl wanted in
+        let found = find-once (routeTo wanted) free routes (number - firstNumber) refl (wanted-once sizes room whole seat key routes sits wanted) there in
+        let within = find-within (routeTo wanted) routes (number - firstNumber) found in
+        let many = whole .numbers seat key routes sits in
+        (omega arith, omega arith)
+
+    holder-tells : LeaveTells sizes start past seat (tellPeers room seat key routes)
+    holder-tells = record {
+      inTurn = subst (λ (n : ℕ). InTurn start past seat firstNumber n (tellPeers room seat key routes)) (whole .numbers seat key routes sits) (routes-told routes firstNumber (route-at-place routes));
+      all = λ number other number′ c. in-range number (c .wanted) (connected-asks sizes start past room whole tie seat key routes sits number other number′ c .1);
+    }
+
+  leave-seat : (s : Seat) → seatAt room seat ≡ s → LeaveTells sizes start past seat (leaveFrom s room seat .sent)
+  unfolding leaveFrom refuse accept
+  leave-seat vacant h =
+      let never = empty-alone sizes start past room whole tie seat h in
+      record { inTurn = none-in-turn never firstNumber (sizes .numbers); all = λ number other number′ c. absurd (never number other number′ c) }
+  leave-seat (holds key routes) h = holder-tells key routes h
+
+  pub leave-tells : LeaveTells sizes start past seat (event room (leave seat) .sent)
+  unfolding event outcome
+  leave-tells = leave-seat (seatAt room seat) refl
+
+-- ---- a request
+
+-- "if the two are now connected, connected is sent to the asker, then to the peer, each with its own number"; else nothing
+pub record Connects (start : Start) (past : Past) (seat number : ℕ) (sent : List Sent) : Type 0 where
+  pub told : (other number′ : ℕ) → (sent ≡ to seat (relay.connectNotice number) ∷ to other (relay.connectNotice number′) ∷ []) ↔ Connected start past seat number other number′
+  pub otherwise : ((other number′ : ℕ) → Connected start past seat number other number′ → ⊥) → sent ≡ []
+
+-- what the client `key` in `seat` and its peer are told where it asks for `wanted`: `e` is the event, so that `e ∷ past` is now
+pub record RequestTells (start : Start) (past : Past) (seat : ℕ) (key wanted : Key) (e : Event) : Type 0 where
+  pub number : ℕ
+  pub later : List Sent
+  -- the answer comes first
+  pub answered : e .sent ≡ to seat (relay.routingResponse number wanted) ∷ later
+  -- "a key already named by this seat gets its old number again and nothing else happens"
+  pub old : (n : ℕ) → stands start past key n wanted ≡ true → (number ≡ n) × (later ≡ [])
+  -- "with none free, the answer is 0"
+  pub zero : number ≡ 0 → later ≡ []
+  -- a number that is new
+  pub new : ((n : ℕ) → stands start past key n wanted ≡ false) → number ≢ 0 → Connects start (e ∷ past) seat number later
+
+same-notices : (seat number i j n m : ℕ)
+    → _≡_ {A = List Sent} (to seat (relay.connectNotice number) ∷ to i (relay.connectNotice n) ∷ []) (to seat (relay.connectNotice number) ∷ to j (relay.connectNotice m) ∷ []) → (i ≡ j) × (n ≡ m)
+unfolding to relay.relayBytes
+same-notices seat number i j n m e =
+    let s : to i (relay.connectNotice n) ≡ to j (relay.connectNotice m) = cc in
+    let b : _≡_ {A = List ℕ} (2 ∷ n ∷ []) (2 ∷ m ∷ []) = ap (λ (r : Sent). r .bytes) s in
+    (ap (λ (r : Sent). r .seat) s, cc)
+
+both-connected : (start : Start) (past : Past) (seat number : ℕ) (p : Peer) → OnlyPeer start past seat number p → Connects start past seat number (tellBoth seat number p)
+unfolding tellBoth OnlyPeer
+both-connected start past seat number alone only = record { told = λ other number′. (λ q. clash (cc), λ c. absurd (only other number′ c)); otherwise = λ q. refl }
+both-connected start past seat number (joined other place) only = record {
+  told = λ other′ n. (
+    λ s. (let q = same-notices seat number other other′ (numberOfPlace place) n s in rw (← (q .0), ← (q .1)) (only .0)),
+    λ c. (let q = only .1 other′ n c in rw (← (q .0), ← (q .1))),
+  );
+  otherwise = λ never. absurd (never other (numberOfPlace place) (only .0));
+}
+
+module _ (sizes : Sizes) (start : Start) (past : Past) (room : Room) (whole : Whole sizes room) (tie : Tied start past room) (seat : ℕ) (key : Key)
+    (routes : List Route) (sits : seatAt room seat ≡ holds key routes) (wanted : Key) where
+  -- the search for a peer does not see the asker's own routes
+  peer-kept : (routes′ : List Route) → peer (set room seat (holds key routes′)) seat key wanted ≡ peer room seat key wanted
+  unfolding peer peerIn peerAt seatAt seatOf
+  peer-kept routes′ = rw (find-set-same (seatOf wanted) vacant room seat (holds key routes′) (sym (rw sits))) (go (find (seatOf wanted) room))
+    where
+      on : (other : ℕ) (t : Bool) → eqb seat other ≡ t → peerAt t (set room seat (holds key routes′)) key other ≡ peerAt t room key other
+      on other true e = refl
+      on other false e = ap (λ (s : Seat). joinedBy other (find (routeTo key) (routesOf s))) (seat-set-other room seat (holds key routes′) other (λ q. eqb-false seat other e (sym q)))
+
+      go : (f : Found) → peerIn f (set room seat (holds key routes′)) seat key ≡ peerIn f room seat key
+      go none = refl
+      go (at other) = on other (eqb seat other) refl
+
+  -- where the lowest free number is given
+  module _ (bytes : List ℕ) (asks : client.relayRead bytes ≡ read.packet (client.routingRequest wanted)) (place : ℕ) (notAsked : find (routeTo wanted) routes ≡ none)
+      (lowest : find isFree routes ≡ at place) where
+    abbrev now : Past
+    now = event room (packetCall seat bytes) ∷ past
+
+    abbrev next : Room
+    next = roomAfter sizes room (outcome room (packetCall seat bytes))
+
+    given : next ≡ set room seat (holds key (set routes place (wants wanted)))
+    unfolding outcome packetFrom actOn act requestAt accept roomAfter applyAll apply withRoute
+    given = rw (sits, asks, notAsked, lowest) (ap (λ (s : Seat). set room seat (withRoute s place (wants wanted))) sits)
+
+    now-connected : Connects start now seat (numberOfPlace place) (tellBoth seat (numberOfPlace place) (peer room seat key wanted))
+    now-connected =
+        let here : seatAt next seat ≡ holds key (set routes place (wants wanted)) = ap (λ (r : Room). seatAt r seat) given ∙ seat-set room seat _ (held-within room seat key routes sits) in
+        let only = peer-is-connected sizes start now next (whole-after sizes room whole (packetCall seat bytes)) (tied-after sizes start past room whole tie (packetCall seat bytes))
+        seat key (set routes place (wants wanted)) here (numberOfPlace place) wanted (route-set routes place (wants wanted) (find-within isFree routes place lowest)) in
+        both-connected start now seat (numberOfPlace place) (peer room seat key wanted)
+        (subst (OnlyPeer start now seat (numberOfPlace place)) (ap (λ (r : Room). peer r seat key wanted) given ∙ peer-kept (set routes place (wants wanted))) only)
+
+  module _ (bytes : List ℕ) (asks : client.relayRead bytes ≡ read.packet (client.routingRequest wanted)) where
+    -- with no route that names the key, no request for it stands
+    not-asked : {A : Type 0} → find (routeTo wanted) routes ≡ none → (n : ℕ) → stands start past key n wanted ≡ true → A
+    unfolding routeTo
+    not-asked h n t =
+        let there : getD routes (n - firstNumber) free ≡ wants wanted = wanted-place routes n wanted (stands-wants sizes start past room whole tie seat key routes sits n wanted t) in
+        absurd (true≢false (sym (ap (routeTo wanted) there ∙ same-refl wanted) ∙ find-miss (routeTo wanted) free routes refl h (n - firstNumber)))
+
+    request-found : (held lowest : Found) → find (routeTo wanted) routes ≡ held → find isFree routes ≡ lowest
+        → event room (packetCall seat bytes) .sent ≡ requestAt held lowest room seat key wanted .sent → RequestTells start past seat key wanted (event room (packetCall seat bytes))
+    unfolding requestAt accept
+    request-found (at place) lowest h l s =
+        let there : routeAt routes (numberOfPlace place) ≡ wants wanted = route-at-place routes place ∙ route-to-wants wanted _ (find-hit (routeTo wanted) free routes place h) in
+        record {
+          number = numberOfPlace place;
+          later = [];
+          answered = s;
+          old = λ n t. (whole .wanted seat key routes sits wanted (numberOfPlace place) n there (stands-wants sizes start past room whole tie seat key routes sits n wanted t), refl);
+          zero = λ q. refl;
+          new = λ none-stands q. absurd (true≢false (sym (wants-stands sizes start past room whole tie seat key routes sits (numberOfPlace place) wanted there) ∙ none-stands (numberOfPlace place)));
+        }
+    request-found none none h l s = record {
+      number = 0;
+      later = [];
+      answered = s;
+      old = λ n t. not-asked h n t;
+      zero = λ q. refl;
+      new = λ none-stands q. absurd (q refl);
+    }
+    request-found none (at place) h l s = record {
+      number = numberOfPlace place;
+      later = tellBoth seat (numberOfPlace place) (peer room seat key wanted);
+      answered = s;
+      old = λ n t. not-asked h n t;
+      zero = λ q. absurd (omega arith);
+      new = λ none-stands q. now-connected bytes asks place h l;
+    }
+
+    pub request-tells : RequestTells start past seat key wanted (event room (packetCall seat bytes))
+    unfolding event outcome packetFrom actOn act
+    request-tells = request-found (find (routeTo wanted) routes) (find isFree routes) refl refl (rw (sits, asks))
+
+-- ---- every history, from the empty room
+
+pub drop-tells-from-empty : (sizes : Sizes) (calls : List Call) (before : List Event) (e : Event) (later : List Event)
+    → transcript sizes (emptyRoom sizes) calls ≡ before ++ (e ∷ later)
+    → (seat number : ℕ) (bytes : List ℕ) → e .call ≡ packetCall seat bytes → client.relayRead bytes ≡ read.packet (client.dropRoute number)
+    → Disconnects fromEmpty (pastAfter [] before) seat number (e .sent)
+unfolding event
+drop-tells-from-empty sizes calls before e later t seat number bytes c r =
+    each-event sizes fromEmpty (λ past e. e .call ≡ packetCall seat bytes → Disconnects fromEmpty past seat number (e .sent))
+    (λ past room whole tie call c. subst (λ (x : Call). Disconnects fromEmpty past seat number (event room x .sent)) (sym c) (drop-tells sizes fromEmpty past room whole tie seat number bytes r))
+    [] (emptyRoom sizes) (whole-empty sizes) (tied-empty sizes) calls before e later t c
+
+pub leave-tells-from-empty : (sizes : Sizes) (calls : List Call) (before : List Event) (e : Event) (later : List Event)
+    → transcript sizes (emptyRoom sizes) calls ≡ before ++ (e ∷ later)
+    → (seat : ℕ) → e .call ≡ leave seat → LeaveTells sizes fromEmpty (pastAfter [] before) seat (e .sent)
+unfolding event
+leave-tells-from-empty sizes calls before e later t seat c =
+    each-event sizes fromEmpty (λ past e. e .call ≡ leave seat → LeaveTells sizes fromEmpty past seat (e .sent))
+    (λ past room whole tie call c. subst (λ (x : Call). LeaveTells sizes fromEmpty past seat (event room x .sent)) (sym c) (leave-tells sizes fromEmpty past room whole tie seat))
+    [] (emptyRoom sizes) (whole-empty sizes) (tied-empty sizes) calls before e later t c
+
+pub request-tells-from-empty : (sizes : Sizes) (calls : List Call) (before : List Event) (e : Event) (later : List Event)
+    → transcript sizes (emptyRoom sizes) calls ≡ before ++ (e ∷ later)
+    → (seat : ℕ) (bytes : List ℕ) (key wanted : Key) → e .call ≡ packetCall seat bytes → client.relayRead bytes ≡ read.packet (client.routingRequest wanted)
+    → sitter fromEmpty (pastAfter [] before) seat ≡ clientOf key → RequestTells fromEmpty (pastAfter [] before) seat key wanted e
+unfolding event
+request-tells-from-empty sizes calls before e later t seat bytes key wanted c r =
+    each-event sizes fromEmpty (λ past e. e .call ≡ packetCall seat bytes → sitter fromEmpty past seat ≡ clientOf key → RequestTells fromEmpty past seat key wanted e)
+    (λ past room whole tie call c by.
+    subst (λ (x : Call). RequestTells fromEmpty past seat key wanted (event room x)) (sym c)
+    (request-tells sizes fromEmpty past room whole tie seat key (routesOf (seatAt room seat)) (seat-holds sizes fromEmpty past room whole tie seat key by) wanted bytes r))
+    [] (emptyRoom sizes) (whole-empty sizes) (tied-empty sizes) calls before e later t c
