@@ -1,6 +1,8 @@
 -- Document 01, "Examples" and "Errors that students make", as far as they speak of the room: facts of the definitions at 40 seats and 32 numbers, each by
 -- computation. P1 to P11; the bounds of requests, arrivals, out-of-band packets and data; data goes on under the receiver's number; nothing goes to who took
--- the seat of a client that left; a disconnect leaves the peer's request standing. Assumes nothing.
+-- the seat of a client that left; a disconnect leaves the peer's request standing. And one history each for sentences of "The room" and "Refusal numbers" that
+-- these do not meet: ping and pong, a request made twice, a client's own key, notifications between clients whose numbers differ, a leave with two
+-- peers, and refusals 2 before 1, 3 before 4, 4, 5 and a drop's 8. Assumes nothing.
 use mathlib.Core.Path.{_≡_, refl}
 use mathlib.Core.Bool.{true}
 use mathlib.Core.List.{List, [], _∷_, _++_}
@@ -131,6 +133,45 @@ asked-twice = refl
 own-key-waits : shows (arrive ka ∷ ask 0 ka ∷ data10 0 ∷ []) ≡ took 0 ∷ wrote 0 37 (0 ∷ 0 ∷ 0x22 ∷ 1 ∷ 0x10 ∷ ka) ∷ gets 9 ∷ []
 unfolding opened shows showAll show took gets ask data10
 own-key-waits = refl
+
+-- ---- "each with its own number", "with the peer's own number", where the two numbers differ: KA's for KB is 18, KB's for KA is 17
+
+numbersDiffer : List Call
+numbersDiffer = arrive ka ∷ arrive kb ∷ askAll 0 2 ++ (ask 0 kb ∷ ask 1 kc ∷ ask 1 ka ∷ [])
+
+own-numbers : drop 6 (shows (numbersDiffer ++ (packetCall 0 (3 ∷ 0x12 ∷ []) ∷ [])))
+    ≡ wrote 1 47 ((1 ∷ 0 ∷ 0x22 ∷ 1 ∷ 0x11 ∷ ka) ++ (1 ∷ 0 ∷ 2 ∷ 2 ∷ 0x11 ∷ 0 ∷ 0 ∷ 2 ∷ 2 ∷ 0x12 ∷ []))
+    ∷ wrote 0 5 (1 ∷ 0 ∷ 2 ∷ 3 ∷ 0x11 ∷ []) ∷ []
+unfolding opened shows showAll show ask askAll numbersDiffer
+own-numbers = refl
+
+-- ---- "in rising route number, each connected peer is told disconnected": KA's 16 is for KC in seat 2, its 17 for KB in seat 1
+
+leave-in-order : drop 8 (shows (arrive ka ∷ arrive kb ∷ arrive kc ∷ ask 0 kc ∷ ask 0 kb ∷ ask 2 kb ∷ ask 2 ka ∷ ask 1 ka ∷ leave 0 ∷ []))
+    ≡ wrote 0 10 (2 ∷ 0 ∷ 2 ∷ 3 ∷ 0x11 ∷ 1 ∷ 0 ∷ 2 ∷ 3 ∷ 0x10 ∷ []) ∷ []
+unfolding opened shows showAll show ask
+leave-in-order = refl
+
+-- ---- 2 before 1; 3, and before 4; 4 and 5; 8 for a drop of a number that names no route: 15, one that is free, 48, one that was dropped
+
+two-before-one : drop 40 (shows (arriveAll 0 40 ++ (arrive (replicate 32 0) ∷ []))) ≡ gets 2 ∷ []
+unfolding opened shows showAll show gets arriveAll
+two-before-one = refl
+
+empty-seats : shows (leave 0 ∷ leave 40 ∷ packetCall 0 [] ∷ packetCall 40 (0 ∷ ka) ∷ []) ≡ gets 3 ∷ gets 3 ∷ gets 3 ∷ gets 3 ∷ []
+unfolding opened shows showAll show gets
+empty-seats = refl
+
+not-taken : shows (arrive ka ∷ packetCall 0 [] ∷ packetCall 0 (1 ∷ []) ∷ []) ≡ took 0 ∷ gets 4 ∷ gets 5 ∷ []
+unfolding opened shows showAll show took gets
+not-taken = refl
+
+dropping : ℕ → Call
+dropping number = packetCall 0 (3 ∷ number ∷ [])
+
+dropped-none : drop 2 (shows (arrive ka ∷ ask 0 kb ∷ dropping 15 ∷ dropping 17 ∷ dropping 48 ∷ dropping 16 ∷ dropping 16 ∷ [])) ≡ gets 8 ∷ gets 8 ∷ gets 8 ∷ wrote 0 0 [] ∷ gets 8 ∷ []
+unfolding opened shows showAll show gets ask dropping
+dropped-none = refl
 
 -- ---- "Sending the sender's number on. If KB asked for KC first, its number for KA is 17, and P6 must show 11 hex."
 
