@@ -63,6 +63,32 @@ module _ {A : Type 0} where
       go false none k h = clash (cc)
       go false (at j) k h = let q : suc j ≡ i = cc in omega (arith, k j refl)
 
+  -- none before it passes
+  pub find-before : (test : A → Bool) (d : A) (l : List A) (i : ℕ) → find test l ≡ at i → (j : ℕ) → j < i → test (getD l j d) ≡ false
+  unfolding find orLater
+  find-before test d [] i e j h = clash (cc)
+  find-before test d (x ∷ l) i e j h = go (test x) refl (find test l) (find-before test d l) e j h
+    where
+      go : (t : Bool) → test x ≡ t → (f : Found) → ((i : ℕ) → f ≡ at i → (j : ℕ) → j < i → test (getD l j d) ≡ false)
+          → orLater t f ≡ at i → (j : ℕ) → j < i → test (getD (x ∷ l) j d) ≡ false
+      go true ht f k q j h = let z : 0 ≡ i = cc in absurd (omega arith)
+      go false ht none k q j h = clash (cc)
+      go false ht (at m) k q zero h = ht
+      go false ht (at m) k q (suc j) h = let z : suc m ≡ i = cc in k m refl j (omega arith)
+
+  -- where none is found, none of the list passes
+  pub find-none : (test : A → Bool) (d : A) (l : List A) → find test l ≡ none → (i : ℕ) → i < length l → test (getD l i d) ≡ false
+  unfolding find orLater
+  find-none test d [] e i h = absurd (omega arith)
+  find-none test d (x ∷ l) e i h = go (test x) refl (find test l) (find-none test d l) e i h
+    where
+      go : (t : Bool) → test x ≡ t → (f : Found) → (f ≡ none → (i : ℕ) → i < length l → test (getD l i d) ≡ false)
+          → orLater t f ≡ none → (i : ℕ) → i < suc (length l) → test (getD (x ∷ l) i d) ≡ false
+      go true ht f k q i h = clash (cc)
+      go false ht none k q zero h = ht
+      go false ht none k q (suc i) h = k refl i (omega arith)
+      go false ht (at m) k q i h = clash (cc)
+
   -- nothing is found in a list of things that do not pass
   pub find-replicate : (test : A → Bool) (n : ℕ) (x : A) → test x ≡ false → find test (replicate n x) ≡ none
   unfolding find orLater

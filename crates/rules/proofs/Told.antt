@@ -32,8 +32,14 @@ use Rattle.rules.proofs.EachEvent.{each-event}
 
 -- ---- what is told at a disconnect
 
--- on `number` of the client in `seat`: one disconnect notification for the connected peer, under the peer's number, exactly where there is one; else nothing
+-- on `number` of the client in `seat`, one of these is so
+pub data PeerOrNone (start : Start) (past : Past) (seat number : ℕ) : Type 0 where
+  peerIs : (other number′ : ℕ) → Connected start past seat number other number′ → PeerOrNone start past seat number
+  noPeer : ((other number′ : ℕ) → Connected start past seat number other number′ → ⊥) → PeerOrNone start past seat number
+
+-- one disconnect notification for the connected peer, under the peer's number, exactly where there is one; else nothing
 pub record Disconnects (start : Start) (past : Past) (seat number : ℕ) (sent : List Sent) : Type 0 where
+  pub decided : PeerOrNone start past seat number
   pub told : (other number′ : ℕ) → (sent ≡ to other (relay.disconnectNotice number′) ∷ []) ↔ Connected start past seat number other number′
   pub otherwise : ((other number′ : ℕ) → Connected start past seat number other number′ → ⊥) → sent ≡ []
 
@@ -47,12 +53,13 @@ same-notice i j n m e =
 
 module _ (start : Start) (past : Past) (seat number : ℕ) where
   none-told : ((other number′ : ℕ) → Connected start past seat number other number′ → ⊥) → Disconnects start past seat number []
-  none-told never = record { told = λ other number′. (λ q. clash (cc), λ c. absurd (never other number′ c)); otherwise = λ q. refl }
+  none-told never = record { decided = noPeer never; told = λ other number′. (λ q. clash (cc), λ c. absurd (never other number′ c)); otherwise = λ q. refl }
 
   peer-told : (p : Peer) → OnlyPeer start past seat number p → Disconnects start past seat number (toPeer relay.disconnectNotice p)
   unfolding toPeer OnlyPeer
   peer-told alone only = none-told only
   peer-told (joined other place) only = record {
+    decided = peerIs other (numberOfPlace place) (only .0);
     told = λ other′ n. (
       λ s. (let q = same-notice other other′ (numberOfPlace place) n s in rw (← (q .0), ← (q .1)) (only .0)),
       λ c. (let q = only .1 other′ n c in rw (← (q .0), ← (q .1))),
@@ -166,6 +173,7 @@ module _ (sizes : Sizes) (start : Start) (past : Past) (room : Room) (whole : Wh
 
 -- "if the two are now connected, connected is sent to the asker, then to the peer, each with its own number"; else nothing
 pub record Connects (start : Start) (past : Past) (seat number : ℕ) (sent : List Sent) : Type 0 where
+  pub decided : PeerOrNone start past seat number
   pub told : (other number′ : ℕ) → (sent ≡ to seat (relay.connectNotice number) ∷ to other (relay.connectNotice number′) ∷ []) ↔ Connected start past seat number other number′
   pub otherwise : ((other number′ : ℕ) → Connected start past seat number other number′ → ⊥) → sent ≡ []
 
@@ -192,8 +200,9 @@ same-notices seat number i j n m e =
 
 both-connected : (start : Start) (past : Past) (seat number : ℕ) (p : Peer) → OnlyPeer start past seat number p → Connects start past seat number (tellBoth seat number p)
 unfolding tellBoth OnlyPeer
-both-connected start past seat number alone only = record { told = λ other number′. (λ q. clash (cc), λ c. absurd (only other number′ c)); otherwise = λ q. refl }
+both-connected start past seat number alone only = record { decided = noPeer only; told = λ other number′. (λ q. clash (cc), λ c. absurd (only other number′ c)); otherwise = λ q. refl }
 both-connected start past seat number (joined other place) only = record {
+  decided = peerIs other (numberOfPlace place) (only .0);
   told = λ other′ n. (
     λ s. (let q = same-notices seat number other other′ (numberOfPlace place) n s in rw (← (q .0), ← (q .1)) (only .0)),
     λ c. (let q = only .1 other′ n c in rw (← (q .0), ← (q .1))),
