@@ -4,15 +4,15 @@
 use mathlib.Core.Path.{_≡_, refl, sym, ap, _∙_, subst}
 use mathlib.Core.Bool.{true, true≢false}
 use mathlib.Core.List.{List, [], _∷_, _++_}
-use Prim.Native.Nat.{ℕ, _-_}
+use Prim.Native.Nat.{ℕ}
 use Rattle.refusal.specs.declared.Refusal.the-variants.{NotSeated, NoSuchRoute, NotConnected}
 use Rattle.packet.specs.Read as read
 use Rattle.packet.specs.FromClient as client
 use Rattle.packet.specs.FromRelay as relay
-use Rattle.rules.specs.Room.{Sizes, Key, Route, free, wants, Seat, vacant, holds, Room, emptyRoom, at, routesOf, seatAt, routeAt, firstNumber, numberOfPlace, Peer, alone, joined}
+use Rattle.rules.specs.Room.{Sizes, Key, Route, free, wants, Seat, vacant, holds, Room, emptyRoom, seatAt, routeAt, numberOfPlace, Peer, alone, joined}
 use Rattle.rules.specs.Whole.{Whole}
 use Rattle.rules.specs.Call.{Call, packetCall, refused, Sent}
-use Rattle.rules.specs.Outcome.{refuse, accept, to, Outcome, roomAfter, peer, carryTo, dataAt, act, actOn, packetFrom, outcome}
+use Rattle.rules.specs.Outcome.{refuse, accept, to, Outcome, peer, carryTo, dataAt, act, actOn, packetFrom, outcome}
 use Rattle.rules.specs.History.{Event, event, transcript}
 use Rattle.rules.specs.Transcript.{Past, nobody, clientOf, Start, fromEmpty, isAccepted, sitter, stands}
 use Rattle.rules.specs.After.{pastAfter, clientIn, Tied}

@@ -2,17 +2,16 @@
 -- what happened before it. Assumes nothing.
 use mathlib.Core.Path.{_≡_, subst}
 use mathlib.Core.List.{List, [], _∷_, _++_}
-use Prim.Native.Nat.{ℕ}
-use Rattle.rules.specs.Room.{Sizes, Room}
+use Rattle.rules.specs.Room.{Sizes, Room, emptyRoom}
 use Rattle.rules.specs.Whole.{Whole}
 use Rattle.rules.specs.Call.{Call}
 use Rattle.rules.specs.Outcome.{outcome, roomAfter}
 use Rattle.rules.specs.History.{Event, event, transcript}
-use Rattle.rules.specs.Transcript.{Past, Start}
+use Rattle.rules.specs.Transcript.{Past, Start, fromEmpty}
 use Rattle.rules.specs.After.{pastAfter, Tied}
 use Rattle.rules.proofs.FindLaws.{clash}
-use Rattle.rules.proofs.Whole.{whole-after}
-use Rattle.rules.proofs.Tied.{tied-after}
+use Rattle.rules.proofs.Whole.{whole-after, whole-empty}
+use Rattle.rules.proofs.Tied.{tied-after, tied-empty}
 
 module _ (sizes : Sizes) (start : Start) (P : Past → Event → Type 0)
     (each : (past : Past) (room : Room) → Whole sizes room → Tied start past room → (call : Call) → P past (event room call)) where
@@ -29,3 +28,9 @@ module _ (sizes : Sizes) (start : Start) (P : Past → Event → Type 0)
       let q : event room call ≡ b = cc in
       rw (← q)
       (each-event (event room call ∷ past) (roomAfter sizes room (outcome room call)) (whole-after sizes room whole call) (tied-after sizes start past room whole tie call) calls before e later (cc))
+
+-- from the empty room
+pub from-empty : (sizes : Sizes) (P : Past → Event → Type 0)
+    → ((past : Past) (room : Room) → Whole sizes room → Tied fromEmpty past room → (call : Call) → P past (event room call))
+    → (calls : List Call) (before : List Event) (e : Event) (later : List Event) → transcript sizes (emptyRoom sizes) calls ≡ before ++ (e ∷ later) → P (pastAfter [] before) e
+from-empty sizes P each = each-event sizes fromEmpty P each [] (emptyRoom sizes) (whole-empty sizes) (tied-empty sizes)

@@ -8,7 +8,7 @@ use Prim.Native.Nat.{ℕ, _-_}
 use lib.Dec.{eqb}
 use borrow.Author.Tests.{eqb-false, ne-eqb}
 use Rattle.key.proofs.Same.{same-refl}
-use Rattle.rules.specs.Room.{Sizes, Key, Route, free, wants, vacant, holds, Room, Found, none, at, find, seatOf, routeTo, routesOf, seatAt, routeAt, firstNumber, numberOfPlace, alone, joined}
+use Rattle.rules.specs.Room.{Sizes, Key, Route, free, wants, vacant, holds, Room, Found, none, at, find, seatOf, routeTo, routesOf, seatAt, routeAt, firstNumber, numberOfPlace, joined}
 use Rattle.rules.specs.Whole.{Whole}
 use Rattle.rules.specs.Outcome.{joinedBy, peerAt, peerIn, peer}
 use Rattle.rules.proofs.FindLaws.{clash, find-hit, find-once, seat-of-holds, route-to-wants, route-at-place, wanted-place}

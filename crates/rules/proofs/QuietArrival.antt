@@ -2,7 +2,6 @@
 -- refused; so in every event of every history that is an arrival. Assumes nothing.
 use mathlib.Core.Path.{_≡_, refl, ap, _∙_}
 use mathlib.Core.List.{List, [], _∷_, _++_}
-use Prim.Native.Nat.{ℕ}
 use Rattle.rules.specs.Room.{Sizes, Key, Room, Found, none, at, find, seatOf, isVacant}
 use Rattle.rules.specs.Call.{Call, arrive}
 use Rattle.rules.specs.Outcome.{refuse, accept, roomAfter, arriveAt, outcome}

@@ -11,7 +11,7 @@ use Prim.Native.Nat.{ℕ, zero, suc, _+_, _-_, _<_, _≤_}
 use native.Mathlib.Omega.{arith}
 use lib.Dec.{eqb}
 use lib.ListN.{getD, set, length}
-use borrow.Author.Tests.{eqb-true, eqb-false}
+use borrow.Author.Tests.{eqb-false}
 use Rattle.key.proofs.Same.{same-refl}
 use Rattle.packet.specs.Read as read
 use Rattle.packet.specs.FromClient as client
@@ -25,10 +25,10 @@ use Rattle.rules.specs.Transcript.{Past, nobody, clientOf, Start, fromEm
 use Rattle.rules.specs.After.{pastAfter, clientIn, Tied}
 use Rattle.rules.specs.GoesOn.{Connected}
 use Rattle.rules.proofs.FindLaws.{clash, find-hit, find-miss, find-within, find-set-same, find-once, seat-set, seat-set-other, held-within, route-to-wants, route-at-place, wanted-high, wanted-place, route-set}
-use Rattle.rules.proofs.Whole.{wanted-once, whole-after, whole-empty}
-use Rattle.rules.proofs.Tied.{tied-after, tied-empty, seat-holds, sitter-is, stands-wants, wants-stands, free-stands}
+use Rattle.rules.proofs.Whole.{wanted-once, whole-after}
+use Rattle.rules.proofs.Tied.{tied-after, seat-holds, stands-wants, wants-stands}
 use Rattle.rules.proofs.PeerConnected.{OnlyPeer, connected-asks, peer-is-connected}
-use Rattle.rules.proofs.EachEvent.{each-event}
+use Rattle.rules.proofs.EachEvent.{from-empty}
 
 -- ---- what is told at a disconnect
 
@@ -296,18 +296,18 @@ pub drop-tells-from-empty : (sizes : Sizes) (calls : List Call) (before : List E
     → Disconnects fromEmpty (pastAfter [] before) seat number (e .sent)
 unfolding event
 drop-tells-from-empty sizes calls before e later t seat number bytes c r =
-    each-event sizes fromEmpty (λ past e. e .call ≡ packetCall seat bytes → Disconnects fromEmpty past seat number (e .sent))
+    from-empty sizes (λ past e. e .call ≡ packetCall seat bytes → Disconnects fromEmpty past seat number (e .sent))
     (λ past room whole tie call c. subst (λ (x : Call). Disconnects fromEmpty past seat number (event room x .sent)) (sym c) (drop-tells sizes fromEmpty past room whole tie seat number bytes r))
-    [] (emptyRoom sizes) (whole-empty sizes) (tied-empty sizes) calls before e later t c
+    calls before e later t c
 
 pub leave-tells-from-empty : (sizes : Sizes) (calls : List Call) (before : List Event) (e : Event) (later : List Event)
     → transcript sizes (emptyRoom sizes) calls ≡ before ++ (e ∷ later)
     → (seat : ℕ) → e .call ≡ leave seat → LeaveTells sizes fromEmpty (pastAfter [] before) seat (e .sent)
 unfolding event
 leave-tells-from-empty sizes calls before e later t seat c =
-    each-event sizes fromEmpty (λ past e. e .call ≡ leave seat → LeaveTells sizes fromEmpty past seat (e .sent))
+    from-empty sizes (λ past e. e .call ≡ leave seat → LeaveTells sizes fromEmpty past seat (e .sent))
     (λ past room whole tie call c. subst (λ (x : Call). LeaveTells sizes fromEmpty past seat (event room x .sent)) (sym c) (leave-tells sizes fromEmpty past room whole tie seat))
-    [] (emptyRoom sizes) (whole-empty sizes) (tied-empty sizes) calls before e later t c
+    calls before e later t c
 
 pub request-tells-from-empty : (sizes : Sizes) (calls : List Call) (before : List Event) (e : Event) (later : List Event)
     → transcript sizes (emptyRoom sizes) calls ≡ before ++ (e ∷ later)
@@ -315,8 +315,8 @@ pub request-tells-from-empty : (sizes : Sizes) (calls : List Call) (before : Lis
     → sitter fromEmpty (pastAfter [] before) seat ≡ clientOf key → RequestTells fromEmpty (pastAfter [] before) seat key wanted e
 unfolding event
 request-tells-from-empty sizes calls before e later t seat bytes key wanted c r =
-    each-event sizes fromEmpty (λ past e. e .call ≡ packetCall seat bytes → sitter fromEmpty past seat ≡ clientOf key → RequestTells fromEmpty past seat key wanted e)
+    from-empty sizes (λ past e. e .call ≡ packetCall seat bytes → sitter fromEmpty past seat ≡ clientOf key → RequestTells fromEmpty past seat key wanted e)
     (λ past room whole tie call c by.
     subst (λ (x : Call). RequestTells fromEmpty past seat key wanted (event room x)) (sym c)
     (request-tells sizes fromEmpty past room whole tie seat key (routesOf (seatAt room seat)) (seat-holds sizes fromEmpty past room whole tie seat key by) wanted bytes r))
-    [] (emptyRoom sizes) (whole-empty sizes) (tied-empty sizes) calls before e later t c
+    calls before e later t c

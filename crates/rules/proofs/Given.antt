@@ -1,0 +1,236 @@
+-- What calls are answered, for every history, by what has happened alone. An arrival gets refusal 2 where its key sits; else 1 where every seat is taken;
+-- else it takes the lowest empty seat. A leave or a packet of a seat where nobody sits gets 3, and sends nothing; a leave of another seat is accepted. A
+-- request gets the number under which one for its key stands; else 0 where a request stands under every number; else the lowest under which none stands. A drop
+-- gets 8 where no request stands under its number, and else is accepted. The cases of each are all there are, and exclude each other. Assumes nothing.
+use mathlib.Core.Path.{_≡_, refl, sym, ap, _∙_, subst}
+use mathlib.Core.Bool.{true, false, true≢false}
+use mathlib.Core.List.{List, [], _∷_, _++_}
+use mathlib.Core.Logic.{_≢_}
+use Prim.Native.Nat.{ℕ, _-_, _<_}
+use native.Mathlib.Omega.{arith}
+use lib.ListN.{getD}
+use Rattle.refusal.specs.declared.Refusal.the-variants.{RoomFull, AlreadySeated, NotSeated, NoSuchRoute}
+use Rattle.key.proofs.Same.{same-refl}
+use Rattle.packet.specs.Read as read
+use Rattle.packet.specs.FromClient as client
+use Rattle.packet.specs.FromRelay as relay
+use Rattle.rules.specs.Room.{Sizes, Key, Route, free, wants, Seat, vacant, holds, Room, emptyRoom, Found, none, at, find, seatOf, isVacant, routeTo, isFree, routesOf, seatAt, routeAt, firstNumber, numberOfPlace}
+use Rattle.rules.specs.Whole.{Whole}
+use Rattle.rules.specs.Call.{Call, arrive, leave, packetCall, Answer, accepted, refused, Sent}
+use Rattle.rules.specs.Outcome.{refuse, sentBytes, accept, to, arriveAt, leaveFrom, requestAt, dropAt, act, actOn, packetFrom, outcome}
+use Rattle.rules.specs.History.{Event, event, transcript}
+use Rattle.rules.specs.Transcript.{Past, nobody, clientOf, Start, fromEmpty, isAccepted, sitter, stands}
+use Rattle.rules.specs.After.{pastAfter, clientIn, Tied}
+use Rattle.rules.specs.GoesOn.{Names, NoRequest}
+use Rattle.rules.proofs.FindLaws.{clash, find-hit, find-miss, find-within, find-before, find-none, seat-of-holds, route-to-wants, route-at-place, wanted-place}
+use Rattle.rules.proofs.Tied.{tied-here, seat-holds, sitter-is, wants-stands, free-stands}
+use Rattle.rules.proofs.EachEvent.{from-empty}
+
+-- ---- the cases
+
+-- "takes the lowest empty seat and answers with it", with 2 and 1
+pub data Arrives (sizes : Sizes) (start : Start) (past : Past) (key : Key) (answer : Answer) : Type 0 where
+  seated : (seat : ℕ) → sitter start past seat ≡ clientOf key → answer ≡ refused AlreadySeated → Arrives sizes start past key answer
+  full : ((seat : ℕ) → sitter start past seat ≢ clientOf key) → ((seat : ℕ) → seat < sizes .seats → sitter start past seat ≢ nobody)
+      → answer ≡ refused RoomFull → Arrives sizes start past key answer
+  takes : (seat : ℕ) → ((other : ℕ) → sitter start past other ≢ clientOf key) → seat < sizes .seats → sitter start past seat ≡ nobody
+      → ((lower : ℕ) → lower < seat → sitter start past lower ≢ nobody) → answer ≡ accepted seat 0 → Arrives sizes start past key answer
+
+pub data Leaves (start : Start) (past : Past) (seat : ℕ) (answer : Answer) : Type 0 where
+  empty : sitter start past seat ≡ nobody → answer ≡ refused NotSeated → Leaves start past seat answer
+  left : (key : Key) → sitter start past seat ≡ clientOf key → isAccepted answer ≡ true → Leaves start past seat answer
+
+-- some request of the client stands under the number
+pub record Taken (start : Start) (past : Past) (key : Key) (number : ℕ) : Type 0 where
+  pub wanted : Key
+  pub asked : stands start past key number wanted ≡ true
+
+-- "gets its old number again", "Otherwise the lowest free number is taken, or, with none free, the answer is 0", "A full table is the only ground for 0"
+pub data Numbered (sizes : Sizes) (start : Start) (past : Past) (key wanted : Key) (number : ℕ) : Type 0 where
+  oldNumber : stands start past key number wanted ≡ true → Numbered sizes start past key wanted number
+  noneFree : ((n : ℕ) → stands start past key n wanted ≡ false) → ((place : ℕ) → place < sizes .numbers → Taken start past key (numberOfPlace place))
+      → number ≡ 0 → Numbered sizes start past key wanted number
+  lowestFree : (place : ℕ) → ((n : ℕ) → stands start past key n wanted ≡ false) → place < sizes .numbers
+      → ((other : Key) → stands start past key (numberOfPlace place) other ≡ false)
+      → ((lower : ℕ) → lower < place → Taken start past key (numberOfPlace lower)) → number ≡ numberOfPlace place → Numbered sizes start past key wanted number
+
+pub data Drops (start : Start) (past : Past) (seat number : ℕ) (answer : Answer) : Type 0 where
+  empty : sitter start past seat ≡ nobody → answer ≡ refused NotSeated → Drops start past seat number answer
+  noRoute : NoRequest start past seat number → answer ≡ refused NoSuchRoute → Drops start past seat number answer
+  dropped : (key wanted : Key) → Names start past seat number key wanted → isAccepted answer ≡ true → Drops start past seat number answer
+
+-- ---- one call
+
+held-somebody : (s : Seat) → isVacant s ≡ false → clientIn s ≢ nobody
+unfolding isVacant clientIn
+held-somebody vacant h q = absurd (true≢false h)
+held-somebody (holds key routes) h q = clash (cc)
+
+vacant-nobody : (s : Seat) → isVacant s ≡ true → clientIn s ≡ nobody
+unfolding isVacant clientIn
+vacant-nobody vacant h = refl
+vacant-nobody (holds key routes) h = absurd (true≢false (sym h))
+
+module _ (sizes : Sizes) (start : Start) (past : Past) (room : Room) (whole : Whole sizes room) (tie : Tied start past room) where
+  -- an arrival
+  module _ (key : Key) where
+    sits-nowhere : find (seatOf key) room ≡ none → (seat : ℕ) → sitter start past seat ≢ clientOf key
+    unfolding seatOf seatAt
+    sits-nowhere e seat q =
+        let there = seat-holds sizes start past room whole tie seat key q in
+        true≢false (sym (ap (seatOf key) there ∙ same-refl key) ∙ find-miss (seatOf key) vacant room refl e seat)
+
+    taken : (seat : ℕ) → isVacant (seatAt room seat) ≡ false → sitter start past seat ≢ nobody
+    taken seat h q = held-somebody (seatAt room seat) h (sym (tie .sits seat) ∙ q)
+
+    arrive-found : (held lowest : Found) → find (seatOf key) room ≡ held → find isVacant room ≡ lowest → Arrives sizes start past key (arriveAt held lowest key .answer)
+    unfolding arriveAt refuse accept sentBytes seatAt clientIn
+    arrive-found (at seat) lowest h l =
+        seated seat (tie .sits seat ∙ ap clientIn (seat-of-holds key (seatAt room seat) (find-hit (seatOf key) vacant room seat h))) refl
+    arrive-found none none h l = full (sits-nowhere h) (λ seat within. taken seat (find-none isVacant vacant room l seat (let n = whole .seats in omega arith))) refl
+    arrive-found none (at seat) h l =
+        takes seat (sits-nowhere h) (let n = whole .seats in let w = find-within isVacant room seat l in omega arith)
+        (tie .sits seat ∙ vacant-nobody (seatAt room seat) (find-hit isVacant vacant room seat l))
+        (λ lower less. taken lower (find-before isVacant vacant room seat l lower less)) refl
+
+    pub arrive-answered : Arrives sizes start past key (event room (arrive key) .answer)
+    unfolding event outcome
+    arrive-answered = arrive-found (find (seatOf key) room) (find isVacant room) refl refl
+
+  module _ (seat : ℕ) where
+    leave-seat : (s : Seat) → seatAt room seat ≡ s → Leaves start past seat (leaveFrom s room seat .answer)
+    unfolding leaveFrom refuse accept clientIn isAccepted
+    leave-seat vacant h = empty (tie .sits seat ∙ ap clientIn h) refl
+    leave-seat (holds key routes) h = left key (tie .sits seat ∙ ap clientIn h) refl
+
+    pub leave-answered : Leaves start past seat (event room (leave seat) .answer)
+    unfolding event outcome
+    leave-answered = leave-seat (seatAt room seat) refl
+
+    -- a packet that is nobody's
+    nobodys : (bytes : List ℕ) (s : Seat) → clientIn s ≡ nobody → (packetFrom s room seat bytes .answer ≡ refused NotSeated) × (packetFrom s room seat bytes .sent ≡ [])
+    unfolding packetFrom refuse clientIn
+    nobodys bytes vacant h = (refl, refl)
+    nobodys bytes (holds key routes) h = clash (cc)
+
+    pub nobodys-packet : (bytes : List ℕ) → sitter start past seat ≡ nobody → (event room (packetCall seat bytes) .answer ≡ refused NotSeated) × (event room (packetCall seat bytes) .sent ≡ [])
+    unfolding event outcome
+    nobodys-packet bytes q = nobodys bytes (seatAt room seat) (sym (tie .sits seat) ∙ q)
+
+    -- a drop
+    drop-route : (key : Key) (routes : List Route) → seatAt room seat ≡ holds key routes → (number : ℕ) (route : Route) → routeAt routes number ≡ route
+        → Drops start past seat number (dropAt route room seat key number .answer)
+    unfolding dropAt refuse accept isAccepted
+    drop-route key routes sits number free h =
+        noRoute (record { key = key; sits = sitter-is sizes start past room whole tie seat key routes sits; asked = free-stands sizes start past room whole tie seat key routes sits number h }) refl
+    drop-route key routes sits number (wants wanted) h =
+        dropped key wanted (record { sits = sitter-is sizes start past room whole tie seat key routes sits; asked = wants-stands sizes start past room whole tie seat key routes sits number wanted h }) refl
+
+    drop-seat : (number : ℕ) (bytes : List ℕ) → client.relayRead bytes ≡ read.packet (client.dropRoute number) → (s : Seat) → seatAt room seat ≡ s
+        → Drops start past seat number (packetFrom s room seat bytes .answer)
+    unfolding packetFrom actOn act refuse clientIn
+    drop-seat number bytes e vacant h = empty (tie .sits seat ∙ ap clientIn h) refl
+    drop-seat number bytes e (holds key routes) h = rw e (drop-route key routes h number (routeAt routes number) refl)
+
+    pub drop-answered : (number : ℕ) (bytes : List ℕ) → client.relayRead bytes ≡ read.packet (client.dropRoute number) → Drops start past seat number (event room (packetCall seat bytes) .answer)
+    unfolding event outcome
+    drop-answered number bytes e = drop-seat number bytes e (seatAt room seat) refl
+
+  -- a request
+  module _ (seat : ℕ) (key : Key) (routes : List Route) (sits : seatAt room seat ≡ holds key routes) (wanted : Key) where
+    not-asked : find (routeTo wanted) routes ≡ none → (n : ℕ) → stands start past key n wanted ≡ false
+    unfolding routeTo
+    not-asked h n = tied-here sizes start past room whole tie seat key routes sits n wanted ∙ go (routeAt routes n) refl
+      where
+        go : (route : Route) → routeAt routes n ≡ route → routeTo wanted route ≡ false
+        go free e = refl
+        go (wants w) e =
+            ap (routeTo wanted) (sym (wanted-place routes n w e)) ∙ find-miss (routeTo wanted) free routes refl h (n - firstNumber)
+
+    not-free : (place : ℕ) → isFree (getD routes place free) ≡ false → Taken start past key (numberOfPlace place)
+    unfolding isFree
+    not-free place h = go (getD routes place free) refl h
+      where
+        go : (route : Route) → getD routes place free ≡ route → isFree route ≡ false → Taken start past key (numberOfPlace place)
+        go free e q = absurd (true≢false q)
+        go (wants w) e q = record { wanted = w; asked = wants-stands sizes start past room whole tie seat key routes sits (numberOfPlace place) w (route-at-place routes place ∙ e) }
+
+    is-free : (place : ℕ) → isFree (getD routes place free) ≡ true → (other : Key) → stands start past key (numberOfPlace place) other ≡ false
+    unfolding isFree
+    is-free place h = go (getD routes place free) refl h
+      where
+        go : (route : Route) → getD routes place free ≡ route → isFree route ≡ true → (other : Key) → stands start past key (numberOfPlace place) other ≡ false
+        go free e q other = free-stands sizes start past room whole tie seat key routes sits (numberOfPlace place) (route-at-place routes place ∙ e) other
+        go (wants w) e q other = absurd (true≢false (sym q))
+
+    -- an answer tells its number
+    same-number : (n m : ℕ) (later later′ : List Sent) → _≡_ {A = List Sent} (to seat (relay.routingResponse n wanted) ∷ later) (to seat (relay.routingResponse m wanted) ∷ later′) → n ≡ m
+    unfolding to relay.relayBytes
+    same-number n m later later′ e =
+        let s : to seat (relay.routingResponse n wanted) ≡ to seat (relay.routingResponse m wanted) = cc in
+        let b : _≡_ {A = List ℕ} (1 ∷ n ∷ wanted) (1 ∷ m ∷ wanted) = ap (λ (r : Sent). r .bytes) s in
+        cc
+
+    request-found : (held lowest : Found) → find (routeTo wanted) routes ≡ held → find isFree routes ≡ lowest
+        → (number : ℕ) (later : List Sent) → requestAt held lowest room seat key wanted .sent ≡ to seat (relay.routingResponse number wanted) ∷ later → Numbered sizes start past key wanted number
+    unfolding requestAt accept
+    request-found (at place) lowest h l number later s =
+        let q = same-number (numberOfPlace place) number _ later s in
+        oldNumber (subst (λ (n : ℕ). stands start past key n wanted ≡ true) q
+        (wants-stands sizes start past room whole tie seat key routes sits (numberOfPlace place) wanted (route-at-place routes place ∙ route-to-wants wanted _ (find-hit (routeTo wanted) free routes place h))))
+    request-found none none h l number later s =
+        noneFree (not-asked h) (λ place within. not-free place (find-none isFree free routes l place (let n = whole .numbers seat key routes sits in omega arith))) (sym (same-number 0 number _ later s))
+    request-found none (at place) h l number later s =
+        lowestFree place (not-asked h) (let n = whole .numbers seat key routes sits in let w = find-within isFree routes place l in omega arith) (is-free place (find-hit isFree free routes place l))
+        (λ lower less. not-free lower (find-before isFree free routes place l lower less)) (sym (same-number (numberOfPlace place) number _ later s))
+
+    pub request-numbered : (bytes : List ℕ) → client.relayRead bytes ≡ read.packet (client.routingRequest wanted)
+        → (number : ℕ) (later : List Sent) → event room (packetCall seat bytes) .sent ≡ to seat (relay.routingResponse number wanted) ∷ later → Numbered sizes start past key wanted number
+    unfolding event outcome packetFrom actOn act
+    request-numbered bytes asks number later s = request-found (find (routeTo wanted) routes) (find isFree routes) refl refl number later (rw (sits, asks) at s)
+
+-- ---- every history, from the empty room
+
+module _ (sizes : Sizes) (calls : List Call) (before : List Event) (e : Event) (later : List Event) (t : transcript sizes (emptyRoom sizes) calls ≡ before ++ (e ∷ later)) where
+  -- what holds of each call
+  of-each : (P : Past → Event → Type 0) → ((past : Past) (room : Room) → Whole sizes room → Tied fromEmpty past room → (call : Call) → P past (event room call)) → P (pastAfter [] before) e
+  of-each P each = from-empty sizes P each calls before e later t
+
+  pub arrive-answered-from-empty : (key : Key) → e .call ≡ arrive key → Arrives sizes fromEmpty (pastAfter [] before) key (e .answer)
+  unfolding event
+  arrive-answered-from-empty key =
+      of-each (λ past e. e .call ≡ arrive key → Arrives sizes fromEmpty past key (e .answer))
+      (λ past room whole tie call c. subst (λ (x : Call). Arrives sizes fromEmpty past key (event room x .answer)) (sym c) (arrive-answered sizes fromEmpty past room whole tie key))
+
+  module _ (seat : ℕ) where
+    pub leave-answered-from-empty : e .call ≡ leave seat → Leaves fromEmpty (pastAfter [] before) seat (e .answer)
+    unfolding event
+    leave-answered-from-empty =
+        of-each (λ past e. e .call ≡ leave seat → Leaves fromEmpty past seat (e .answer))
+        (λ past room whole tie call c. subst (λ (x : Call). Leaves fromEmpty past seat (event room x .answer)) (sym c) (leave-answered sizes fromEmpty past room whole tie seat))
+
+    module _ (bytes : List ℕ) where
+      pub nobodys-packet-from-empty : e .call ≡ packetCall seat bytes → sitter fromEmpty (pastAfter [] before) seat ≡ nobody → (e .answer ≡ refused NotSeated) × (e .sent ≡ [])
+      unfolding event
+      nobodys-packet-from-empty =
+          of-each (λ past e. e .call ≡ packetCall seat bytes → sitter fromEmpty past seat ≡ nobody → (e .answer ≡ refused NotSeated) × (e .sent ≡ []))
+          (λ past room whole tie call c q. subst (λ (x : Call). (event room x .answer ≡ refused NotSeated) × (event room x .sent ≡ [])) (sym c) (nobodys-packet sizes fromEmpty past room whole tie seat bytes q))
+
+      pub drop-answered-from-empty : (number : ℕ) → client.relayRead bytes ≡ read.packet (client.dropRoute number) → e .call ≡ packetCall seat bytes
+          → Drops fromEmpty (pastAfter [] before) seat number (e .answer)
+      unfolding event
+      drop-answered-from-empty number r =
+          of-each (λ past e. e .call ≡ packetCall seat bytes → Drops fromEmpty past seat number (e .answer))
+          (λ past room whole tie call c. subst (λ (x : Call). Drops fromEmpty past seat number (event room x .answer)) (sym c) (drop-answered sizes fromEmpty past room whole tie seat number bytes r))
+
+      -- that it is answered so is `request-tells-from-empty`
+      pub request-numbered-from-empty : (key wanted : Key) → client.relayRead bytes ≡ read.packet (client.routingRequest wanted) → e .call ≡ packetCall seat bytes
+          → sitter fromEmpty (pastAfter [] before) seat ≡ clientOf key
+          → (number : ℕ) (sent : List Sent) → e .sent ≡ to seat (relay.routingResponse number wanted) ∷ sent → Numbered sizes fromEmpty (pastAfter [] before) key wanted number
+      unfolding event
+      request-numbered-from-empty key wanted r =
+          of-each (λ past e. e .call ≡ packetCall seat bytes → sitter fromEmpty past seat ≡ clientOf key
+          → (number : ℕ) (sent : List Sent) → e .sent ≡ to seat (relay.routingResponse number wanted) ∷ sent → Numbered sizes fromEmpty past key wanted number)
+          (λ past room whole tie call c by number sent s.
+          request-numbered sizes fromEmpty past room whole tie seat key (routesOf (seatAt room seat)) (seat-holds sizes fromEmpty past room whole tie seat key by) wanted bytes r number sent
+          (ap (λ (x : Call). event room x .sent) (sym c) ∙ s))
