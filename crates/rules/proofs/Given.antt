@@ -1,5 +1,5 @@
 -- What calls are answered, for every history, by what has happened alone. An arrival gets refusal 2 where its key sits; else 1 where every seat is taken;
--- else it takes the lowest empty seat. A leave or a packet of a seat where nobody sits gets 3, and sends nothing; a leave of another seat is accepted. A
+-- else it takes the lowest empty seat. A leave or a packet of a seat where nobody sits gets 3, such a packet with nothing sent; a leave of another seat is accepted. A
 -- request gets the number under which one for its key stands; else 0 where a request stands under every number; else the lowest under which none stands. A drop
 -- gets 8 where no request stands under its number, and else is accepted. The cases of each are all there are, and exclude each other. Assumes nothing.
 use mathlib.Core.Path.{_≡_, refl, sym, ap, _∙_, subst}
@@ -74,7 +74,7 @@ vacant-nobody (holds key routes) h = absurd (true≢false (sym h))
 module _ (sizes : Sizes) (start : Start) (past : Past) (room : Room) (whole : Whole sizes room) (tie : Tied start past room) where
   -- an arrival
   module _ (key : Key) where
-    sits-nowhere : find (seatOf key) room ≡ none → (seat : ℕ) → sitter start past seat ≢ clientOf key
+    pub sits-nowhere : find (seatOf key) room ≡ none → (seat : ℕ) → sitter start past seat ≢ clientOf key
     unfolding seatOf seatAt
     sits-nowhere e seat q =
         let there = seat-holds sizes start past room whole tie seat key q in

@@ -4,7 +4,8 @@
 -- `QuietArrival`, an arrival sends nothing; `Whole`, the room stays whole; `OtherSeats`, a call changes one seat at most; `ToldAgain`, a request made
 -- again after a disconnect connects both; `Tied`, the room's tables and what has happened say the same, with `EachEvent` from one call to every history;
 -- `PeerConnected`, the search for a peer finds who is connected; `DataGoesOn`, demand 2's sentence on data; `Told`, drops, leaves and requests tell exactly
--- the connected; `Given`, what arrivals, leaves, requests and drops are answered; `Isolation`, demand 3, with `View`, `ViewLaws` and `OneCall` as its means and `NotVacuous` to show what it says; `WrongRelays`, which
+-- the connected; `Given`, what arrivals, leaves, requests and drops are answered; `PingAndOutOfBand`, what pings, pongs and out-of-band
+-- sends do; `Isolation`, demand 3, with `View`, `ViewLaws` and `OneCall` as its means and `NotVacuous` to show what it says; `WrongRelays`, which
 -- relays demand 2 turns away, and that demand 3 alone would suit a silent one.
 pub mod Computed
 pub mod ComputedExamples
@@ -24,6 +25,7 @@ pub mod PeerConnected
 pub mod DataGoesOn
 pub mod Told
 pub mod Given
+pub mod PingAndOutOfBand
 pub mod View
 pub mod ViewLaws
 pub mod OneCall

@@ -1,0 +1,85 @@
+-- For every history, by what has happened alone: a seated client's ping sends it a pong with the same number, and nothing else; its pong sends nothing;
+-- its out-of-band send goes to the seat of the client whose key it names, itself included, with its own key put in, and nothing else is sent; where that key
+-- sits nowhere nothing is sent. All are accepted. Assumes nothing.
+use mathlib.Core.Path.{_≡_, refl, sym, ap, _∙_, subst}
+use mathlib.Core.Bool.{true}
+use mathlib.Core.List.{List, [], _∷_, _++_}
+use mathlib.Core.Logic.{_≢_}
+use Prim.Native.Nat.{ℕ}
+use Rattle.packet.specs.Read as read
+use Rattle.packet.specs.FromClient as client
+use Rattle.packet.specs.FromRelay as relay
+use Rattle.rules.specs.Room.{Sizes, Key, Route, vacant, holds, Room, emptyRoom, Found, none, at, find, seatOf, routesOf, seatAt}
+use Rattle.rules.specs.Whole.{Whole}
+use Rattle.rules.specs.Call.{Call, packetCall, Sent}
+use Rattle.rules.specs.Outcome.{accept, to, oobTo, act, actOn, packetFrom, outcome}
+use Rattle.rules.specs.History.{Event, event, transcript}
+use Rattle.rules.specs.Transcript.{Past, clientOf, Start, fromEmpty, isAccepted, sitter}
+use Rattle.rules.specs.After.{pastAfter, clientIn, Tied}
+use Rattle.rules.proofs.FindLaws.{find-hit, seat-of-holds}
+use Rattle.rules.proofs.Tied.{seat-holds}
+use Rattle.rules.proofs.EachEvent.{from-empty}
+use Rattle.rules.proofs.Given.{sits-nowhere}
+
+-- what an out-of-band send of the client `key` to the key `wanted` sends
+pub data OutOfBand (start : Start) (past : Past) (key wanted : Key) (payload : List ℕ) (sent : List Sent) : Type 0 where
+  reaches : (other : ℕ) → sitter start past other ≡ clientOf wanted → sent ≡ to other (relay.oobReceived key payload) ∷ [] → OutOfBand start past key wanted payload sent
+  nowhere : ((other : ℕ) → sitter start past other ≢ clientOf wanted) → sent ≡ [] → OutOfBand start past key wanted payload sent
+
+-- ---- one call
+
+module _ (sizes : Sizes) (start : Start) (past : Past) (room : Room) (whole : Whole sizes room) (tie : Tied start past room) (seat : ℕ) (key : Key)
+    (routes : List Route) (sits : seatAt room seat ≡ holds key routes) (bytes : List ℕ) where
+  -- a packet of the client is accepted, and of what it sends this holds
+  abbrev Accepted : (List Sent → Type 0) → Event → Type 0
+  Accepted P e = (isAccepted (e .answer) ≡ true) × P (e .sent)
+
+  oob-found : (wanted : Key) (payload : List ℕ) (f : Found) → find (seatOf wanted) room ≡ f
+      → (isAccepted (oobTo f seat key payload .answer) ≡ true) × OutOfBand start past key wanted payload (oobTo f seat key payload .sent)
+  unfolding oobTo accept isAccepted clientIn seatAt
+  oob-found wanted payload none h = (refl, nowhere (sits-nowhere sizes start past room whole tie wanted h) refl)
+  oob-found wanted payload (at other) h =
+      (refl, reaches other (tie .sits other ∙ ap clientIn (seat-of-holds wanted (seatAt room other) (find-hit (seatOf wanted) vacant room other h))) refl)
+
+  pub ping-sends : (n : ℕ) → client.relayRead bytes ≡ read.packet (client.ping n) → Accepted (λ sent. sent ≡ to seat (relay.pong n) ∷ []) (event room (packetCall seat bytes))
+  unfolding event outcome packetFrom actOn act accept isAccepted
+  ping-sends n e = rw (sits, e) (refl, refl)
+
+  pub pong-sends : (n : ℕ) → client.relayRead bytes ≡ read.packet (client.pong n) → Accepted (λ sent. sent ≡ []) (event room (packetCall seat bytes))
+  unfolding event outcome packetFrom actOn act accept isAccepted
+  pong-sends n e = rw (sits, e) (refl, refl)
+
+  pub oob-sends : (wanted : Key) (payload : List ℕ) → client.relayRead bytes ≡ read.packet (client.oobSend wanted payload)
+      → Accepted (OutOfBand start past key wanted payload) (event room (packetCall seat bytes))
+  unfolding event outcome packetFrom actOn act
+  oob-sends wanted payload e = rw (sits, e) (oob-found wanted payload (find (seatOf wanted) room) refl)
+
+-- ---- every history, from the empty room
+
+module _ (sizes : Sizes) (calls : List Call) (before : List Event) (e : Event) (later : List Event) (t : transcript sizes (emptyRoom sizes) calls ≡ before ++ (e ∷ later))
+    (seat : ℕ) (bytes : List ℕ) (isPacket : e .call ≡ packetCall seat bytes) (key : Key) (by : sitter fromEmpty (pastAfter [] before) seat ≡ clientOf key) where
+  -- what holds of each packet of a seated client
+  of-each : (P : Past → Event → Type 0)
+      → ((past : Past) (room : Room) → Whole sizes room → Tied fromEmpty past room → (routes : List Route) → seatAt room seat ≡ holds key routes → P past (event room (packetCall seat bytes)))
+      → P (pastAfter [] before) e
+  unfolding event
+  of-each P each =
+      from-empty sizes (λ past e. e .call ≡ packetCall seat bytes → sitter fromEmpty past seat ≡ clientOf key → P past e)
+      (λ past room whole tie call c by.
+      subst (λ (x : Call). P past (event room x)) (sym c) (each past room whole tie (routesOf (seatAt room seat)) (seat-holds sizes fromEmpty past room whole tie seat key by)))
+      calls before e later t isPacket by
+
+  pub ping-sends-from-empty : (n : ℕ) → client.relayRead bytes ≡ read.packet (client.ping n) → (isAccepted (e .answer) ≡ true) × (e .sent ≡ to seat (relay.pong n) ∷ [])
+  ping-sends-from-empty n r =
+      of-each (λ past e. (isAccepted (e .answer) ≡ true) × (e .sent ≡ to seat (relay.pong n) ∷ []))
+      (λ past room whole tie routes sits. ping-sends sizes fromEmpty past room whole tie seat key routes sits bytes n r)
+
+  pub pong-sends-from-empty : (n : ℕ) → client.relayRead bytes ≡ read.packet (client.pong n) → (isAccepted (e .answer) ≡ true) × (e .sent ≡ [])
+  pong-sends-from-empty n r =
+      of-each (λ past e. (isAccepted (e .answer) ≡ true) × (e .sent ≡ [])) (λ past room whole tie routes sits. pong-sends sizes fromEmpty past room whole tie seat key routes sits bytes n r)
+
+  pub oob-sends-from-empty : (wanted : Key) (payload : List ℕ) → client.relayRead bytes ≡ read.packet (client.oobSend wanted payload)
+      → (isAccepted (e .answer) ≡ true) × OutOfBand fromEmpty (pastAfter [] before) key wanted payload (e .sent)
+  oob-sends-from-empty wanted payload r =
+      of-each (λ past e. (isAccepted (e .answer) ≡ true) × OutOfBand fromEmpty past key wanted payload (e .sent))
+      (λ past room whole tie routes sits. oob-sends sizes fromEmpty past room whole tie seat key routes sits bytes wanted payload r)
