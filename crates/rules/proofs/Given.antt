@@ -1,7 +1,8 @@
 -- What calls are answered, for every history, by what has happened alone. An arrival gets refusal 2 where its key sits; else 1 where every seat is taken;
--- else it takes the lowest empty seat. A leave or a packet of a seat where nobody sits gets 3, such a packet with nothing sent; a leave of another seat is accepted. A
--- request gets the number under which one for its key stands; else 0 where a request stands under every number; else the lowest under which none stands. A drop
--- gets 8 where no request stands under its number, and else is accepted. The cases of each are all there are, and exclude each other. Assumes nothing.
+-- else it takes the lowest empty seat. A leave or a packet of a seat where nobody sits gets 3; a leave of another seat is accepted, and a packet that
+-- the relay's reader refuses gets the reader's refusal. A request gets the number under which one for its key stands; else 0 where a request stands under
+-- every number; else the lowest under which none stands. A drop gets 8 where no request stands under its number, and else is accepted. The cases of each are
+-- all there are, and exclude each other. That a refused call sends nothing is in `RefusedOrAccepted`. Assumes nothing.
 use mathlib.Core.Path.{_≡_, refl, sym, ap, _∙_, subst}
 use mathlib.Core.Bool.{true, false, true≢false}
 use mathlib.Core.List.{List, [], _∷_, _++_}
@@ -9,6 +10,7 @@ use mathlib.Core.Logic.{_≢_}
 use Prim.Native.Nat.{ℕ, _-_, _<_}
 use native.Mathlib.Omega.{arith}
 use lib.ListN.{getD}
+use Rattle.refusal.specs.declared.Refusal.{Refusal}
 use Rattle.refusal.specs.declared.Refusal.the-variants.{RoomFull, AlreadySeated, NotSeated, NoSuchRoute}
 use Rattle.key.proofs.Same.{same-refl}
 use Rattle.packet.specs.Read as read
@@ -108,14 +110,20 @@ module _ (sizes : Sizes) (start : Start) (past : Past) (room : Room) (whole : Wh
     leave-answered = leave-seat (seatAt room seat) refl
 
     -- a packet that is nobody's
-    nobodys : (bytes : List ℕ) (s : Seat) → clientIn s ≡ nobody → (packetFrom s room seat bytes .answer ≡ refused NotSeated) × (packetFrom s room seat bytes .sent ≡ [])
+    nobodys : (bytes : List ℕ) (s : Seat) → clientIn s ≡ nobody → packetFrom s room seat bytes .answer ≡ refused NotSeated
     unfolding packetFrom refuse clientIn
-    nobodys bytes vacant h = (refl, refl)
+    nobodys bytes vacant h = refl
     nobodys bytes (holds key routes) h = clash (cc)
 
-    pub nobodys-packet : (bytes : List ℕ) → sitter start past seat ≡ nobody → (event room (packetCall seat bytes) .answer ≡ refused NotSeated) × (event room (packetCall seat bytes) .sent ≡ [])
+    pub nobodys-packet : (bytes : List ℕ) → sitter start past seat ≡ nobody → event room (packetCall seat bytes) .answer ≡ refused NotSeated
     unfolding event outcome
     nobodys-packet bytes q = nobodys bytes (seatAt room seat) (sym (tie .sits seat) ∙ q)
+
+    -- a packet that the relay does not read
+    pub unread-packet : (key : Key) → sitter start past seat ≡ clientOf key → (bytes : List ℕ) (why : Refusal) → client.relayRead bytes ≡ read.refused why
+        → event room (packetCall seat bytes) .answer ≡ refused why
+    unfolding event outcome packetFrom actOn refuse
+    unread-packet key by bytes why e = rw (seat-holds sizes start past room whole tie seat key by, e)
 
     -- a drop
     drop-route : (key : Key) (routes : List Route) → seatAt room seat ≡ holds key routes → (number : ℕ) (route : Route) → routeAt routes number ≡ route
@@ -210,11 +218,18 @@ module _ (sizes : Sizes) (calls : List Call) (before : List Event) (e : Event) (
         (λ past room whole tie call c. subst (λ (x : Call). Leaves fromEmpty past seat (event room x .answer)) (sym c) (leave-answered sizes fromEmpty past room whole tie seat))
 
     module _ (bytes : List ℕ) where
-      pub nobodys-packet-from-empty : e .call ≡ packetCall seat bytes → sitter fromEmpty (pastAfter [] before) seat ≡ nobody → (e .answer ≡ refused NotSeated) × (e .sent ≡ [])
+      pub nobodys-packet-from-empty : e .call ≡ packetCall seat bytes → sitter fromEmpty (pastAfter [] before) seat ≡ nobody → e .answer ≡ refused NotSeated
       unfolding event
       nobodys-packet-from-empty =
-          of-each (λ past e. e .call ≡ packetCall seat bytes → sitter fromEmpty past seat ≡ nobody → (e .answer ≡ refused NotSeated) × (e .sent ≡ []))
-          (λ past room whole tie call c q. subst (λ (x : Call). (event room x .answer ≡ refused NotSeated) × (event room x .sent ≡ [])) (sym c) (nobodys-packet sizes fromEmpty past room whole tie seat bytes q))
+          of-each (λ past e. e .call ≡ packetCall seat bytes → sitter fromEmpty past seat ≡ nobody → e .answer ≡ refused NotSeated)
+          (λ past room whole tie call c q. ap (λ (x : Call). event room x .answer) c ∙ nobodys-packet sizes fromEmpty past room whole tie seat bytes q)
+
+      pub unread-packet-from-empty : (key : Key) (why : Refusal) → client.relayRead bytes ≡ read.refused why → e .call ≡ packetCall seat bytes
+          → sitter fromEmpty (pastAfter [] before) seat ≡ clientOf key → e .answer ≡ refused why
+      unfolding event
+      unread-packet-from-empty key why r =
+          of-each (λ past e. e .call ≡ packetCall seat bytes → sitter fromEmpty past seat ≡ clientOf key → e .answer ≡ refused why)
+          (λ past room whole tie call c by. ap (λ (x : Call). event room x .answer) c ∙ unread-packet sizes fromEmpty past room whole tie seat key by bytes why r)
 
       pub drop-answered-from-empty : (number : ℕ) → client.relayRead bytes ≡ read.packet (client.dropRoute number) → e .call ≡ packetCall seat bytes
           → Drops fromEmpty (pastAfter [] before) seat number (e .answer)

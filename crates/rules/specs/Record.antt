@@ -81,6 +81,7 @@ unfoldable pub handedIf : Bool → List ℕ → List (List ℕ) → List (List �
 handedIf true bytes rest = bytes ∷ rest
 handedIf false bytes rest = rest
 
+-- by who sits there before the call: an Arrive sends nothing, and a Leave empties its seat last
 unfoldable pub handed : Start → Past → Key → List Sent → List (List ℕ)
 handed start past c [] = []
 handed start past c (s ∷ rest) = handedIf (isClient c (sitter start past (s .seat))) (s .bytes) (handed start past c rest)
