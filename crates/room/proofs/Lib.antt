@@ -1,19 +1,5 @@
--- The laws of a room kept in bytes, in the order in which they rest on each other.
+-- The laws that the functions' proofs rest on. What the bytes mean stands in the crate `room_laws`.
 pub mod LayoutLaws
 pub mod LookupSteps
 pub mod WholeSteps
 pub mod StoreSteps
-pub mod TablesLaws
-pub mod ViewLaws
-pub mod WholeLaws
-pub mod EmptyLaws
-pub mod ViewFinds
-pub mod LookupLaws
-pub mod ReplaceLaws
-pub mod RouteLaws
-pub mod SeatLaws
-pub mod StoreLaws
-pub mod OutcomeLaws
-pub mod BuiltUp
-pub mod StoreBytes
-pub mod EveryRoom

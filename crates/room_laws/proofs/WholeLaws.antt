@@ -16,12 +16,12 @@ use Rattle.table.proofs.TableLaws.{keys-apart}
 use Rattle.rules.specs.Room.{Key, Route, free, wants, holds, seatAt, firstNumber}
 use Rattle.rules.specs.Whole.{Whole}
 use Rattle.rules.proofs.FindLaws.{wanted-high, wanted-place}
 use Rattle.room.specs.Layout.{keyBytes, routesInSeat, seatBytes, fitsRoom, seatTable, routesTable}
 use Rattle.room.specs.View.{viewRoutes, viewRoom}
 use Rattle.room.specs.Whole.{headerRight, routesWhole, roomWhole}
 use Rattle.room.proofs.LayoutLaws.{seats-table, routes-table}
-use Rattle.room.proofs.TablesLaws.{sizesOf, routes-in-record}
-use Rattle.room.proofs.ViewLaws.{view-routes-length, route-wants, view-room-length, seat-holds}
+use Rattle.room_laws.proofs.TablesLaws.{sizesOf, routes-in-record}
+use Rattle.room_laws.proofs.ViewLaws.{view-routes-length, route-wants, view-room-length, seat-holds}
 
 -- ---- the routes of several seats, by membership
 

@@ -16,15 +16,15 @@ use Rattle.table.proofs.FitsLaws.{used-in}
 use Rattle.table.proofs.TableLaws.{key-record}
 use Rattle.rules.specs.Room.{Key, free, vacant, holds, find, seatOf, isVacant, routeTo, isFree, routesOf, seatAt}
 use Rattle.rules.proofs.FindLaws.{vacant-no-key, free-not-to}
 use Rattle.room.specs.Layout.{seatBytes, fitsRoom, seatTable, seatStart, routesTable}
 use Rattle.room.specs.View.{routeIn, viewRoutes, seatIn, viewRoom}
 use Rattle.room.specs.Whole.{roomWhole}
 use Rattle.room.specs.Lookup.{seatHolding, lowestEmpty, taken, routeWanting, lowestRoute, routeAtPlace, routeOfPlace, hasSeat}
 use Rattle.room.proofs.LayoutLaws.{length-seats, length-routes}
-use Rattle.room.proofs.TablesLaws.{seat-key-stands, routes-in-record}
-use Rattle.room.proofs.ViewLaws.{route-at, route-past, seat-at, seat-past}
-use Rattle.room.proofs.WholeLaws.{whole-fits, whole-seats, whole-seat-table, whole-routes, whole-routes-table}
-use Rattle.room.proofs.ViewFinds.{finds-by-key, finds-unlisted}
+use Rattle.room_laws.proofs.TablesLaws.{seat-key-stands, routes-in-record}
+use Rattle.room_laws.proofs.ViewLaws.{route-at, route-past, seat-at, seat-past}
+use Rattle.room_laws.proofs.WholeLaws.{whole-fits, whole-seats, whole-seat-table, whole-routes, whole-routes-table}
+use Rattle.room_laws.proofs.ViewFinds.{finds-by-key, finds-unlisted}
 
 -- ---- the tests, on what a place is
 

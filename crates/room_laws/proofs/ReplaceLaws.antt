@@ -17,14 +17,14 @@ use Rattle.table.proofs.Places.{splice-inner}
 use Rattle.table.proofs.TableLaws.{length-record}
 use Rattle.table.proofs.RecordLaws.{refilled, refilled-length, refilled-listed, refilled-other, refilled-same, view-refilled, refilled-whole}
 use Rattle.rules.specs.Room.{Key, Route, Seat, holds, seatAt}
 use Rattle.room.specs.Layout.{roomHeader, keyBytes, routesBytes, routesInSeat, seatBytes, seatsBytes, fitsRoom, seatTable, routesStart, routesTable}
 use Rattle.room.specs.View.{seatIn, viewRoutes, viewRoom}
 use Rattle.room.specs.Whole.{headerRight, roomWhole}
 use Rattle.room.specs.Store.{withSeats, withRoutes}
 use Rattle.room.proofs.LayoutLaws.{room-long}
-use Rattle.room.proofs.TablesLaws.{fits-same, routes-in-record}
-use Rattle.room.proofs.ViewLaws.{view-is, seat-holds}
-use Rattle.room.proofs.WholeLaws.{make-whole, whole-fits, whole-header, whole-seats, whole-seat-table, listed-below, whole-record-routes}
+use Rattle.room_laws.proofs.TablesLaws.{fits-same, routes-in-record}
+use Rattle.room_laws.proofs.ViewLaws.{view-is, seat-holds}
+use Rattle.room_laws.proofs.WholeLaws.{make-whole, whole-fits, whole-header, whole-seats, whole-seat-table, listed-below, whole-record-routes}
 
 -- ---- the table of seats
 

@@ -13,16 +13,16 @@ use Rattle.key.specs.Keys.{IsKey}
 use Rattle.rules.specs.Room.{Key, Room, emptyRoom}
 use Rattle.rules.specs.Outcome.{Change, seatTaken, seatEmptied, routeGiven, routeFreed, apply}
 use Rattle.rules.specs.Whole.{Whole}
 use Rattle.room.specs.Layout.{roomBytes, sizesRight, fitsRoom}
 use Rattle.room.specs.View.{viewRoom}
 use Rattle.room.specs.Whole.{roomWhole}
 use Rattle.room.specs.Store.{emptied, store}
 use Rattle.room.proofs.LayoutLaws.{sizes-facts}
-use Rattle.room.proofs.TablesLaws.{sizesOf}
-use Rattle.room.proofs.EmptyLaws.{empty-length, empty-whole, empty-view}
-use Rattle.room.proofs.StoreLaws.{Fit, store-is-apply}
-use Rattle.room.proofs.StoreBytes.{bytes-replicate, store-bytes, emptied-bytes}
-use Rattle.room.proofs.BuiltUp.{Brings, KeysAre, every-room-built-up}
+use Rattle.room_laws.proofs.TablesLaws.{sizesOf}
+use Rattle.room_laws.proofs.EmptyLaws.{empty-length, empty-whole, empty-view}
+use Rattle.room_laws.proofs.StoreLaws.{Fit, store-is-apply}
+use Rattle.room_laws.proofs.StoreBytes.{bytes-replicate, store-bytes, emptied-bytes}
+use Rattle.room_laws.proofs.BuiltUp.{Brings, KeysAre, every-room-built-up}
 
 -- bytes that are a room
 pub record HasBytes (s n : ℕ) (room : Room) : Type 0 where

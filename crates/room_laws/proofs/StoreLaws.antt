@@ -11,17 +11,17 @@ use borrow.Author.Tests.{lt-ltb}
 use Rattle.table.specs.Table.{Table, tableWhole, putIn, freedIn}
 use Rattle.rules.specs.Room.{Key, Route, free, wants, Seat, vacant, holds, Room, none, find, seatOf, routeTo, seatAt}
 use Rattle.rules.specs.Outcome.{Change, seatTaken, seatEmptied, routeGiven, routeFreed, withRoute, apply, applyAll}
 use Rattle.room.specs.Layout.{keyBytes, routesBytes, fitsRoom, routesTable}
 use Rattle.room.specs.View.{viewRoutes, viewRoom}
 use Rattle.room.specs.Whole.{roomWhole}
 use Rattle.room.specs.Store.{withRoutes, store, storeAll}
 use Rattle.room.proofs.LayoutLaws.{length-routes}
-use Rattle.room.proofs.TablesLaws.{sizesOf}
-use Rattle.room.proofs.ViewLaws.{seat-holds}
-use Rattle.room.proofs.WholeLaws.{whole-fits, whole-routes-table, held-routes}
-use Rattle.room.proofs.ReplaceLaws.{routes-view, routes-whole, routes-length}
-use Rattle.room.proofs.RouteLaws.{route-put, route-out}
-use Rattle.room.proofs.SeatLaws.{seat-taken, seat-emptied}
+use Rattle.room_laws.proofs.TablesLaws.{sizesOf}
+use Rattle.room_laws.proofs.ViewLaws.{seat-holds}
+use Rattle.room_laws.proofs.WholeLaws.{whole-fits, whole-routes-table, held-routes}
+use Rattle.room_laws.proofs.ReplaceLaws.{routes-view, routes-whole, routes-length}
+use Rattle.room_laws.proofs.RouteLaws.{route-put, route-out}
+use Rattle.room_laws.proofs.SeatLaws.{seat-taken, seat-emptied}
 
 -- a change that fits a room
 pub data Fit (s n : ℕ) (room : Room) : Change → Type 0 where

@@ -15,9 +15,9 @@ use Rattle.rules.specs.Outcome.{Change, seatTaken, seatEmptied, routeGiven, rou
 use Rattle.rules.specs.Whole.{Whole}
 use Rattle.rules.proofs.FindLaws.{Once, clash, set-default, set-all, once-set, find-clear, seat-set, held-within}
 use Rattle.rules.proofs.Whole.{key-once, wanted-once}
-use Rattle.room.proofs.TablesLaws.{sizesOf}
-use Rattle.room.proofs.RouteLaws.{wants-passes}
-use Rattle.room.proofs.StoreLaws.{Fit, takes, gives}
+use Rattle.room_laws.proofs.TablesLaws.{sizesOf}
+use Rattle.room_laws.proofs.RouteLaws.{wants-passes}
+use Rattle.room_laws.proofs.StoreLaws.{Fit, takes, gives}
 
 -- the key that a change brings into the room
 abbrev pub Brings : (Key → Type 0) → Change → Type 0

@@ -20,13 +20,13 @@ use Rattle.table.proofs.PutLaws.{put-in-is-put}
 use Rattle.table.proofs.NoneListed.{view-none}
 use Rattle.rules.specs.Room.{Key, Route, free, Seat, vacant, holds, none, find, seatOf, seatAt}
 use Rattle.rules.proofs.FindLaws.{find-miss}
 use Rattle.room.specs.Layout.{keyBytes, routesInSeat, seatBytes, seatsBytes, fitsRoom, seatTable}
 use Rattle.room.specs.View.{routeIn, viewRoutes, seatIn, viewRoom}
 use Rattle.room.specs.Whole.{roomWhole}
 use Rattle.room.specs.Store.{newSeat, withSeats}
-use Rattle.room.proofs.ViewLaws.{view-is, seat-at, seat-vacant, seat-holds}
-use Rattle.room.proofs.WholeLaws.{whole-fits, whole-header, whole-seats, whole-seat-table, listed-below, whole-record-routes}
-use Rattle.room.proofs.ReplaceLaws.{seats-view, seats-length, seats-whole}
+use Rattle.room_laws.proofs.ViewLaws.{view-is, seat-at, seat-vacant, seat-holds}
+use Rattle.room_laws.proofs.WholeLaws.{whole-fits, whole-header, whole-seats, whole-seat-table, listed-below, whole-record-routes}
+use Rattle.room_laws.proofs.ReplaceLaws.{seats-view, seats-length, seats-whole}
 
 -- ---- how a seat's record begins
 

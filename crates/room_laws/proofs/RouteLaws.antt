@@ -17,9 +17,9 @@ use Rattle.table.proofs.Distinct.{unlisted-leaves-room}
 use Rattle.table.proofs.PutLaws.{put-in-is-put}
 use Rattle.rules.specs.Room.{Key, Route, free, wants, none, find, routeTo}
 use Rattle.rules.proofs.FindLaws.{find-miss}
 use Rattle.room.specs.Layout.{keyBytes}
 use Rattle.room.specs.View.{routeIn, viewRoutes}
-use Rattle.room.proofs.ViewLaws.{route-at, route-free, route-wants}
+use Rattle.room_laws.proofs.ViewLaws.{route-at, route-free, route-wants}
 
 -- a route that wants a key passes the test for it
 pub wants-passes : (key : Key) (y : Route) → y ≡ wants key → routeTo key y ≡ true

@@ -9,18 +9,18 @@ use lib.ListN.{length, getD}
 use Rattle.packet.specs.Read.{Read}
 use Rattle.packet.specs.Read as read
 use Rattle.packet.specs.FromClient as client
-use Rattle.rules.specs.Room.{Key, Route, free, wants, Seat, vacant, holds, Room, Found, none, at, find, seatOf, isVacant, routeTo, isFree, seatAt, routeAt, Peer, apart, joined}
+use Rattle.rules.specs.Room.{Key, Route, free, wants, Seat, vacant, holds, Room, Found, none, at, find, seatOf, isVacant, routeTo, isFree, seatAt, routeAt, Peer, alone, joined}
 use Rattle.rules.specs.Whole.{Whole}
 use Rattle.rules.specs.Call.{Call, arrive, leave, packetCall}
 use Rattle.rules.specs.Outcome.{refuse, accept, roomAfter, peer, arriveAt, leaveFrom, requestAt, dropAt, oobTo, carryTo, dataAt, act, actOn, packetFrom, outcome}
 use Rattle.rules.proofs.FindLaws.{find-hit, find-within, wanted-place}
 use Rattle.rules.proofs.AnswerLaws.{request-key-long}
 use Rattle.room.specs.View.{viewRoom}
 use Rattle.room.specs.Whole.{roomWhole}
 use Rattle.room.specs.Store.{storeAll}
-use Rattle.room.proofs.TablesLaws.{sizesOf}
-use Rattle.room.proofs.WholeLaws.{whole-view}
-use Rattle.room.proofs.StoreLaws.{takes, empties, gives, frees, FitAll, store-all-is-apply-all}
+use Rattle.room_laws.proofs.TablesLaws.{sizesOf}
+use Rattle.room_laws.proofs.WholeLaws.{whole-view}
+use Rattle.room_laws.proofs.StoreLaws.{takes, empties, gives, frees, FitAll, store-all-is-apply-all}
 
 -- a key that arrives has 32 bytes
 abbrev pub KeyOf32 : Call → Type 0
@@ -79,7 +79,7 @@ module _ (s n : ℕ) (room : Room) (whole : Whole (sizesOf s n) room) where
 
     carry-fits : (p : Peer) (bytes : List ℕ) → FitAll s n room (carryTo p seat bytes .changes)
     unfolding carryTo accept refuse
-    carry-fits apart bytes = tt
+    carry-fits alone bytes = tt
     carry-fits (joined other place) bytes = tt
 
     data-fits : (route : Route) (bytes : List ℕ) → FitAll s n room (dataAt route room seat key bytes .changes)

@@ -1,0 +1,15 @@
+-- The laws of a room kept in bytes, in the order in which they rest on each other.
+pub mod TablesLaws
+pub mod ViewLaws
+pub mod WholeLaws
+pub mod EmptyLaws
+pub mod ViewFinds
+pub mod LookupLaws
+pub mod ReplaceLaws
+pub mod RouteLaws
+pub mod SeatLaws
+pub mod StoreLaws
+pub mod OutcomeLaws
+pub mod BuiltUp
+pub mod StoreBytes
+pub mod EveryRoom
