@@ -1,7 +1,7 @@
 -- The calls on a list in lent bytes: for each, the answer and every byte of the memory afterwards. Document 01, "The nearest list" and "Refusal
 -- numbers": "Every lent state is tested in full before use: one too short, over its size, or holding a node of unknown family breaks its own rules."
 use mathlib.Core.Bool.{cond}
-use mathlib.Core.List.{List}
+use mathlib.Core.List.{List, [], _∷_}
 use mathlib.Core.Path.{_≡_}
 use Prim.Native.Nat.{ℕ}
 use lib.Dec.{leb}
@@ -64,3 +64,10 @@ heldAfter answer.Done l index = cond (leb (l .count) index) (nothingShown found.
 unfoldable pub heldAt : List ℕ → ℕ → HeldNode
 heldAt memory index =
     cond (leb listLength (length memory)) (heldAfter (checked (listAt memory)) (listAt memory) index) (nothingShown (found.Refused ListNotWhole))
+
+-- ---- sequences of calls
+
+-- nodes offered one after the other, each to the memory that the last offer left
+unfoldable pub memoryAfter : List ℕ → List Node → List ℕ
+memoryAfter memory [] = memory
+memoryAfter memory (n ∷ ns) = memoryAfter (stored (offered (listAt memory) n .list) memory) ns
