@@ -5,7 +5,7 @@ use mathlib.Core.List.{List}
 use Prim.Native.Nat.{ℕ, _-_}
 use lib.Dec.{ltb}
 use lib.ListN.{replicate}
-use Rattle.rules.specs.Room.{Key, Route, free, wants, Found, none, at, firstNumber}
+use Rattle.rules.specs.Room.{Key, Route, free, wants, Found, none, at, firstNumber, numberOfPlace}
 use Rattle.rules.specs.Outcome.{routeGiven, routeFreed}
 use Rattle.room.specs.declared.lookup.FoundSeat.{FoundSeat}
 use Rattle.room.specs.declared.lookup.FoundSeat.the-variants as seat
@@ -16,13 +16,13 @@ use Rattle.room.specs.Layout.{keyBytes}
 use Rattle.room.specs.Store.{store}
 use Rattle.room.specs.Lookup.{routeAtPlace}
 
-unfoldable pub foundSeat : FoundSeat → Found
-foundSeat (seat.At s) = at (s .0)
-foundSeat seat.None = none
+unfoldable pub seatFound : Found → FoundSeat
+seatFound (at i) = seat.At (record { 0 = i })
+seatFound none = seat.None
 
-unfoldable pub foundNumber : FoundNumber → Found
-foundNumber (number.At n) = at (n .0 - firstNumber)
-foundNumber number.None = none
+unfoldable pub numberFound : Found → FoundNumber
+numberFound (at j) = number.At (record { 0 = numberOfPlace j })
+numberFound none = number.None
 
 -- the route of seat i under a number; a number below the first names none
 unfoldable pub routeNumbered : ℕ → ℕ → List ℕ → ℕ → ℕ → Route

@@ -6,7 +6,7 @@ ghost use Prim.Native.Nat.{_≤_};
 ghost use Rattle.table.specs.Table.{fitsTable};
 ghost use Rattle.rules.specs.Room.{free};
 ghost use Rattle.room.specs.Lookup.{placeIn, seatHolding, lowestEmpty, hasSeat, taken, keyIn, routeWanting, lowestRoute, routeOfPlace};
-ghost use Rattle.room.specs.Numbers.{foundSeat, foundNumber, routeNumbered, wantedOf};
+ghost use Rattle.room.specs.Numbers.{seatFound, numberFound, routeNumbered, wantedOf};
 use crate::layout;
 use crate::layout::Seat;
 use key::Key;
@@ -44,7 +44,7 @@ impl Wanted {
 // A place of a table of seats as a seat.
 fn seat_at(seats: usize, place: usize) -> FoundSeat
     requires { ⌜ seats ≤ 255 ⌝ }
-    ensures { λ r. ⌜ foundSeat r ≡ placeIn seats place ⌝ }
+    ensures { λ r. ⌜ r ≡ seatFound (placeIn seats place) ⌝ }
 {
     if seats <= place {
         return FoundSeat::None;
@@ -55,7 +55,7 @@ fn seat_at(seats: usize, place: usize) -> FoundSeat
 // A place of a table of routes as a connection number: the first is 16.
 fn number_at(numbers: usize, place: usize) -> FoundNumber
     requires { ⌜ numbers ≤ 240 ⌝ }
-    ensures { λ r. ⌜ foundNumber r ≡ placeIn numbers place ⌝ }
+    ensures { λ r. ⌜ r ≡ numberFound (placeIn numbers place) ⌝ }
 {
     if numbers <= place {
         return FoundNumber::None;
@@ -65,7 +65,7 @@ fn number_at(numbers: usize, place: usize) -> FoundNumber
 
 // The seat that holds a key.
 pub fn seat_of(memory: &[u8], seats: usize, numbers: usize, key: Key) -> FoundSeat
-    ensures { λ r. ⌜ foundSeat r ≡ seatHolding seats numbers (now (memory .entry)) (key .0) ⌝ }
+    ensures { λ r. ⌜ r ≡ seatFound (seatHolding seats numbers (now (memory .entry)) (key .0)) ⌝ }
 {
     if !layout::fits(memory, seats, numbers) {
         return FoundSeat::None;
@@ -82,7 +82,7 @@ pub fn seat_of(memory: &[u8], seats: usize, numbers: usize, key: Key) -> FoundSe
 
 // The lowest seat that is empty.
 pub fn lowest_empty(memory: &[u8], seats: usize, numbers: usize) -> FoundSeat
-    ensures { λ r. ⌜ foundSeat r ≡ lowestEmpty seats numbers (now (memory .entry)) ⌝ }
+    ensures { λ r. ⌜ r ≡ seatFound (lowestEmpty seats numbers (now (memory .entry))) ⌝ }
 {
     if !layout::fits(memory, seats, numbers) {
         return FoundSeat::None;
@@ -117,7 +117,7 @@ pub fn is_taken(memory: &[u8], seats: usize, numbers: usize, seat: Seat) -> bool
 
 // The number under which a seat wants a key.
 pub fn number_of(memory: &[u8], seats: usize, numbers: usize, seat: Seat, key: Key) -> FoundNumber
-    ensures { λ r. ⌜ foundNumber r ≡ routeWanting seats numbers (now (memory .entry)) (seat .0) (key .0) ⌝ }
+    ensures { λ r. ⌜ r ≡ numberFound (routeWanting seats numbers (now (memory .entry)) (seat .0) (key .0)) ⌝ }
 {
     if !has_seat(memory, seats, numbers, seat) {
         return FoundNumber::None;
@@ -129,7 +129,7 @@ pub fn number_of(memory: &[u8], seats: usize, numbers: usize, seat: Seat, key: K
 
 // The lowest number of a seat that is free.
 pub fn lowest_free(memory: &[u8], seats: usize, numbers: usize, seat: Seat) -> FoundNumber
-    ensures { λ r. ⌜ foundNumber r ≡ lowestRoute seats numbers (now (memory .entry)) (seat .0) ⌝ }
+    ensures { λ r. ⌜ r ≡ numberFound (lowestRoute seats numbers (now (memory .entry)) (seat .0)) ⌝ }
 {
     if !has_seat(memory, seats, numbers, seat) {
         return FoundNumber::None;

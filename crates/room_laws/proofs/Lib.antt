@@ -13,3 +13,4 @@ pub mod OutcomeLaws
 pub mod BuiltUp
 pub mod StoreBytes
 pub mod EveryRoom
+pub mod AnswerLaws

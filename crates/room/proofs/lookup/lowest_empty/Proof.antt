@@ -5,7 +5,7 @@ use mathlib.Core.Path.{sym, ap, _∙_}
 use Prim.Native.Nat.{_-_}
 use Rattle.room.specs.Lookup.{placeIn}
 use Rattle.table.specs.Table.{lowestFree}
-use Rattle.room.specs.Numbers.{foundSeat}
+use Rattle.room.specs.Numbers.{seatFound}
 use Rattle.room.proofs.LookupSteps.{lowest-fits, lowest-not}
 use Rattle.room.proofs.LayoutLaws.{few-seats}
 use Rattle.room.proofs.lookup.lowest_empty.Statement.{statement}
@@ -15,8 +15,8 @@ fits-requires : tie.Need-fits-requires
 fits-requires c κs = search needs
 
 returns : tie.Need-returns
-unfolding foundSeat
-returns c = let a = c .before .before .before .args in sym (lowest-not (a .seats) (a .numbers) (a .memory .now) (sym (c .before .fits2 .ensures) ∙ not-true _ (c .if1 .taken)))
+unfolding seatFound
+returns c = let a = c .before .before .before .args in ap seatFound (sym (lowest-not (a .seats) (a .numbers) (a .memory .now) (sym (c .before .fits2 .ensures) ∙ not-true _ (c .if1 .taken))))
 
 seat-table-requires : tie.Need-seat-table-requires
 seat-table-requires c κs = sym (c .before .fits2 .ensures) ∙ not-false _ (c .if1 .left)
@@ -31,8 +31,9 @@ returns-2 : tie.Need-returns-2
 returns-2 c =
     let a = c .before .before .before .before .before .before .args in
     c .seat-at .ensures
-    ∙ ap (placeIn (a .seats)) (c .before .lowest-free .ensures ∙ ap (lowestFree (a .seats)) (c .before .before .seat-table .ensures))
-    ∙ sym (lowest-fits (a .seats) (a .numbers) (a .memory .now) (sym (c .before .before .before .before .fits2 .ensures) ∙ not-false _ (c .before .before .before .if1 .left)))
+    ∙ ap seatFound
+    (ap (placeIn (a .seats)) (c .before .lowest-free .ensures ∙ ap (lowestFree (a .seats)) (c .before .before .seat-table .ensures))
+    ∙ sym (lowest-fits (a .seats) (a .numbers) (a .memory .now) (sym (c .before .before .before .before .fits2 .ensures) ∙ not-false _ (c .before .before .before .if1 .left))))
 
 pub lowest-empty-spec : {M : Type 1} → statement M
 lowest-empty-spec =

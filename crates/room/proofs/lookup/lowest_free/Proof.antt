@@ -5,7 +5,7 @@ use mathlib.Core.Path.{sym, ap, _∙_}
 use Prim.Native.Nat.{_-_}
 use Rattle.room.specs.Lookup.{placeIn}
 use Rattle.table.specs.Table.{lowestFree}
-use Rattle.room.specs.Numbers.{foundNumber}
+use Rattle.room.specs.Numbers.{numberFound}
 use Rattle.room.proofs.LookupSteps.{has-seat-facts, lowest-route-in, lowest-route-not}
 use Rattle.room.proofs.LayoutLaws.{few-numbers}
 use Rattle.room.proofs.lookup.lowest_free.Statement.{statement}
@@ -15,8 +15,8 @@ has-seat-requires : tie.Need-has-seat-requires
 has-seat-requires c κs = search needs
 
 returns : tie.Need-returns
-unfolding foundNumber
-returns c = let a = c .before .before .before .args in sym (lowest-route-not (a .seats) (a .numbers) (a .memory .now) (a .seat .0) (sym (c .before .has-seat .ensures) ∙ not-true _ (c .if1 .taken)))
+unfolding numberFound
+returns c = let a = c .before .before .before .args in ap numberFound (sym (lowest-route-not (a .seats) (a .numbers) (a .memory .now) (a .seat .0) (sym (c .before .has-seat .ensures) ∙ not-true _ (c .if1 .taken))))
 
 cast-routes-table : tie.Need-cast-routes-table
 cast-routes-table c = search needs
@@ -39,8 +39,9 @@ returns-2 : tie.Need-returns-2
 returns-2 c =
     let a = c .before .before .before .before .before .before .before .args in
     c .number-at .ensures
-    ∙ ap (placeIn (a .numbers)) (c .before .lowest-free .ensures ∙ ap (lowestFree (a .numbers)) (c .before .before .routes-table .ensures))
-    ∙ sym (lowest-route-in (a .seats) (a .numbers) (a .memory .now) (a .seat .0) (sym (c .before .before .before .before .before .has-seat .ensures) ∙ not-false _ (c .before .before .before .before .if1 .left)))
+    ∙ ap numberFound
+    (ap (placeIn (a .numbers)) (c .before .lowest-free .ensures ∙ ap (lowestFree (a .numbers)) (c .before .before .routes-table .ensures))
+    ∙ sym (lowest-route-in (a .seats) (a .numbers) (a .memory .now) (a .seat .0) (sym (c .before .before .before .before .before .has-seat .ensures) ∙ not-false _ (c .before .before .before .before .if1 .left))))
 
 pub lowest-free-spec : {M : Type 1} → statement M
 lowest-free-spec =

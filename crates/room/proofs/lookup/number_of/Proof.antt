@@ -6,7 +6,7 @@ use mathlib.Core.List.{List}
 use Prim.Native.Nat.{ℕ, _-_}
 use Rattle.room.specs.Lookup.{placeIn}
 use Rattle.table.specs.Table.{found}
-use Rattle.room.specs.Numbers.{foundNumber}
+use Rattle.room.specs.Numbers.{numberFound}
 use Rattle.room.proofs.LookupSteps.{has-seat-facts, wanting-in, wanting-not}
 use Rattle.room.proofs.LayoutLaws.{few-numbers}
 use Rattle.room.proofs.lookup.number_of.Statement.{statement}
@@ -16,8 +16,8 @@ has-seat-requires : tie.Need-has-seat-requires
 has-seat-requires c κs = search needs
 
 returns : tie.Need-returns
-unfolding foundNumber
-returns c = let a = c .before .before .before .args in sym (wanting-not (a .seats) (a .numbers) (a .memory .now) (a .seat .0) (sym (c .before .has-seat .ensures) ∙ not-true _ (c .if1 .taken)) (a .key .0))
+unfolding numberFound
+returns c = let a = c .before .before .before .args in ap numberFound (sym (wanting-not (a .seats) (a .numbers) (a .memory .now) (a .seat .0) (sym (c .before .has-seat .ensures) ∙ not-true _ (c .if1 .taken)) (a .key .0)))
 
 cast-routes-table : tie.Need-cast-routes-table
 cast-routes-table c = search needs
@@ -40,8 +40,9 @@ returns-2 : tie.Need-returns-2
 returns-2 c =
     let a = c .before .before .before .before .before .before .before .args in
     c .number-at .ensures
-    ∙ ap (placeIn (a .numbers)) (c .before .find .ensures ∙ ap (λ (t : List ℕ). found (a .numbers) 32 t (a .key .0)) (c .before .before .routes-table .ensures))
-    ∙ sym (wanting-in (a .seats) (a .numbers) (a .memory .now) (a .seat .0) (sym (c .before .before .before .before .before .has-seat .ensures) ∙ not-false _ (c .before .before .before .before .if1 .left)) (a .key .0))
+    ∙ ap numberFound
+    (ap (placeIn (a .numbers)) (c .before .find .ensures ∙ ap (λ (t : List ℕ). found (a .numbers) 32 t (a .key .0)) (c .before .before .routes-table .ensures))
+    ∙ sym (wanting-in (a .seats) (a .numbers) (a .memory .now) (a .seat .0) (sym (c .before .before .before .before .before .has-seat .ensures) ∙ not-false _ (c .before .before .before .before .if1 .left)) (a .key .0)))
 
 pub number-of-spec : {M : Type 1} → statement M
 number-of-spec =

@@ -6,7 +6,7 @@ use mathlib.Core.List.{List}
 use Prim.Native.Nat.{ℕ, _-_}
 use Rattle.room.specs.Lookup.{placeIn}
 use Rattle.table.specs.Table.{found}
-use Rattle.room.specs.Numbers.{foundSeat}
+use Rattle.room.specs.Numbers.{seatFound}
 use Rattle.room.proofs.LookupSteps.{holding-fits, holding-not}
 use Rattle.room.proofs.LayoutLaws.{few-seats, few-numbers}
 use Rattle.room.proofs.lookup.seat_of.Statement.{statement}
@@ -16,8 +16,8 @@ fits-requires : tie.Need-fits-requires
 fits-requires c κs = search needs
 
 returns : tie.Need-returns
-unfolding foundSeat
-returns c = let a = c .before .before .before .args in sym (holding-not (a .seats) (a .numbers) (a .memory .now) (sym (c .before .fits2 .ensures) ∙ not-true _ (c .if1 .taken)) (a .key .0))
+unfolding seatFound
+returns c = let a = c .before .before .before .args in ap seatFound (sym (holding-not (a .seats) (a .numbers) (a .memory .now) (sym (c .before .fits2 .ensures) ∙ not-true _ (c .if1 .taken)) (a .key .0)))
 
 seat-bytes-requires : tie.Need-seat-bytes-requires
 seat-bytes-requires c κs = let a = c .before .before .before .args in few-numbers (a .seats) (a .numbers) (a .memory .now) (sym (c .before .fits2 .ensures) ∙ not-false _ (c .if1 .left))
@@ -35,9 +35,10 @@ returns-2 : tie.Need-returns-2
 returns-2 c =
     let a = c .before .before .before .before .before .before .before .args in
     c .seat-at .ensures
-    ∙ ap (placeIn (a .seats))
+    ∙ ap seatFound
+    (ap (placeIn (a .seats))
     (c .before .find .ensures ∙ ap₂ (λ (w : ℕ) (t : List ℕ). found (a .seats) w t (a .key .0)) (c .before .before .before .seat-bytes .ensures) (c .before .before .seat-table .ensures))
-    ∙ sym (holding-fits (a .seats) (a .numbers) (a .memory .now) (sym (c .before .before .before .before .before .fits2 .ensures) ∙ not-false _ (c .before .before .before .before .if1 .left)) (a .key .0))
+    ∙ sym (holding-fits (a .seats) (a .numbers) (a .memory .now) (sym (c .before .before .before .before .before .fits2 .ensures) ∙ not-false _ (c .before .before .before .before .if1 .left)) (a .key .0)))
 
 pub seat-of-spec : {M : Type 1} → statement M
 seat-of-spec =
