@@ -1,0 +1,31 @@
+-- The tests before a step: the output, then the room.
+use mathlib.Core.Path.{_≡_}
+use mathlib.Core.Bool.{true, false}
+use mathlib.Core.List.{List}
+use Prim.Native.Nat.{ℕ, _≤_, _<_}
+use lib.ListN.{length}
+use borrow.Author.Tests.{le-leb, lt-leb}
+use Rattle.refusal.specs.declared.Refusal.the-variants.{OutputTooShort, RoomNotWhole}
+use Rattle.rules.specs.Call.{Call, Answer, refused}
+use Rattle.rules.specs.Outcome.{outcome}
+use Rattle.room.specs.View.{viewRoom}
+use Rattle.room.specs.Whole.{roomWhole}
+use Rattle.relay.specs.Calls.{Leaves, tested, withOutput, leastOutput}
+use Rattle.relay.proofs.LeavesLaws.{leaves-refused}
+
+module _ (s n : ℕ) (b out : List ℕ) (call : Call) where
+  pub not-whole : roomWhole s n b ≡ false → Leaves s n (tested s n b call) b out (refused RoomNotWhole) b out
+  unfolding tested
+  not-whole e = rw e (leaves-refused s n b out RoomNotWhole)
+
+  pub is-tested : roomWhole s n b ≡ true → (given : Answer) (b′ out′ : List ℕ) → Leaves s n (outcome (viewRoom s n b) call) b out given b′ out′ → Leaves s n (tested s n b call) b out given b′ out′
+  unfolding tested
+  is-tested e given b′ out′ w = rw e w
+
+  pub too-short : length out < leastOutput → Leaves s n (withOutput s n b out call) b out (refused OutputTooShort) b out
+  unfolding withOutput
+  too-short h = rw (lt-leb leastOutput (length out) h) (leaves-refused s n b out OutputTooShort)
+
+  pub long-enough : leastOutput ≤ length out → (given : Answer) (b′ out′ : List ℕ) → Leaves s n (tested s n b call) b out given b′ out′ → Leaves s n (withOutput s n b out call) b out given b′ out′
+  unfolding withOutput
+  long-enough h given b′ out′ w = rw (le-leb leastOutput (length out) h) w

@@ -1,0 +1,34 @@
+-- Demand 3, of any two histories that the host makes, each from the empty room in its own lent memory, of whatever lengths, and of any client C: "If their
+-- records for C are equal and neither answers another client's request for C with 0", the packets for C in the output records are equal in both, byte for byte
+-- and in order, and so are the answers to C's calls. This is a statement about what the host really calls: record, packets and answers are functions of the
+-- events that the host sees. Assumes nothing.
+use mathlib.Core.Path.{_≡_, sym}
+use mathlib.Core.Bool.{false}
+use mathlib.Core.List.{List, []}
+use Prim.Native.Nat.{ℕ}
+use Rattle.rules.specs.Room.{Sizes, Key, emptyRoom}
+use Rattle.rules.specs.Call.{Call}
+use Rattle.rules.specs.History.{Event, transcript}
+use Rattle.rules.specs.Transcript.{fromEmpty}
+use Rattle.rules.specs.Record.{recordFor, packetsFor, answersFor, zeroForC}
+use Rattle.rules.proofs.Isolation.{two-histories}
+use Rattle.room_laws.proofs.TablesLaws.{sizesOf}
+use Rattle.relay.specs.History.{History, callsOf}
+use Rattle.relay.proofs.Histories.{history-runs}
+
+-- of events that are transcripts
+of-events : (sizes : Sizes) (c : Key) (events₁ events₂ : List Event) (h₁ h₂ : List Call)
+    → transcript sizes (emptyRoom sizes) h₁ ≡ events₁ → transcript sizes (emptyRoom sizes) h₂ ≡ events₂
+    → zeroForC fromEmpty [] c events₁ ≡ false → zeroForC fromEmpty [] c events₂ ≡ false
+    → recordFor fromEmpty [] c events₁ ≡ recordFor fromEmpty [] c events₂
+    → (packetsFor fromEmpty [] c events₁ ≡ packetsFor fromEmpty [] c events₂) × (answersFor fromEmpty [] c events₁ ≡ answersFor fromEmpty [] c events₂)
+of-events sizes c events₁ events₂ h₁ h₂ e₁ e₂ = rw (← e₁, ← e₂) (two-histories sizes c h₁ h₂)
+
+pub isolation-in-histories : (s n : ℕ) (events₁ events₂ : List Event) (b₁ b₂ : List ℕ) → History s n events₁ b₁ → History s n events₂ b₂ → (c : Key)
+    → zeroForC fromEmpty [] c events₁ ≡ false
+    → zeroForC fromEmpty [] c events₂ ≡ false
+    → recordFor fromEmpty [] c events₁ ≡ recordFor fromEmpty [] c events₂
+    → (packetsFor fromEmpty [] c events₁ ≡ packetsFor fromEmpty [] c events₂) × (answersFor fromEmpty [] c events₁ ≡ answersFor fromEmpty [] c events₂)
+isolation-in-histories s n events₁ events₂ b₁ b₂ h₁ h₂ c =
+    of-events (sizesOf s n) c events₁ events₂ (callsOf events₁) (callsOf events₂)
+    (sym (history-runs s n events₁ b₁ h₁ .events-are)) (sym (history-runs s n events₂ b₂ h₂ .events-are))

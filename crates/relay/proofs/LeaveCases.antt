@@ -1,0 +1,245 @@
+-- A client leaves: what a route of it wants, the peer on it, and the records that are written, one behind the other.
+use mathlib.Core.Path.{_≡_, refl, sym, ap, ap₂, _∙_, subst}
+use mathlib.Core.Bool.{Bool, true, false, not, cond}
+use mathlib.Core.List.{List, [], _∷_, _++_, append-assoc, append-nil}
+use Prim.Native.Nat.{ℕ, suc, _+_, _-_, _≤_, _<_}
+use native.Mathlib.Nat.{add-sub-cancel-left}
+use native.Mathlib.Omega.{arith}
+use lib.Dec.{ltb}
+use lib.ListN.{length, take, drop, getD}
+use lib.Seq.{take-suc, take-all}
+use borrow.Author.Tests.{le-ltb, lt-ltb}
+use Rattle.refusal.specs.declared.Refusal.the-variants.{NotSeated}
+use Rattle.packet.specs.FromRelay.{relayBytes, disconnectNotice}
+use Rattle.packet.specs.declared.parts.ConnectionNumber.{ConnectionNumber}
+use Rattle.table.specs.Table.{keyOfPlace}
+use Rattle.table.proofs.KeyOrder.{both}
+use Rattle.table.proofs.TableLaws.{key-record}
+use Rattle.rules.specs.Room.{Key, Route, free, wants, Seat, vacant, holds, Room, isVacant, routesOf, seatAt, routeAt, firstNumber, numberOfPlace, Peer, alone, joined}
+use Rattle.rules.specs.Call.{Sent, leave, accepted, refused}
+use Rattle.rules.specs.Outcome.{peer, to, toPeer, tellPeer, tellPeers, sentBytes, outcome, leaveFrom, accept, refuse, seatEmptied}
+use Rattle.room.specs.declared.layout.Seat as seats
+use Rattle.room.specs.declared.lookup.Wanted.{Wanted}
+use Rattle.room.specs.Layout.{keyBytes, seatBytes, seatTable, seatStart, routesTable}
+use Rattle.room.specs.View.{viewRoom, viewRoutes}
+use Rattle.room.specs.Whole.{roomWhole}
+use Rattle.room.specs.Store.{store, storeAll}
+use Rattle.room.specs.Lookup.{hasSeat, taken, keyIn, routeAtPlace}
+use Rattle.room.specs.Numbers.{routeNumbered, wantedOf}
+use Rattle.room.proofs.LayoutLaws.{few-numbers, seats-fit}
+use Rattle.room.proofs.LookupSteps.{has-seat-facts, key-in-seat}
+use Rattle.room_laws.proofs.LookupLaws.{taken-is, taken-holds, route-at-place-is}
+use Rattle.room_laws.proofs.TablesLaws.{seat-key-stands}
+use Rattle.room_laws.proofs.WholeLaws.{whole-fits}
+use Rattle.relay.specs.declared.peer.Peer as code
+use Rattle.relay.specs.Peers.{peerFound}
+use Rattle.relay.specs.Output.{Appends}
+use Rattle.relay.specs.Calls.{Leaves}
+use Rattle.relay.specs.Steps.{Sits}
+use Rattle.relay.proofs.AppendLaws.{length-sent-one, appends-none, appends-more, appends-front, appends-front-answer}
+
+-- ---- what a number names
+
+pub wanted-free : (r : Route) (w : Wanted) → w ≡ wantedOf r → w .held ≡ false → r ≡ free
+unfolding wantedOf
+wanted-free free w e h = refl
+wanted-free (wants key) w e h = let z : _≡_ {A = Bool} true false = sym (ap (λ (x : Wanted). x .held) e) ∙ h in cc
+
+pub wanted-wants : (r : Route) (w : Wanted) → w ≡ wantedOf r → w .held ≡ true → r ≡ wants (w .key .0)
+unfolding wantedOf
+wanted-wants free w e h = let z : _≡_ {A = Bool} false true = sym (ap (λ (x : Wanted). x .held) e) ∙ h in cc
+wanted-wants (wants key) w e h = ap (λ (x : Wanted). wants (x .key .0)) (sym e)
+
+module _ (s n : ℕ) (b : List ℕ) (whole : roomWhole s n b ≡ true) (i : ℕ) (key : Key) (sits : Sits s n b i key) where
+  sits-taken : taken s n b i ≡ true
+  unfolding isVacant
+  sits-taken = taken-is s n b whole i ∙ ap (λ (x : Seat). not (isVacant x)) sits
+
+  sits-route : (j : ℕ) → routeAtPlace s n b i j ≡ getD (viewRoutes n (routesTable s n b i)) j free
+  unfolding routesOf
+  sits-route j = route-at-place-is s n b whole i sits-taken j ∙ ap (λ (x : Seat). getD (routesOf x) j free) sits
+
+  pub sits-numbered : (number : ℕ) → routeNumbered s n b i number ≡ routeAt (viewRoutes n (routesTable s n b i)) number
+  unfolding routeNumbered routeAt
+  sits-numbered number = ap (λ (r : Route). cond (ltb number firstNumber) free r) (sits-route (number - firstNumber))
+
+pub route-of-number : (routes : List Route) (number : ℕ) → 16 ≤ number → routeAt routes number ≡ getD routes (number - 16) free
+unfolding routeAt
+route-of-number routes number h = rw (le-ltb number firstNumber h)
+
+-- ---- the peer found
+
+pub found-joined : (p : Peer) (r : code.Peer) → r ≡ peerFound p → (other : seats.Seat) (theirs : ConnectionNumber) → r ≡ code.the-variants.Joined other theirs
+    → (p ≡ joined (other .0) (theirs .0 - firstNumber)) × (16 ≤ theirs .0)
+unfolding peerFound
+found-joined (joined seat place) r f other theirs e =
+    let q : record { 0 = seat } ≡ other = cc in
+    let n : record { 0 = numberOfPlace place } ≡ theirs = cc in
+    let v : seat ≡ other .0 = ap (λ (x : seats.Seat). x .0) q in
+    let w : numberOfPlace place ≡ theirs .0 = ap (λ (x : ConnectionNumber). x .0) n in
+    (ap₂ joined v (sym (add-sub-cancel-left 16 place) ∙ ap (λ (x : ℕ). x - firstNumber) w), omega arith)
+found-joined alone r f other theirs e = let z : _≡_ {A = ℕ} 0 1 = cc in absurd (omega arith)
+
+found-alone : (p : Peer) (r : code.Peer) → r ≡ peerFound p → r ≡ code.the-variants.Alone → p ≡ alone
+unfolding peerFound
+found-alone (joined seat place) r f e = let z : _≡_ {A = ℕ} 0 1 = cc in absurd (omega arith)
+found-alone alone r f e = refl
+
+-- ---- one peer told
+
+module _ (room : Room) (seat : ℕ) (key : Key) (route : Route) where
+  tells-free : route ≡ free → tellPeer room seat key route ≡ []
+  unfolding tellPeer
+  tells-free e = rw e
+
+  module _ (wanted : Key) (names : route ≡ wants wanted) where
+    pub tells-peer : tellPeer room seat key route ≡ toPeer disconnectNotice (peer room seat key wanted)
+    unfolding tellPeer
+    tells-peer = rw names
+
+    tells-alone : (r : code.Peer) → r ≡ peerFound (peer room seat key wanted) → r ≡ code.the-variants.Alone → tellPeer room seat key route ≡ []
+    unfolding toPeer
+    tells-alone r f e = tells-peer ∙ ap (toPeer disconnectNotice) (found-alone (peer room seat key wanted) r f e)
+
+    tells-joined : (r : code.Peer) → r ≡ peerFound (peer room seat key wanted) → (other : seats.Seat) (theirs : ConnectionNumber) → r ≡ code.the-variants.Joined other theirs
+        → tellPeer room seat key route ≡ to (other .0) (disconnectNotice (theirs .0)) ∷ []
+    unfolding toPeer
+    tells-joined r f other theirs e =
+        let j = found-joined (peer room seat key wanted) r f other theirs e in
+        let n : numberOfPlace (theirs .0 - firstNumber) ≡ theirs .0 = let l = j .1 in omega arith in
+        tells-peer ∙ ap (toPeer disconnectNotice) (j .0) ∙ ap (λ (x : ℕ). to (other .0) (disconnectNotice x) ∷ []) n
+
+pub appends-as : (l m : List Sent) (out : List ℕ) (at next : ℕ) (left : List ℕ) → l ≡ m → Appends m out at next left → Appends l out at next left
+appends-as l m out at next left e a = subst (λ (x : List Sent). Appends x out at next left) (sym e) a
+
+-- one number: it names nothing, a key whose client is not connected, or that of a connected peer
+module _ (s n : ℕ) (b : List ℕ) (whole : roomWhole s n b ≡ true) (i : ℕ) (key : Key) (sits : Sits s n b i key) (number : ℕ) (high : 16 ≤ number)
+    (w : Wanted) (answer : w ≡ wantedOf (routeNumbered s n b i number)) (out : List ℕ) (at : ℕ) where
+  abbrev told : Route
+  told = getD (viewRoutes n (routesTable s n b i)) (number - 16) free
+
+  numbered : routeNumbered s n b i number ≡ told
+  numbered = sits-numbered s n b whole i key sits number ∙ route-of-number (viewRoutes n (routesTable s n b i)) number high
+
+  names : w .held ≡ true → told ≡ wants (w .key .0)
+  names h = sym numbered ∙ wanted-wants (routeNumbered s n b i number) w answer h
+
+  pub tell-none : w .held ≡ false
+      → Appends (tellPeer (viewRoom s n b) i key (getD (viewRoutes n (routesTable s n b i)) (number - 16) free)) out at at out
+  tell-none h =
+      appends-as _ [] out at at out (tells-free (viewRoom s n b) i key told (sym numbered ∙ wanted-free (routeNumbered s n b i number) w answer h))
+      (appends-none out at)
+
+  pub tell-alone : w .held ≡ true → (r : code.Peer) → r ≡ peerFound (peer (viewRoom s n b) i key (w .key .0)) → r ≡ code.the-variants.Alone
+      → Appends (tellPeer (viewRoom s n b) i key (getD (viewRoutes n (routesTable s n b i)) (number - 16) free)) out at at out
+  tell-alone h r f e = appends-as _ [] out at at out (tells-alone (viewRoom s n b) i key told (w .key .0) (names h) r f e) (appends-none out at)
+
+  pub tell-joined : w .held ≡ true → (r : code.Peer) → r ≡ peerFound (peer (viewRoom s n b) i key (w .key .0))
+      → (other : seats.Seat) (theirs : ConnectionNumber) → r ≡ code.the-variants.Joined other theirs
+      → (next : ℕ) (left : List ℕ) → Appends (to (other .0) (disconnectNotice (theirs .0)) ∷ []) out at next left
+      → Appends (tellPeer (viewRoom s n b) i key (getD (viewRoutes n (routesTable s n b i)) (number - 16) free)) out at next left
+  tell-joined h r f other theirs e next left a =
+      appends-as _ (to (other .0) (disconnectNotice (theirs .0)) ∷ []) out at next left
+      (tells-joined (viewRoom s n b) i key told (w .key .0) (names h) r f other theirs e) a
+
+-- ---- every peer told
+
+pub whole-few : (s n : ℕ) (b : List ℕ) → roomWhole s n b ≡ true → n ≤ 240
+whole-few s n b whole = few-numbers s n b (whole-fits s n b whole)
+
+module _ (room : Room) (seat : ℕ) (key : Key) where
+  tells-one : (route : Route) → tellPeers room seat key (route ∷ []) ≡ tellPeer room seat key route
+  unfolding tellPeers
+  tells-one route = append-nil (tellPeer room seat key route)
+
+  tells-append : (l m : List Route) → tellPeers room seat key (l ++ m) ≡ tellPeers room seat key l ++ tellPeers room seat key m
+  unfolding tellPeers
+  tells-append [] m = refl
+  tells-append (r ∷ l) m =
+      ap (λ (x : List Sent). tellPeer room seat key r ++ x) (tells-append l m)
+      ∙ sym (append-assoc (tellPeer room seat key r) (tellPeers room seat key l) (tellPeers room seat key m))
+
+  tells-next : (routes : List Route) (place : ℕ) → place < length routes
+      → tellPeers room seat key (take (place + 1) routes) ≡ tellPeers room seat key (take place routes) ++ tellPeer room seat key (getD routes place free)
+  tells-next routes place h =
+      ap (λ (x : ℕ). tellPeers room seat key (take x routes)) (let q : place + 1 ≡ suc place = omega arith in q)
+      ∙ ap (tellPeers room seat key) (take-suc routes place free h)
+      ∙ tells-append (take place routes) (getD routes place free ∷ [])
+      ∙ ap (λ (x : List Sent). tellPeers room seat key (take place routes) ++ x) (tells-one (getD routes place free))
+
+  -- no peer yet
+  pub tells-begun : (routes : List Route) (out : List ℕ) → Appends (tellPeers room seat key (take 0 routes)) out 0 0 out
+  unfolding tellPeers
+  tells-begun routes out = appends-none out 0
+
+  -- one number more
+  pub tells-more : (routes : List Route) (place : ℕ) → place < length routes → (out : List ℕ) (at next : ℕ) (left last : List ℕ)
+      → Appends (tellPeers room seat key (take place routes)) out 0 at left
+      → Appends (tellPeer room seat key (getD routes (16 + place - 16) free)) left at next last
+      → Appends (tellPeers room seat key (take (place + 1) routes)) out 0 next last
+  tells-more routes place h out at next left last a b =
+      let m : List Sent = tellPeer room seat key (getD routes place free) in
+      appends-as (tellPeers room seat key (take (place + 1) routes)) (tellPeers room seat key (take place routes) ++ m) out 0 next last (tells-next routes place h)
+      (appends-more (tellPeers room seat key (take place routes)) m out 0 at next left last (omega arith) a
+      (appends-as m (tellPeer room seat key (getD routes (16 + place - 16) free)) left at next last
+      (ap (λ (x : ℕ). tellPeer room seat key (getD routes x free)) (sym (add-sub-cancel-left 16 place))) b))
+
+  -- every number
+  pub tells-all : (routes : List Route) (place : ℕ) → length routes ≤ place → (out : List ℕ) (next : ℕ) (last : List ℕ)
+      → Appends (tellPeers room seat key (take place routes)) out 0 next last → Appends (tellPeers room seat key routes) out 0 next last
+  tells-all routes place h out next last a =
+      appends-as (tellPeers room seat key routes) (tellPeers room seat key (take place routes)) out 0 next last
+      (ap (tellPeers room seat key) (sym (take-all place routes h))) a
+
+  -- a record of 5 bytes at most
+  peer-short : (p : Peer) → length (sentBytes (toPeer disconnectNotice p)) ≤ 5
+  unfolding toPeer to relayBytes sentBytes
+  peer-short alone = omega arith
+  peer-short (joined other place) = let e = length-sent-one (to other (disconnectNotice (numberOfPlace place))) in omega arith
+
+  tell-short : (route : Route) → length (sentBytes (tellPeer room seat key route)) ≤ 5
+  unfolding tellPeer sentBytes
+  tell-short free = omega arith
+  tell-short (wants wanted) = peer-short (peer room seat key wanted)
+
+  pub tell-next : (route : Route) (out : List ℕ) (at next : ℕ) (left : List ℕ) → Appends (tellPeer room seat key route) out at next left → next ≤ at + 5
+  tell-next route out at next left a = let e = a .answers in let s = tell-short route in omega arith
+
+-- ---- the seat
+
+module _ (s n : ℕ) (b : List ℕ) (whole : roomWhole s n b ≡ true) (i : ℕ) where
+  pub leave-none : taken s n b i ≡ false → (out : List ℕ) → Leaves s n (outcome (viewRoom s n b) (leave i)) b out (refused NotSeated) b out
+  unfolding outcome leaveFrom refuse storeAll sentBytes
+  leave-none h out = let e = none (seatAt (viewRoom s n b) i) (sym (taken-is s n b whole i) ∙ h) in record { answers = rw e; stores = rw e; writes = rw e }
+    where
+      none : (x : Seat) → not (isVacant x) ≡ false → x ≡ vacant
+      none vacant e = refl
+      none (holds k routes) e = let z : _≡_ {A = Bool} true false = unfold isVacant in e in cc
+
+  -- the key that a taken seat holds
+  key-of-taken : taken s n b i ≡ true → keyIn s n b i ≡ take keyBytes (drop (seatStart s n i) b)
+  unfolding taken hasSeat keyOfPlace
+  key-of-taken h =
+      let has : hasSeat s n b i ≡ true = both (hasSeat s n b i) _ h .0 in
+      let l = has-seat-facts s n b i has .1 in
+      key-in-seat s n b i has
+      ∙ rw (seats-fit s n b (whole-fits s n b whole), lt-ltb i s l) (key-record s (seatBytes n) (seatTable s n b) i (omega arith))
+      ∙ seat-key-stands s n b i l
+
+  pub leave-sits : taken s n b i ≡ true → (key : Key) → key ≡ keyIn s n b i → Sits s n b i key
+  leave-sits h key e =
+      taken-holds s n b whole i h
+      ∙ ap (λ (k : Key). holds k (viewRoutes n (routesTable s n b i))) (sym (e ∙ key-of-taken h))
+
+  pub leave-seat : (key : Key) → Sits s n b i key → (out : List ℕ) (bytes : ℕ) (b′ out′ : List ℕ)
+      → Appends (tellPeers (viewRoom s n b) i key (viewRoutes n (routesTable s n b i))) out 0 bytes out′
+      → b′ ≡ store s n b (seatEmptied i)
+      → Leaves s n (outcome (viewRoom s n b) (leave i)) b out (accepted i bytes) b′ out′
+  unfolding outcome leaveFrom accept storeAll
+  leave-seat key sits out bytes b′ out′ a f =
+      let sent : List Sent = tellPeers (viewRoom s n b) i key (viewRoutes n (routesTable s n b i)) in
+      record {
+        answers = rw sits (ap (accepted i) (appends-front-answer sent out bytes out′ a));
+        stores = rw sits f;
+        writes = rw sits (appends-front sent out bytes out′ a);
+      }

@@ -1,0 +1,61 @@
+-- What the relay's reader takes has payloads within document 01's bounds, and ping numbers that are not 0.
+use mathlib.Core.Path.{_≡_, refl, subst}
+use mathlib.Core.Bool.{Bool, true, false, not}
+use mathlib.Core.List.{List}
+use Prim.Native.Nat.{ℕ, _≤_, _<_}
+use native.Mathlib.Omega.{arith}
+use lib.Dec.{eqb}
+use lib.ListN.{length, take, length-drop}
+use borrow.Author.Tests.{eqb-false}
+use Rattle.table.proofs.KeyOrder.{no}
+use Rattle.wire.specs.Numbers.{numberOf}
+use Rattle.packet.specs.Read.{packet}
+use Rattle.packet.specs.Table.{kindOf, bodyOf, relayTakes, pingRight}
+use Rattle.packet.specs.FromClient.{FromClient, routingRequest, dropRoute, ping, pong, oobSend, routedData, fromClient, relayRead}
+use Rattle.packet.proofs.KindLaws.{from-client-data, size-bounds, length-oob-send, length-two}
+use Rattle.packet.proofs.CheckLaws.{Passes, Checks, pass, fail, checks, never-both}
+use Rattle.packet.proofs.PartLaws.{length-body}
+use Rattle.packet.proofs.RelayLaws.{RelayKind, is-request, is-drop, is-ping, is-pong, is-oob, is-data, relay-kind, relay-takes}
+
+unfoldable pub Within : FromClient → Type 0
+Within (routingRequest key) = Unit {0}
+Within (dropRoute number) = Unit {0}
+Within (ping n) = 0 < n
+Within (pong n) = Unit {0}
+Within (oobSend key bytes) = (1 ≤ length bytes) × (length bytes ≤ 1024)
+Within (routedData number bytes) = (1 ≤ length bytes) × (length bytes ≤ 2031)
+
+not-zero : (n : ℕ) → not (eqb n 0) ≡ true → 0 < n
+not-zero n e = go (eqb n 0) refl e
+  where
+    go : (t : Bool) → eqb n 0 ≡ t → not t ≡ true → 0 < n
+    go true h q = absurd (no q)
+    go false h q = let d = eqb-false n 0 h in omega (arith, d)
+
+module _ (bytes : List ℕ) (taken : Passes relayTakes bytes) where
+  within : RelayKind (kindOf bytes) → Within (fromClient (kindOf bytes) (bodyOf bytes))
+  unfolding fromClient Within pingRight
+  within (is-request e) = rw e tt
+  within (is-drop e) = rw e tt
+  within (is-ping e) = rw e (not-zero (numberOf (take 8 (bodyOf bytes))) (rw e at (taken .ping)))
+  within (is-pong e) = rw e tt
+  within (is-oob e) =
+      let h = length-oob-send (kindOf bytes) (length bytes) (taken .long) e in
+      let l = length-body bytes in
+      rw (e, length-drop) (omega arith, omega arith)
+  within (is-data h) =
+      let s = size-bounds (length bytes) (taken .size) in
+      let d = length-two (kindOf bytes) (length bytes) (taken .long) in
+      let l = length-body bytes in
+      rw (from-client-data (kindOf bytes) (bodyOf bytes) h) (omega arith, omega arith)
+
+pub read-within : (bytes : List ℕ) (p : FromClient) → relayRead bytes ≡ packet p → Within p
+unfolding relayRead
+read-within bytes p e = go (checks relayTakes bytes (packet (fromClient (kindOf bytes) (bodyOf bytes))))
+  where
+    go : Checks relayTakes bytes (packet (fromClient (kindOf bytes) (bodyOf bytes))) → Within p
+    go (pass t) =
+        let r = relay-takes bytes t in
+        let q : fromClient (kindOf bytes) (bodyOf bytes) ≡ p = cc in
+        subst Within q (within bytes t (relay-kind (kindOf bytes) (t .kind)))
+    go (fail why r) = absurd (never-both (relayRead bytes) p why e r)

@@ -1,0 +1,42 @@
+-- `calls::arrive` meets its contract: the test, then the step. Assumes nothing.
+use borrow.Author.Needs.{needs}
+use borrow.Author.Tests.{not-true, not-false}
+use mathlib.Core.Path.{sym, _∙_}
+use mathlib.Core.List.{[]}
+use Rattle.rules.specs.Call.{arrive}
+use Rattle.relay.specs.Calls.{answerOf}
+use Rattle.relay.proofs.CallsLaws.{not-whole, is-tested}
+use Rattle.relay.proofs.calls.arrive.Statement.{statement}
+use Rattle.relay.proofs.calls.arrive.Tie as tie
+
+is-whole-requires : tie.Need-is-whole-requires
+is-whole-requires c κs = search needs
+
+same-length : tie.Need-same-length
+same-length c = search needs
+
+returns : tie.Need-returns
+unfolding answerOf
+returns c = let a = c .before .before .before .before .args in not-whole 40 32 (a .memory .now) [] (arrive (a .key .0)) (sym (c .before .is-whole .ensures) ∙ not-true _ (c .if1 .taken))
+
+step-requires : tie.Need-step-requires
+step-requires c κs = sym (c .before .before .is-whole .ensures) ∙ not-false _ (c .before .if1 .left)
+
+same-length-2 : tie.Need-same-length-2
+same-length-2 c = search needs
+
+returns-2 : tie.Need-returns-2
+returns-2 c =
+    let a = c .before .before .before .before .before .before .before .before .args in
+    is-tested 40 32 (a .memory .now) [] (arrive (a .key .0)) (sym (c .before .before .before .before .before .is-whole .ensures) ∙ not-false _ (c .before .before .before .before .if1 .left)) _ _ _ (c .before .before .step .ensures)
+
+pub arrive-spec : {M : Type 1} → statement M
+arrive-spec =
+    tie.close
+    (tie.spec
+    is-whole-requires
+    same-length
+    returns
+    step-requires
+    same-length-2
+    returns-2)

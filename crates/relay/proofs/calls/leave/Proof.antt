@@ -1,0 +1,54 @@
+-- `calls::leave` meets its contract: the tests, then the step. Assumes nothing.
+use borrow.Author.Needs.{needs}
+use borrow.Author.Tests.{not-true, not-false}
+use mathlib.Core.Path.{sym, _∙_}
+use Rattle.rules.specs.Call.{leave}
+use Rattle.relay.specs.Calls.{answerOf}
+use Rattle.relay.proofs.CallsLaws.{not-whole, is-tested, too-short, long-enough}
+use Rattle.relay.proofs.calls.leave.Statement.{statement}
+use Rattle.relay.proofs.calls.leave.Tie as tie
+
+returns : tie.Need-returns
+unfolding answerOf
+returns c = let a = c .before .before .before .args in too-short 40 32 (a .memory .now) (a .out .now) (leave (a .seat .0)) (c .if1 .taken)
+
+is-whole-requires : tie.Need-is-whole-requires
+is-whole-requires c κs = search needs
+
+same-length : tie.Need-same-length
+same-length c = search needs
+
+returns-2 : tie.Need-returns-2
+unfolding answerOf
+returns-2 c =
+    let a = c .before .before .before .before .before .before .args in
+    long-enough 40 32 (a .memory .now) (a .out .now) (leave (a .seat .0)) (c .before .before .before .if1 .left) _ _ _
+    (not-whole 40 32 (a .memory .now) (a .out .now) (leave (a .seat .0)) (sym (c .before .is-whole .ensures) ∙ not-true _ (c .if2 .taken)))
+
+step-requires : tie.Need-step-requires
+step-requires c κs = (sym (c .before .before .before .is-whole .ensures) ∙ not-false _ (c .before .before .if2 .left), c .before .before .before .before .before .if1 .left)
+
+same-length-2 : tie.Need-same-length-2
+same-length-2 c = search needs
+
+same-length-3 : tie.Need-same-length-3
+same-length-3 c = search needs
+
+returns-3 : tie.Need-returns-3
+returns-3 c =
+    let a = c .before .before .before .before .before .before .before .before .before .before .before .before .before .args in
+    long-enough 40 32 (a .memory .now) (a .out .now) (leave (a .seat .0)) (c .before .before .before .before .before .before .before .before .before .before .if1 .left) _ _ _
+    (is-tested 40 32 (a .memory .now) (a .out .now) (leave (a .seat .0)) (sym (c .before .before .before .before .before .before .before .before .is-whole .ensures) ∙ not-false _ (c .before .before .before .before .before .before .before .if2 .left)) _ _ _ (c .before .before .before .before .step .ensures))
+
+pub leave-spec : {M : Type 1} → statement M
+leave-spec =
+    tie.close
+    (tie.spec
+    returns
+    is-whole-requires
+    same-length
+    returns-2
+    step-requires
+    same-length-2
+    same-length-3
+    returns-3)

@@ -1,0 +1,94 @@
+-- `packet_call::step` meets its contract: the seat, then the reader, then what the packet asks for. Assumes nothing.
+use borrow.Author.Needs.{needs}
+use borrow.Author.Tests.{not-true, not-false}
+use mathlib.Core.Path.{sym, _∙_}
+use Rattle.packet.specs.FromClient.{relayRead}
+use Rattle.room.specs.Layout.{routesTable}
+use Rattle.room.specs.View.{viewRoom, viewRoutes}
+use Rattle.relay.specs.Calls.{answerOf}
+use Rattle.relay.proofs.LeaveCases.{leave-sits}
+use Rattle.relay.proofs.PacketCases.{from-seat, from-empty, turned-down, shows-refused}
+use Rattle.relay.proofs.packet_call.step.Statement.{statement}
+use Rattle.relay.proofs.packet_call.step.Tie as tie
+
+is-taken-requires : tie.Need-is-taken-requires
+is-taken-requires c κs = search needs
+
+same-length : tie.Need-same-length
+same-length c = search needs
+
+returns : tie.Need-returns
+unfolding answerOf
+returns c =
+    let s = c .before .before .before .before .before .before in
+    let a = s .args in
+    from-empty (a .seats) (a .numbers) (a .memory .now) (s .pre .0) (a .seat .0) (a .out .now) (a .packet .now) (sym (c .before .is-taken .ensures) ∙ not-true _ (c .if1 .taken))
+
+key-in-requires : tie.Need-key-in-requires
+key-in-requires c κs = search needs
+
+read-requires : tie.Need-read-requires
+read-requires c κs = search needs
+
+enum-known-shown : tie.Need-enum-known-shown
+enum-known-shown c = search needs
+
+act-requires : tie.Need-act-requires
+act-requires c κs =
+    let s = c .before .before .before .before .before .before .before .before .before .before .before .before .before .before in
+    let a = s .args in
+    let key = c .before .before .before .before .before .before .key-in in
+    let sits = leave-sits (a .seats) (a .numbers) (a .memory .now) (s .pre .0) (a .seat .0) (sym (c .before .before .before .before .before .before .before .before .before .is-taken .ensures) ∙ not-false _ (c .before .before .before .before .before .before .before .before .if1 .left)) (key .result .0) (key .ensures) in
+    (s .pre .0, sits, sym (c .before .before .before .shown .given .1) ∙ c .before .before .before .before .before .read .ensures .exact, s .pre .1)
+
+enum-known-why : tie.Need-enum-known-why
+enum-known-why c = search needs
+
+same-length-2 : tie.Need-same-length-2
+same-length-2 c = search needs
+
+same-length-3 : tie.Need-same-length-3
+same-length-3 c = search needs
+
+returns-2 : tie.Need-returns-2
+returns-2 c =
+    let s = c .before .before .before .before .before .before .before .before .before .before .before .before .before .before .before .before .before .before .before in
+    let a = s .args in
+    let b = a .memory .now in
+    let key = c .before .before .before .before .before .before .before .before .before .before .before .key-in in
+    let sits = leave-sits (a .seats) (a .numbers) b (s .pre .0) (a .seat .0) (sym (c .before .before .before .before .before .before .before .before .before .before .before .before .before .before .is-taken .ensures) ∙ not-false _ (c .before .before .before .before .before .before .before .before .before .before .before .before .before .if1 .left)) (key .result .0) (key .ensures) in
+    from-seat (a .seats) (a .numbers) (viewRoom (a .seats) (a .numbers) b) (a .seat .0) b (a .out .now) _ _ _ (key .result .0) (viewRoutes (a .numbers) (routesTable (a .seats) (a .numbers) b (a .seat .0))) (a .packet .now) sits (c .before .before .before .before .act .ensures)
+
+same-length-4 : tie.Need-same-length-4
+same-length-4 c = search needs
+
+returns-3 : tie.Need-returns-3
+unfolding answerOf
+returns-3 c =
+    let s = c .before .before .before .before .before .before .before .before .before .before .before .before in
+    let a = s .args in
+    let b = a .memory .now in
+    let key = c .before .before .before .before .key-in in
+    let sits = leave-sits (a .seats) (a .numbers) b (s .pre .0) (a .seat .0) (sym (c .before .before .before .before .before .before .before .is-taken .ensures) ∙ not-false _ (c .before .before .before .before .before .before .if1 .left)) (key .result .0) (key .ensures) in
+    let e = shows-refused (relayRead (a .packet .now)) (c .before .why .given .0 .0) (sym (c .before .why .given .1) ∙ c .before .before .before .read .ensures .exact) in
+    let routes = viewRoutes (a .numbers) (routesTable (a .seats) (a .numbers) b (a .seat .0)) in
+    from-seat (a .seats) (a .numbers) (viewRoom (a .seats) (a .numbers) b) (a .seat .0) b (a .out .now) _ _ _ (key .result .0) routes (a .packet .now) sits
+    (turned-down (a .seats) (a .numbers) (viewRoom (a .seats) (a .numbers) b) (a .seat .0) b (a .out .now) (a .packet .now) (key .result .0) routes (relayRead (a .packet .now)) (c .before .why .given .0 .0) e)
+
+pub step-spec : {M : Type 1} → statement M
+step-spec =
+    tie.close
+    (tie.spec
+    is-taken-requires
+    same-length
+    returns
+    key-in-requires
+    read-requires
+    enum-known-shown
+    act-requires
+    enum-known-why
+    same-length-2
+    same-length-3
+    returns-2
+    same-length-4
+    returns-3)

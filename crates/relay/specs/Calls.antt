@@ -1,0 +1,39 @@
+-- What each public call does: one relation between what it is given (the bytes of the room, the call, the output) and what it leaves (its answer, the
+-- bytes of the room, the output).
+use mathlib.Core.Bool.{Bool, true, cond}
+use mathlib.Core.List.{List, _++_}
+use mathlib.Core.Path.{_≡_}
+use Prim.Native.Nat.{ℕ}
+use lib.Dec.{leb}
+use lib.ListN.{length, drop}
+use Rattle.refusal.specs.declared.Refusal.the-variants.{OutputTooShort, RoomNotWhole}
+use Rattle.rules.specs.Call as rules
+use Rattle.rules.specs.Outcome.{Outcome, outcome, refuse, sentBytes}
+use Rattle.room.specs.View.{viewRoom}
+use Rattle.room.specs.Whole.{roomWhole}
+use Rattle.room.specs.Store.{storeAll}
+use Rattle.relay.specs.declared.answer.Answer.{Answer}
+use Rattle.relay.specs.declared.answer.Answer.the-variants as answer
+
+-- an answer of the code, as the rules have it
+unfoldable pub answerOf : Answer → rules.Answer
+answerOf (answer.Accepted seat bytes) = rules.accepted (seat .0) bytes
+answerOf (answer.Refused why) = rules.refused why
+
+-- what an outcome leaves: the answer, the room with the changes stored, the output with the records and what stood behind them
+pub record Leaves (s n : ℕ) (o : Outcome) (b out : List ℕ) (given : rules.Answer) (b′ out′ : List ℕ) : Type 0 where
+  pub answers : given ≡ o .answer
+  pub stores : b′ ≡ storeAll s n b (o .changes)
+  pub writes : out′ ≡ sentBytes (o .sent) ++ drop (length (sentBytes (o .sent))) out
+
+-- "lent output too short: under 2,048 for packet and leave"
+abbrev pub leastOutput : ℕ
+leastOutput = 2048
+
+-- the outcome of a call on lent memory: "Every lent state is tested in full before use"
+unfoldable pub tested : ℕ → ℕ → List ℕ → rules.Call → Outcome
+tested s n b call = cond (roomWhole s n b) (outcome (viewRoom s n b) call) (refuse RoomNotWhole)
+
+-- "Order for a packet call: 10, 11, 3, ..", "Leave: 10, 11, 3"
+unfoldable pub withOutput : ℕ → ℕ → List ℕ → List ℕ → rules.Call → Outcome
+withOutput s n b out call = cond (leb leastOutput (length out)) (tested s n b call) (refuse OutputTooShort)

@@ -1,0 +1,34 @@
+// Arrivals: "Arrive(key) takes the lowest empty seat and answers with it. It writes nothing."
+ghost use mathlib.Core.Path.{_≡_};
+ghost use mathlib.Core.Bool.{true};
+ghost use mathlib.Core.List.{[]};
+ghost use Rattle.rules.specs.Call.{arrive};
+ghost use Rattle.rules.specs.Outcome.{outcome};
+ghost use Rattle.room.specs.View.{viewRoom};
+ghost use Rattle.room.specs.Whole.{roomWhole};
+ghost use Rattle.relay.specs.Calls.{answerOf, Leaves};
+use crate::answer::Answer;
+use key::Key;
+use refusal::Refusal;
+use room::Seat;
+use room::change;
+use room::lookup;
+use room::lookup::FoundSeat;
+
+// A key arrives in a whole room: 2, 1.
+pub(crate) fn step(memory: &mut [u8], seats: usize, numbers: usize, key: Key) -> Answer
+    requires { ⌜ roomWhole seats numbers (now memory) ≡ true ⌝ }
+    ensures { λ r. ⌜ Leaves seats numbers (outcome (viewRoom seats numbers (now (memory .entry))) (arrive (key .0))) (now (memory .entry)) [] (answerOf r) (now (memory .exit)) [] ⌝ }
+{
+    let seated = lookup::seat_of(memory, seats, numbers, key);
+    let FoundSeat::None = seated else {
+        return Answer::Refused(Refusal::AlreadySeated);
+    };
+    match lookup::lowest_empty(memory, seats, numbers) {
+        FoundSeat::At(seat) => {
+            change::take_seat(memory, seats, numbers, seat, key);
+            Answer::Accepted(seat, 0)
+        }
+        FoundSeat::None => Answer::Refused(Refusal::RoomFull),
+    }
+}

@@ -1,0 +1,106 @@
+// The packets of a client: what each asks for. "Order for a packet call: 10, 11, 3, 4, 5, 6, 7, 8, 9": the seat, then what the relay reads, then what
+// it asks for.
+ghost use mathlib.Core.Path.{_≡_};
+ghost use mathlib.Core.Bool.{true};
+ghost use Prim.Native.Nat.{_≤_};
+ghost use lib.ListN.{length};
+ghost use Rattle.packet.specs.FromClient.{relayRead};
+ghost use Rattle.rules.specs.Call.{packetCall};
+ghost use Rattle.rules.specs.Outcome.{outcome, actOn};
+ghost use Rattle.room.specs.Layout.{routesTable};
+ghost use Rattle.room.specs.View.{viewRoom, viewRoutes};
+ghost use Rattle.room.specs.Whole.{roomWhole};
+ghost use Rattle.relay.specs.Calls.{answerOf, Leaves};
+ghost use Rattle.relay.specs.Steps.{Sits, Shows};
+use crate::answer::Answer;
+use crate::carry;
+use crate::drop;
+use crate::record;
+use crate::request;
+use key::Key;
+use packet::relay;
+use packet::relay::ClientPacket;
+use packet::relay::RelayRead;
+use refusal::Refusal;
+use room::Seat;
+use room::lookup;
+
+// What a packet that was read asks for: 8, 9.
+fn act(
+    memory: &mut [u8],
+    seats: usize,
+    numbers: usize,
+    seat: Seat,
+    key: Key,
+    packet: &[u8],
+    shown: ClientPacket,
+    out: &mut [u8],
+) -> Answer
+    requires { ⌜ (roomWhole seats numbers (now memory) ≡ true) × Sits seats numbers (now memory) (seat .0) (key .0) × Shows (now packet) shown × (2048 ≤ length (now out)) ⌝ }
+    ensures { λ r. ⌜ Leaves seats numbers (actOn (relayRead (now (packet .entry))) (viewRoom seats numbers (now (memory .entry))) (seat .0) (key .0) (viewRoutes numbers (routesTable seats numbers (now (memory .entry)) (seat .0)))) (now (memory .entry)) (now (out .entry)) (answerOf r) (now (memory .exit)) (now (out .exit)) ⌝ }
+{
+    match shown {
+        ClientPacket::RoutingRequest { key: _ } => request::step(
+            memory,
+            seats,
+            numbers,
+            seat,
+            key,
+            relay::key(packet),
+            out,
+        ),
+        ClientPacket::DropRoute(number) => drop::step(
+            memory,
+            seats,
+            numbers,
+            seat,
+            key,
+            number,
+            out,
+        ),
+        ClientPacket::Ping(ping) => Answer::Accepted(seat, record::answered(out, 0, seat, ping)),
+        ClientPacket::Pong(_) => Answer::Accepted(seat, 0),
+        ClientPacket::OobSend { key: _, payload: _ } => carry::out_of_band(
+            memory,
+            seats,
+            numbers,
+            seat,
+            key,
+            relay::key(packet),
+            relay::payload(packet),
+            out,
+        ),
+        ClientPacket::Data(number, _) => carry::data(
+            memory,
+            seats,
+            numbers,
+            seat,
+            key,
+            number,
+            relay::payload(packet),
+            out,
+        ),
+    }
+}
+
+// The client in a seat of a whole room sends a packet: 3, 4, 5, 6, 7, 8, 9.
+pub(crate) fn step(
+    memory: &mut [u8],
+    seats: usize,
+    numbers: usize,
+    seat: Seat,
+    packet: &[u8],
+    out: &mut [u8],
+) -> Answer
+    requires { ⌜ (roomWhole seats numbers (now memory) ≡ true) × (2048 ≤ length (now out)) ⌝ }
+    ensures { λ r. ⌜ Leaves seats numbers (outcome (viewRoom seats numbers (now (memory .entry))) (packetCall (seat .0) (now (packet .entry)))) (now (memory .entry)) (now (out .entry)) (answerOf r) (now (memory .exit)) (now (out .exit)) ⌝ }
+{
+    if !lookup::is_taken(memory, seats, numbers, seat) {
+        return Answer::Refused(Refusal::NotSeated);
+    }
+    let key = lookup::key_in(memory, seats, numbers, seat);
+    match relay::read(packet) {
+        RelayRead::Packet(shown) => act(memory, seats, numbers, seat, key, packet, shown, out),
+        RelayRead::Refused(why) => Answer::Refused(why),
+    }
+}

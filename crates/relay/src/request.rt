@@ -1,0 +1,89 @@
+// Routing requests: "a key already named by this seat gets its old number again and nothing else happens. Otherwise the lowest free number is taken,
+// or, with none free, the answer is 0 and nothing changes. Then, if the two are now connected, connected is sent to the asker, then to the peer,
+// each with its own number."
+ghost use mathlib.Core.Path.{_≡_};
+ghost use mathlib.Core.Bool.{true};
+ghost use Prim.Native.Nat.{_+_, _≤_};
+ghost use lib.ListN.{length};
+ghost use Rattle.packet.specs.FromClient.{routingRequest};
+ghost use Rattle.rules.specs.Outcome.{act, tellBoth};
+ghost use Rattle.room.specs.Layout.{routesTable};
+ghost use Rattle.room.specs.View.{viewRoom, viewRoutes};
+ghost use Rattle.room.specs.Whole.{roomWhole};
+ghost use Rattle.relay.specs.Output.{Appends};
+ghost use Rattle.relay.specs.Calls.{answerOf, Leaves};
+ghost use Rattle.relay.specs.Peers.{peerOf, PeerRight};
+ghost use Rattle.relay.specs.Steps.{Sits, Gives};
+use crate::answer::Answer;
+use crate::peer;
+use crate::peer::Peer;
+use crate::record;
+use key::Key;
+use packet::ConnectionNumber;
+use room::Seat;
+use room::change;
+use room::lookup;
+use room::lookup::FoundNumber;
+
+// Both are told that they are connected: the asker, then the peer.
+fn tell_both(out: &mut [u8], at: usize, seat: Seat, number: ConnectionNumber, peer: Peer) -> usize
+    requires { ⌜ (at + 10 ≤ length (now out)) × (16 ≤ (number .0)) × PeerRight peer ⌝ }
+    ensures { λ r. ⌜ Appends (tellBoth (seat .0) (number .0) (peerOf peer)) (now (out .entry)) at r (now (out .exit)) ⌝ }
+{
+    match peer {
+        Peer::Joined(other, theirs) => {
+            let next = record::connected(out, at, seat, number);
+            record::connected(out, next, other, theirs)
+        }
+        Peer::Alone => at,
+    }
+}
+
+// A number is given: the answer, and then the two connect notifications if the two are now connected. The peer is asked of the room before the new
+// route, which does not touch the other seat.
+fn give(
+    memory: &mut [u8],
+    seats: usize,
+    numbers: usize,
+    seat: Seat,
+    key: Key,
+    wanted: Key,
+    number: ConnectionNumber,
+    out: &mut [u8],
+) -> usize
+    requires { ⌜ (roomWhole seats numbers (now memory) ≡ true) × (2048 ≤ length (now out)) × (16 ≤ (number .0)) ⌝ }
+    ensures { λ r. ⌜ Gives seats numbers (now (memory .entry)) (seat .0) (key .0) (wanted .0) (number .0) (now (out .entry)) r (now (memory .exit)) (now (out .exit)) ⌝ }
+{
+    let peer = peer::of(memory, seats, numbers, seat, key, wanted);
+    change::give_route(memory, seats, numbers, seat, number, wanted);
+    let next = record::response(out, 0, seat, number, wanted);
+    tell_both(out, next, seat, number, peer)
+}
+
+// A client's request for a key.
+pub(crate) fn step(
+    memory: &mut [u8],
+    seats: usize,
+    numbers: usize,
+    seat: Seat,
+    key: Key,
+    wanted: Key,
+    out: &mut [u8],
+) -> Answer
+    requires { ⌜ (roomWhole seats numbers (now memory) ≡ true) × Sits seats numbers (now memory) (seat .0) (key .0) × (2048 ≤ length (now out)) ⌝ }
+    ensures { λ r. ⌜ Leaves seats numbers (act (routingRequest (wanted .0)) (viewRoom seats numbers (now (memory .entry))) (seat .0) (key .0) (viewRoutes numbers (routesTable seats numbers (now (memory .entry)) (seat .0)))) (now (memory .entry)) (now (out .entry)) (answerOf r) (now (memory .exit)) (now (out .exit)) ⌝ }
+{
+    if let FoundNumber::At(old) = lookup::number_of(memory, seats, numbers, seat, wanted) {
+        return Answer::Accepted(seat, record::response(out, 0, seat, old, wanted));
+    }
+    match lookup::lowest_free(memory, seats, numbers, seat) {
+        FoundNumber::At(number) => Answer::Accepted(
+            seat,
+            give(memory, seats, numbers, seat, key, wanted, number, out),
+        ),
+        FoundNumber::None => Answer::Accepted(
+            seat,
+            record::response(out, 0, seat, ConnectionNumber(0), wanted),
+        ),
+    }
+}
