@@ -4,3 +4,4 @@ pub mod Fields
 pub mod Written
 pub mod Nodes
 pub mod Nearest
+pub mod Rooms

@@ -4,6 +4,7 @@ ghost use Prim.Native.Nat.{_≤_};
 ghost use lib.IntN.{pos};
 ghost use Rattle.banavoge.specs.Answers.{refusalCode, writtenCode, Counted};
 ghost use Rattle.banavoge.specs.Nearest.{doneCode, keptCode};
+ghost use Rattle.banavoge.specs.Rooms.{doneOr};
 use nearest::Answer;
 use nearest::OfferAnswer;
 use packet::write::Written;
@@ -55,4 +56,14 @@ pub(crate) fn kept(answer: OfferAnswer) -> i32
         OfferAnswer::NotKept => 0,
         OfferAnswer::Refused(why) => refused(why),
     }
+}
+
+// 0 where it is done, or else minus the refusal's number.
+pub(crate) fn done_or(why: Refusal, done: bool) -> i32
+    ensures { λ r. ⌜ r ≡ doneOr why done ⌝ }
+{
+    if !done {
+        return refused(why);
+    }
+    0
 }

@@ -8,4 +8,5 @@ mod keys;
 mod nearest_lists;
 mod nodes;
 mod readers;
+mod rooms;
 mod writers;

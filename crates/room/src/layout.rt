@@ -19,6 +19,9 @@ pub const NUMBERS: usize = 32;
 
 pub const FIRST_NUMBER: u8 = 16;
 
+// The bytes of a room of these sizes; an exported function hands it out, with the definition that it equals.
+pub const ROOM_BYTES: usize = 43923;
+
 // A seat is one byte of an order; connection numbers are 16 to 255 at most.
 pub const MOST_SEATS: usize = 255;
 

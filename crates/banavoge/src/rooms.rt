@@ -1,0 +1,34 @@
+// The room in the host's memory: its size, the empty room, and the test. Document 01's section "The room"; docs/ARCHITECTURE.md draws the memory.
+ghost use mathlib.Core.Path.{_≡_};
+ghost use Rattle.room.specs.Layout.{roomBytes};
+ghost use Rattle.banavoge.specs.Rooms.{EmptiesRoom, roomCode};
+use crate::answer;
+use refusal::Refusal;
+use room::layout;
+use room::whole;
+
+// How many bytes of memory a room takes; longer memory is taken too.
+#[no_mangle]
+pub extern "C" fn banavoge_room_bytes() -> usize
+    ensures { λ r. ⌜ r ≡ roomBytes 40 32 ⌝ }
+{
+    layout::ROOM_BYTES
+}
+
+// Makes the memory the empty room: 0, or minus 10 for memory too short, and then nothing changes.
+#[no_mangle]
+pub extern "C" fn banavoge_room_empty(room: &mut [u8]) -> i32
+    ensures { λ r. ⌜ EmptiesRoom (now (room .entry)) r (now (room .exit)) ⌝ }
+{
+    let made = whole::make_empty(room, layout::SEATS, layout::NUMBERS);
+    answer::done_or(Refusal::OutputTooShort, made)
+}
+
+// Tests the memory in full: 0 where it holds a whole room, or minus 11.
+#[no_mangle]
+pub extern "C" fn banavoge_room_check(room: &[u8]) -> i32
+    ensures { λ r. ⌜ r ≡ roomCode (now (room .entry)) ⌝ }
+{
+    let is_whole = whole::is_whole(room, layout::SEATS, layout::NUMBERS);
+    answer::done_or(Refusal::RoomNotWhole, is_whole)
+}
