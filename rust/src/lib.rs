@@ -20,12 +20,14 @@
 //! # Ok::<(), banavoge::Refusal>(())
 //! ```
 //!
-//! [`node`] has the packed nodes, [`nearest`] the nearest lists.
+//! [`node`] has the packed nodes, [`nearest`] the nearest lists, [`room`] the
+//! room in lent memory.
 
 mod ffi;
 pub mod nearest;
 pub mod node;
 pub mod raw;
+pub mod room;
 
 use std::error::Error;
 use std::fmt;
@@ -217,10 +219,15 @@ fn count(answer: i32) -> Result<usize, Refusal> {
 
 /// The kind that a reader answers.
 fn kind(answer: i32) -> Result<u8, Refusal> {
+    Ok(u8::try_from(accepted(answer)?).expect("a kind is a byte"))
+}
+
+/// The answer, if it is no refusal.
+fn accepted(answer: i32) -> Result<i32, Refusal> {
     if answer < 0 {
         return Err(refusal(answer));
     }
-    Ok(u8::try_from(answer).expect("a kind is a byte"))
+    Ok(answer)
 }
 
 /// The refusal that an answer below 0 stands for.

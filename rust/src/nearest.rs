@@ -29,7 +29,7 @@
 //! ```
 
 use crate::node::Node;
-use crate::{ffi, raw, refusal, Key, Refusal};
+use crate::{accepted, ffi, raw, Key, Refusal};
 
 /// How many bytes of memory a list takes.
 pub fn bytes() -> usize {
@@ -59,12 +59,4 @@ pub fn node(list: &[u8], index: usize) -> Result<Option<Node>, Refusal> {
     let mut node = Node::default();
     let answer = accepted(raw::nearest::node(list, index, &mut node))?;
     Ok((answer == 1).then_some(node))
-}
-
-/// The answer, if it is no refusal.
-fn accepted(answer: i32) -> Result<i32, Refusal> {
-    if answer < 0 {
-        return Err(refusal(answer));
-    }
-    Ok(answer)
 }

@@ -6,6 +6,7 @@
 
 mod generator;
 mod keys;
+mod memory;
 mod nearest;
 mod nodes;
 mod output;
