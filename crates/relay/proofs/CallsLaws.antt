@@ -11,7 +11,7 @@ use Rattle.rules.specs.Outcome.{outcome}
 use Rattle.room.specs.View.{viewRoom}
 use Rattle.room.specs.Whole.{roomWhole}
 use Rattle.relay.specs.Calls.{Leaves, tested, withOutput, leastOutput}
-use Rattle.relay.proofs.LeavesLaws.{leaves-refused}
+use Rattle.relay.proofs.OutcomeLeaves.{leaves-refused}
 
 module _ (s n : ℕ) (b out : List ℕ) (call : Call) where
   pub not-whole : roomWhole s n b ≡ false → Leaves s n (tested s n b call) b out (refused RoomNotWhole) b out

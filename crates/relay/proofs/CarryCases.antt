@@ -1,5 +1,5 @@
 -- What out-of-band sends and data leave, case by case.
-use mathlib.Core.Path.{_≡_, refl, ap, subst}
+use mathlib.Core.Path.{_≡_, subst}
 use mathlib.Core.List.{List, [], _∷_}
 use Prim.Native.Nat.{ℕ, _-_, _≤_}
 use native.Mathlib.Omega.{arith}
@@ -15,8 +15,8 @@ use Rattle.relay.specs.declared.peer.Peer as code
 use Rattle.relay.specs.Steps.{Carries}
 use Rattle.relay.specs.Output.{Appends}
 use Rattle.relay.specs.Calls.{Leaves}
-use Rattle.relay.specs.Peers.{peerFound, peerOf, PeerRight}
-use Rattle.relay.proofs.LeavesLaws.{leaves-refused, leaves-none, leaves-sent}
+use Rattle.relay.specs.Peers.{peerOf, PeerRight}
+use Rattle.relay.proofs.OutcomeLeaves.{leaves-refused, leaves-none, leaves-sent}
 
 module _ (s n : ℕ) (room : Room) (seat : ℕ) (key : Key) (routes : List Route) (b out : List ℕ) where
   pub oob-nobody : (wanted : Key) (bytes : List ℕ) → find (seatOf wanted) room ≡ none → Leaves s n (act (client.oobSend wanted bytes) room seat key routes) b out (accepted seat 0) b out
@@ -60,14 +60,3 @@ module _ (p : code.Peer) (out : List ℕ) (seat : ℕ) (bytes : List ℕ) where
       Appends (to (other .0) (relay.routedData (number .0) bytes) ∷ []) out 0 r left → Carries (carryTo (peerOf p) seat bytes) out (accepted seat r) left
   unfolding peerOf PeerRight
   carried-joined other number e h r left w s n b = rw e (carry-joined s n b out seat bytes (other .0) (number .0) (subst PeerRight e h) r left w)
-
--- the peer that the code found, read back
-pub peer-back : (p : Peer) → peerOf (peerFound p) ≡ p
-unfolding peerOf peerFound
-peer-back alone = refl
-peer-back (joined seat place) = ap (joined seat) (let e : numberOfPlace place - firstNumber ≡ place = omega arith in e)
-
-pub peer-right : (p : Peer) → PeerRight (peerFound p)
-unfolding PeerRight peerFound
-peer-right alone = tt
-peer-right (joined seat place) = omega arith

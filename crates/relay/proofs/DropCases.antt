@@ -23,7 +23,8 @@ use Rattle.relay.specs.Output.{Appends}
 use Rattle.relay.specs.Calls.{Leaves}
 use Rattle.relay.specs.Steps.{Sits}
 use Rattle.relay.proofs.AppendLaws.{appends-front, appends-front-answer}
-use Rattle.relay.proofs.LeaveCases.{wanted-free, wanted-wants, sits-numbered, route-of-number, tells-peer, appends-as}
+use Rattle.relay.proofs.LeaveCases.{tells-peer, appends-as}
+use Rattle.relay.proofs.SeatedClient.{wanted-free, wanted-wants, sits-numbered, route-of-number}
 
 -- a number that names a key is one
 high-number : (routes : List Route) (number : ℕ) (k : Key) → routeAt routes number ≡ wants k → 16 ≤ number

@@ -1,21 +1,20 @@
 -- A client leaves: what a route of it wants, the peer on it, and the records that are written, one behind the other.
-use mathlib.Core.Path.{_≡_, refl, sym, ap, ap₂, _∙_, subst}
-use mathlib.Core.Bool.{Bool, true, false, not, cond}
+use mathlib.Core.Path.{_≡_, refl, sym, ap, _∙_, subst}
+use mathlib.Core.Bool.{Bool, true, false, not}
 use mathlib.Core.List.{List, [], _∷_, _++_, append-assoc, append-nil}
 use Prim.Native.Nat.{ℕ, suc, _+_, _-_, _≤_, _<_}
 use native.Mathlib.Nat.{add-sub-cancel-left}
 use native.Mathlib.Omega.{arith}
-use lib.Dec.{ltb}
 use lib.ListN.{length, take, drop, getD}
 use lib.Seq.{take-suc, take-all}
-use borrow.Author.Tests.{le-ltb, lt-ltb}
+use borrow.Author.Tests.{lt-ltb}
 use Rattle.refusal.specs.declared.Refusal.the-variants.{NotSeated}
 use Rattle.packet.specs.FromRelay.{relayBytes, disconnectNotice}
 use Rattle.packet.specs.declared.parts.ConnectionNumber.{ConnectionNumber}
 use Rattle.table.specs.Table.{keyOfPlace}
 use Rattle.table.proofs.KeyOrder.{both}
 use Rattle.table.proofs.TableLaws.{key-record}
-use Rattle.rules.specs.Room.{Key, Route, free, wants, Seat, vacant, holds, Room, isVacant, routesOf, seatAt, routeAt, firstNumber, numberOfPlace, Peer, alone, joined}
+use Rattle.rules.specs.Room.{Key, Route, free, wants, Seat, vacant, holds, Room, isVacant, seatAt, firstNumber, numberOfPlace, Peer, alone, joined}
 use Rattle.rules.specs.Call.{Sent, leave, accepted, refused}
 use Rattle.rules.specs.Outcome.{peer, to, toPeer, tellPeer, tellPeers, sentBytes, outcome, leaveFrom, accept, refuse, seatEmptied}
 use Rattle.room.specs.declared.layout.Seat as seats
@@ -24,11 +23,11 @@ use Rattle.room.specs.Layout.{keyBytes, seatBytes, seatTable, seatStart, routes
 use Rattle.room.specs.View.{viewRoom, viewRoutes}
 use Rattle.room.specs.Whole.{roomWhole}
 use Rattle.room.specs.Store.{store, storeAll}
-use Rattle.room.specs.Lookup.{hasSeat, taken, keyIn, routeAtPlace}
+use Rattle.room.specs.Lookup.{hasSeat, taken, keyIn}
 use Rattle.room.specs.Numbers.{routeNumbered, wantedOf}
 use Rattle.room.proofs.LayoutLaws.{few-numbers, seats-fit}
 use Rattle.room.proofs.LookupSteps.{has-seat-facts, key-in-seat}
-use Rattle.room_laws.proofs.LookupLaws.{taken-is, taken-holds, route-at-place-is}
+use Rattle.room_laws.proofs.LookupLaws.{taken-is, taken-holds}
 use Rattle.room_laws.proofs.TablesLaws.{seat-key-stands}
 use Rattle.room_laws.proofs.WholeLaws.{whole-fits}
 use Rattle.relay.specs.declared.peer.Peer as code
@@ -36,54 +35,9 @@ use Rattle.relay.specs.Peers.{peerFound}
 use Rattle.relay.specs.Output.{Appends}
 use Rattle.relay.specs.Calls.{Leaves}
 use Rattle.relay.specs.Steps.{Sits}
+use Rattle.relay.proofs.SeatedClient.{wanted-free, wanted-wants, sits-numbered, route-of-number}
+use Rattle.relay.proofs.PeersFound.{found-joined, found-alone}
 use Rattle.relay.proofs.AppendLaws.{length-sent-one, appends-none, appends-more, appends-front, appends-front-answer}
-
--- ---- what a number names
-
-pub wanted-free : (r : Route) (w : Wanted) → w ≡ wantedOf r → w .held ≡ false → r ≡ free
-unfolding wantedOf
-wanted-free free w e h = refl
-wanted-free (wants key) w e h = let z : _≡_ {A = Bool} true false = sym (ap (λ (x : Wanted). x .held) e) ∙ h in cc
-
-pub wanted-wants : (r : Route) (w : Wanted) → w ≡ wantedOf r → w .held ≡ true → r ≡ wants (w .key .0)
-unfolding wantedOf
-wanted-wants free w e h = let z : _≡_ {A = Bool} false true = sym (ap (λ (x : Wanted). x .held) e) ∙ h in cc
-wanted-wants (wants key) w e h = ap (λ (x : Wanted). wants (x .key .0)) (sym e)
-
-module _ (s n : ℕ) (b : List ℕ) (whole : roomWhole s n b ≡ true) (i : ℕ) (key : Key) (sits : Sits s n b i key) where
-  sits-taken : taken s n b i ≡ true
-  unfolding isVacant
-  sits-taken = taken-is s n b whole i ∙ ap (λ (x : Seat). not (isVacant x)) sits
-
-  sits-route : (j : ℕ) → routeAtPlace s n b i j ≡ getD (viewRoutes n (routesTable s n b i)) j free
-  unfolding routesOf
-  sits-route j = route-at-place-is s n b whole i sits-taken j ∙ ap (λ (x : Seat). getD (routesOf x) j free) sits
-
-  pub sits-numbered : (number : ℕ) → routeNumbered s n b i number ≡ routeAt (viewRoutes n (routesTable s n b i)) number
-  unfolding routeNumbered routeAt
-  sits-numbered number = ap (λ (r : Route). cond (ltb number firstNumber) free r) (sits-route (number - firstNumber))
-
-pub route-of-number : (routes : List Route) (number : ℕ) → 16 ≤ number → routeAt routes number ≡ getD routes (number - 16) free
-unfolding routeAt
-route-of-number routes number h = rw (le-ltb number firstNumber h)
-
--- ---- the peer found
-
-pub found-joined : (p : Peer) (r : code.Peer) → r ≡ peerFound p → (other : seats.Seat) (theirs : ConnectionNumber) → r ≡ code.the-variants.Joined other theirs
-    → (p ≡ joined (other .0) (theirs .0 - firstNumber)) × (16 ≤ theirs .0)
-unfolding peerFound
-found-joined (joined seat place) r f other theirs e =
-    let q : record { 0 = seat } ≡ other = cc in
-    let n : record { 0 = numberOfPlace place } ≡ theirs = cc in
-    let v : seat ≡ other .0 = ap (λ (x : seats.Seat). x .0) q in
-    let w : numberOfPlace place ≡ theirs .0 = ap (λ (x : ConnectionNumber). x .0) n in
-    (ap₂ joined v (sym (add-sub-cancel-left 16 place) ∙ ap (λ (x : ℕ). x - firstNumber) w), omega arith)
-found-joined alone r f other theirs e = let z : _≡_ {A = ℕ} 0 1 = cc in absurd (omega arith)
-
-found-alone : (p : Peer) (r : code.Peer) → r ≡ peerFound p → r ≡ code.the-variants.Alone → p ≡ alone
-unfolding peerFound
-found-alone (joined seat place) r f e = let z : _≡_ {A = ℕ} 0 1 = cc in absurd (omega arith)
-found-alone alone r f e = refl
 
 -- ---- one peer told
 

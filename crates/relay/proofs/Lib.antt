@@ -2,7 +2,9 @@
 pub mod AppendLaws
 pub mod PeerCases
 pub mod ArriveCases
-pub mod LeavesLaws
+pub mod OutcomeLeaves
+pub mod SeatedClient
+pub mod PeersFound
 pub mod CarryCases
 pub mod LeaveCases
 pub mod DropCases

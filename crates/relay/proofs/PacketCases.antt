@@ -20,7 +20,7 @@ use Rattle.room.specs.Whole.{roomWhole}
 use Rattle.room.specs.Lookup.{taken}
 use Rattle.room_laws.proofs.LookupLaws.{taken-is}
 use Rattle.relay.specs.Calls.{Leaves}
-use Rattle.relay.proofs.LeavesLaws.{leaves-refused}
+use Rattle.relay.proofs.OutcomeLeaves.{leaves-refused}
 
 -- ---- what was read
 

@@ -1,16 +1,15 @@
 -- What a routing request leaves, case by case: an old number, none free, a number given; and the notifications of two that are now connected.
-use mathlib.Core.Path.{_≡_, refl, sym, ap, _∙_}
-use mathlib.Core.Bool.{true, not}
+use mathlib.Core.Path.{_≡_, sym, ap, _∙_}
+use mathlib.Core.Bool.{true}
 use mathlib.Core.List.{List, [], _∷_, _++_}
 use Prim.Native.Nat.{ℕ, _+_, _-_, _≤_}
-use native.Mathlib.Nat.{add-sub-cancel-left}
 use native.Mathlib.Omega.{arith}
 use borrow.Author.Tests.{le-ltb}
 use lib.ListN.{length}
 use Rattle.packet.specs.FromClient.{routingRequest}
 use Rattle.packet.specs.FromRelay.{relayBytes, routingResponse, connectNotice}
 use Rattle.packet.specs.declared.parts.ConnectionNumber.{ConnectionNumber}
-use Rattle.rules.specs.Room.{firstNumber, numberOfPlace, Key, Seat, Found, none, at, find, routeTo, isFree, isVacant, routesOf, Peer, alone, joined}
+use Rattle.rules.specs.Room.{firstNumber, numberOfPlace, Key, Seat, Found, none, at, find, routeTo, isFree, routesOf}
 use Rattle.rules.specs.Call.{accepted}
 use Rattle.rules.specs.Outcome.{act, accept, requestAt, tellBoth, to, peer, routeGiven}
 use Rattle.room.specs.declared.layout.Seat as seats
@@ -19,43 +18,21 @@ use Rattle.room.specs.declared.lookup.FoundNumber.the-variants as number
 use Rattle.room.specs.Layout.{routesTable}
 use Rattle.room.specs.View.{viewRoom, viewRoutes}
 use Rattle.room.specs.Whole.{roomWhole}
-use Rattle.room.specs.Lookup.{taken, routeWanting, lowestRoute}
+use Rattle.room.specs.Lookup.{routeWanting, lowestRoute}
 use Rattle.room.specs.Numbers.{numberFound, givenNumber}
 use Rattle.room.specs.Store.{store, storeAll}
-use Rattle.room_laws.proofs.LookupLaws.{taken-is, route-wanting-finds, lowest-route-finds}
+use Rattle.room_laws.proofs.LookupLaws.{route-wanting-finds, lowest-route-finds}
 use Rattle.room_laws.proofs.AnswerLaws.{number-found, number-not-found}
 use Rattle.relay.specs.declared.peer.Peer as code
-use Rattle.relay.specs.Peers.{peerFound, peerOf, PeerRight}
+use Rattle.relay.specs.Peers.{peerFound, peerOf}
 use Rattle.relay.specs.Output.{Appends}
 use Rattle.relay.specs.Calls.{Leaves}
 use Rattle.relay.specs.Steps.{Sits, Gives}
+use Rattle.relay.proofs.SeatedClient.{sits-taken}
+use Rattle.relay.proofs.PeersFound.{found-back}
 use Rattle.relay.proofs.AppendLaws.{appends-none, appends-more, appends-one-next, appends-front, appends-front-answer}
 
 -- ---- the peer that the code has, read back
-
-peer-back : (p : Peer) → peerOf (peerFound p) ≡ p
-unfolding peerOf peerFound
-peer-back alone = refl
-peer-back (joined seat place) = ap (joined seat) (add-sub-cancel-left 16 place)
-
-peer-right : (p : Peer) → PeerRight (peerFound p)
-unfolding PeerRight peerFound
-peer-right alone = tt
-peer-right (joined seat place) = omega arith
-
-pub found-back : (p : Peer) (q : code.Peer) → q ≡ peerFound p → peerOf q ≡ p
-found-back p q e = ap peerOf e ∙ peer-back p
-
-pub found-right : (p : Peer) (q : code.Peer) → q ≡ peerFound p → PeerRight q
-found-right p q e = rw e (peer-right p)
-
-pub joined-right : (q : code.Peer) (other : seats.Seat) (theirs : ConnectionNumber) → q ≡ code.the-variants.Joined other theirs → PeerRight q → 16 ≤ theirs .0
-unfolding PeerRight
-joined-right (code.the-variants.Joined seat number) other theirs e h =
-    let f : number ≡ theirs = cc in
-    let g : number .0 ≡ theirs .0 = ap (λ (x : ConnectionNumber). x .0) f in
-    omega arith
-joined-right code.the-variants.Alone other theirs e h = let z : _≡_ {A = ℕ} 0 1 = cc in absurd (omega arith)
 
 -- ---- where the next record goes
 
@@ -124,17 +101,13 @@ pub number-right : (f : Found) (r : FoundNumber) → r ≡ numberFound f → (n 
 number-right f r looked n e = number-found f n (sym looked ∙ e) .1
 
 module _ (s n : ℕ) (b : List ℕ) (i : ℕ) (key wanted : Key) (whole : roomWhole s n b ≡ true) (sits : Sits s n b i key) where
-  sits-taken : taken s n b i ≡ true
-  unfolding isVacant
-  sits-taken = taken-is s n b whole i ∙ ap (λ (x : Seat). not (isVacant x)) sits
-
   wanting : routeWanting s n b i wanted ≡ find (routeTo wanted) (viewRoutes n (routesTable s n b i))
   unfolding routesOf
-  wanting = route-wanting-finds s n b whole i sits-taken wanted ∙ ap (λ (x : Seat). find (routeTo wanted) (routesOf x)) sits
+  wanting = route-wanting-finds s n b whole i (sits-taken s n b whole i key sits) wanted ∙ ap (λ (x : Seat). find (routeTo wanted) (routesOf x)) sits
 
   lowest : lowestRoute s n b i ≡ find isFree (viewRoutes n (routesTable s n b i))
   unfolding routesOf
-  lowest = lowest-route-finds s n b whole i sits-taken ∙ ap (λ (x : Seat). find isFree (routesOf x)) sits
+  lowest = lowest-route-finds s n b whole i (sits-taken s n b whole i key sits) ∙ ap (λ (x : Seat). find isFree (routesOf x)) sits
 
   module _ (out : List ℕ) (bytes : ℕ) (out′ : List ℕ) (first : FoundNumber) (looked : first ≡ numberFound (routeWanting s n b i wanted)) where
     -- an old number

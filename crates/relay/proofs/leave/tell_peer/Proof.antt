@@ -3,7 +3,8 @@ use borrow.Author.Needs.{needs}
 use borrow.Author.Tests.{not-true, not-false}
 use Rattle.rules.specs.Outcome.{peer}
 use Rattle.room.specs.View.{viewRoom}
-use Rattle.relay.proofs.LeaveCases.{found-joined, tell-none, tell-alone, tell-joined}
+use Rattle.relay.proofs.LeaveCases.{tell-none, tell-alone, tell-joined}
+use Rattle.relay.proofs.PeersFound.{found-joined}
 use Rattle.relay.proofs.leave.tell_peer.Statement.{statement}
 use Rattle.relay.proofs.leave.tell_peer.Tie as tie
 

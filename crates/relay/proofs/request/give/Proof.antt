@@ -6,7 +6,8 @@ use lib.ListN.{length, length-map}
 use Rattle.rules.specs.Outcome.{peer}
 use Rattle.room.specs.View.{viewRoom}
 use Rattle.relay.specs.Output.{given}
-use Rattle.relay.proofs.RequestCases.{found-right, response-next, gives}
+use Rattle.relay.proofs.RequestCases.{response-next, gives}
+use Rattle.relay.proofs.PeersFound.{found-right}
 use Rattle.relay.proofs.request.give.Statement.{statement}
 use Rattle.relay.proofs.request.give.Tie as tie
 

@@ -1,7 +1,8 @@
 -- `request::tell_both` meets its contract: one notification behind the other. Assumes nothing.
 use borrow.Author.Needs.{needs}
 use native.Mathlib.Omega.{arith}
-use Rattle.relay.proofs.RequestCases.{joined-right, connected-next, tells-nobody, tells-both}
+use Rattle.relay.proofs.RequestCases.{connected-next, tells-nobody, tells-both}
+use Rattle.relay.proofs.PeersFound.{joined-right}
 use Rattle.relay.proofs.request.tell_both.Statement.{statement}
 use Rattle.relay.proofs.request.tell_both.Tie as tie
 

@@ -1,0 +1,25 @@
+-- What outcomes leave: one that is refused leaves all, and one that changes nothing leaves the room and writes its records.
+use mathlib.Core.Path.{refl, ap}
+use mathlib.Core.List.{List, []}
+use Prim.Native.Nat.{ℕ, _-_}
+use Rattle.refusal.specs.declared.Refusal.{Refusal}
+use Rattle.rules.specs.Call.{Sent, accepted, refused}
+use Rattle.rules.specs.Outcome.{accept, refuse, sentBytes}
+use Rattle.room.specs.Store.{storeAll}
+use Rattle.relay.specs.Output.{Appends}
+use Rattle.relay.specs.Calls.{Leaves}
+use Rattle.relay.proofs.AppendLaws.{appends-front, appends-front-answer}
+
+module _ (s n : ℕ) (b out : List ℕ) where
+  pub leaves-refused : (why : Refusal) → Leaves s n (refuse why) b out (refused why) b out
+  unfolding refuse storeAll sentBytes
+  leaves-refused why = record { answers = refl; stores = refl; writes = refl }
+
+  pub leaves-none : (seat : ℕ) → Leaves s n (accept seat [] []) b out (accepted seat 0) b out
+  unfolding accept storeAll sentBytes
+  leaves-none seat = record { answers = refl; stores = refl; writes = refl }
+
+  pub leaves-sent : (seat : ℕ) (sent : List Sent) (bytes : ℕ) (left : List ℕ) → Appends sent out 0 bytes left → Leaves s n (accept seat [] sent) b out (accepted seat bytes) b left
+  unfolding accept storeAll
+  leaves-sent seat sent bytes left w =
+      record { answers = ap (accepted seat) (appends-front-answer sent out bytes left w); stores = refl; writes = appends-front sent out bytes left w }
