@@ -4,7 +4,7 @@ ghost use Rattle.room.specs.Layout.{roomBytes};
 ghost use Rattle.banavoge.specs.Rooms.{EmptiesRoom, roomCode};
 use crate::answer;
 use refusal::Refusal;
-use room::layout;
+use room::Room;
 use room::whole;
 
 // How many bytes of memory a room takes; longer memory is taken too.
@@ -12,7 +12,7 @@ use room::whole;
 pub extern "C" fn banavoge_room_bytes() -> usize
     ensures { λ r. ⌜ r ≡ roomBytes 40 32 ⌝ }
 {
-    layout::ROOM_BYTES
+    Room::BYTES
 }
 
 // Makes the memory the empty room: 0, or minus 10 for memory too short, and then nothing changes.
@@ -20,7 +20,7 @@ pub extern "C" fn banavoge_room_bytes() -> usize
 pub extern "C" fn banavoge_room_empty(room: &mut [u8]) -> i32
     ensures { λ r. ⌜ EmptiesRoom (now (room .entry)) r (now (room .exit)) ⌝ }
 {
-    let made = whole::make_empty(room, layout::SEATS, layout::NUMBERS);
+    let made = whole::make_empty(room, Room::SEATS, Room::NUMBERS);
     answer::done_or(Refusal::OutputTooShort, made)
 }
 
@@ -29,6 +29,6 @@ pub extern "C" fn banavoge_room_empty(room: &mut [u8]) -> i32
 pub extern "C" fn banavoge_room_check(room: &[u8]) -> i32
     ensures { λ r. ⌜ r ≡ roomCode (now (room .entry)) ⌝ }
 {
-    let is_whole = whole::is_whole(room, layout::SEATS, layout::NUMBERS);
+    let is_whole = whole::is_whole(room, Room::SEATS, Room::NUMBERS);
     answer::done_or(Refusal::RoomNotWhole, is_whole)
 }

@@ -10,8 +10,8 @@ use crate::leave;
 use crate::packet_call;
 use key::Key;
 use refusal::Refusal;
+use room::Room;
 use room::Seat;
-use room::layout;
 use room::whole;
 
 // "lent output too short: under 2,048 for packet and leave".
@@ -21,10 +21,10 @@ pub const LEAST_OUTPUT: usize = 2048;
 pub fn arrive(memory: &mut [u8], key: Key) -> Answer
     ensures { λ r. ⌜ Leaves 40 32 (tested 40 32 (now (memory .entry)) (rules.arrive (key .0))) (now (memory .entry)) [] (answerOf r) (now (memory .exit)) [] ⌝ }
 {
-    if !whole::is_whole(memory, layout::SEATS, layout::NUMBERS) {
+    if !whole::is_whole(memory, Room::SEATS, Room::NUMBERS) {
         return Answer::Refused(Refusal::RoomNotWhole);
     }
-    arrive::step(memory, layout::SEATS, layout::NUMBERS, key)
+    arrive::step(memory, Room::SEATS, Room::NUMBERS, key)
 }
 
 // The client in a seat leaves: 10, 11, 3.
@@ -34,10 +34,10 @@ pub fn leave(memory: &mut [u8], seat: Seat, out: &mut [u8]) -> Answer
     if out.len() < LEAST_OUTPUT {
         return Answer::Refused(Refusal::OutputTooShort);
     }
-    if !whole::is_whole(memory, layout::SEATS, layout::NUMBERS) {
+    if !whole::is_whole(memory, Room::SEATS, Room::NUMBERS) {
         return Answer::Refused(Refusal::RoomNotWhole);
     }
-    leave::step(memory, layout::SEATS, layout::NUMBERS, seat, out)
+    leave::step(memory, Room::SEATS, Room::NUMBERS, seat, out)
 }
 
 // The client in a seat sends a packet: 10, 11, 3, 4, 5, 6, 7, 8, 9.
@@ -47,8 +47,8 @@ pub fn packet(memory: &mut [u8], seat: Seat, packet: &[u8], out: &mut [u8]) -> A
     if out.len() < LEAST_OUTPUT {
         return Answer::Refused(Refusal::OutputTooShort);
     }
-    if !whole::is_whole(memory, layout::SEATS, layout::NUMBERS) {
+    if !whole::is_whole(memory, Room::SEATS, Room::NUMBERS) {
         return Answer::Refused(Refusal::RoomNotWhole);
     }
-    packet_call::step(memory, layout::SEATS, layout::NUMBERS, seat, packet, out)
+    packet_call::step(memory, Room::SEATS, Room::NUMBERS, seat, packet, out)
 }

@@ -20,9 +20,9 @@ use crate::record;
 use key::Key;
 use packet::ConnectionNumber;
 use refusal::Refusal;
+use room::Room;
 use room::Seat;
 use room::change;
-use room::layout;
 use room::lookup;
 
 // The connected peer under one number of a client is told disconnected.
@@ -64,7 +64,7 @@ fn tell_peers(
     let mut at = 0;
     let mut place = 0;
     while place < numbers {
-        let number = ConnectionNumber(layout::FIRST_NUMBER + place as u8);
+        let number = ConnectionNumber(Room::FIRST_NUMBER + place as u8);
         at = tell_peer(memory, seats, numbers, seat, key, number, out, at);
         place += 1;
     }

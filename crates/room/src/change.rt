@@ -5,6 +5,7 @@ ghost use Rattle.rules.specs.Outcome.{seatTaken, seatEmptied};
 ghost use Rattle.room.specs.Store.{store, newSeat};
 ghost use Rattle.room.specs.Numbers.{givenNumber, freedNumber};
 use crate::layout;
+use crate::layout::Room;
 use crate::layout::Seat;
 use crate::lookup;
 use key::Key;
@@ -64,14 +65,14 @@ pub fn give_route(
 )
     ensures { λ _. ⌜ now (memory .exit) ≡ givenNumber seats numbers (now (memory .entry)) (seat .0) (number .0) (key .0) ⌝ }
 {
-    if number.0 < layout::FIRST_NUMBER {
+    if number.0 < Room::FIRST_NUMBER {
         return;
     }
     if !lookup::has_seat(memory, seats, numbers, seat) {
         return;
     }
     let wanted = key.0;
-    let place = (number.0 - layout::FIRST_NUMBER) as usize;
+    let place = (number.0 - Room::FIRST_NUMBER) as usize;
     let at = layout::routes_start(seats, numbers, seat.0 as usize);
     let end = at + layout::routes_bytes(numbers);
     table::put(&mut memory[at..end], numbers, Key::BYTES, place, &wanted);
@@ -87,13 +88,13 @@ pub fn free_route(
 )
     ensures { λ _. ⌜ now (memory .exit) ≡ freedNumber seats numbers (now (memory .entry)) (seat .0) (number .0) ⌝ }
 {
-    if number.0 < layout::FIRST_NUMBER {
+    if number.0 < Room::FIRST_NUMBER {
         return;
     }
     if !lookup::has_seat(memory, seats, numbers, seat) {
         return;
     }
-    let place = (number.0 - layout::FIRST_NUMBER) as usize;
+    let place = (number.0 - Room::FIRST_NUMBER) as usize;
     let at = layout::routes_start(seats, numbers, seat.0 as usize);
     let end = at + layout::routes_bytes(numbers);
     table::free(&mut memory[at..end], numbers, place);

@@ -7,20 +7,34 @@ ghost use mathlib.Core.Path.{_≡_};
 ghost use mathlib.Core.Bool.{true};
 ghost use Prim.Native.Nat.{_<_, _≤_};
 ghost use Rattle.room.specs.Layout.{routesBytes, seatBytes, roomBytes, sizesRight, fitsRoom, seatTable, routesStart, routesTable};
+ghost use Rattle.room.specs.Store.{MakesEmpty};
+use crate::whole;
 use key::Key;
 
 // Document 01's seat: one of the room's places for a client. A type of its own, so that no lookup can take it for a connection number.
 pub struct Seat(pub u8);
 
-// Document 01: "40 seats, 0 to 39; each is empty or holds one key and 32 routes, numbers 16 to 47".
-pub const SEATS: usize = 40;
+// The room's constants and its constructor; the room itself is bytes that the host lends.
+pub struct Room {}
 
-pub const NUMBERS: usize = 32;
+impl Room {
+    // Document 01: "40 seats, 0 to 39; each is empty or holds one key and 32 routes, numbers 16 to 47".
+    pub const SEATS: usize = 40;
 
-pub const FIRST_NUMBER: u8 = 16;
+    pub const NUMBERS: usize = 32;
 
-// The bytes of a room of these sizes; an exported function hands it out, with the definition that it equals.
-pub const ROOM_BYTES: usize = 43923;
+    pub const FIRST_NUMBER: u8 = 16;
+
+    // The bytes of a room of these sizes; an exported function hands it out, with the definition that it equals.
+    pub const BYTES: usize = 43923;
+
+    // The empty room, in memory that is long enough.
+    pub fn empty(memory: &mut [u8]) -> bool
+        ensures { λ r. ⌜ MakesEmpty 40 32 (now (memory .entry)) r (now (memory .exit)) ⌝ }
+    {
+        whole::make_empty(memory, Room::SEATS, Room::NUMBERS)
+    }
+}
 
 // A seat is one byte of an order; connection numbers are 16 to 255 at most.
 pub const MOST_SEATS: usize = 255;

@@ -7,4 +7,5 @@ pub mod layout;
 pub mod lookup;
 pub mod whole;
 
+pub use layout::Room;
 pub use layout::Seat;

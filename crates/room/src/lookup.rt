@@ -8,6 +8,7 @@ ghost use Rattle.rules.specs.Room.{free};
 ghost use Rattle.room.specs.Lookup.{placeIn, seatHolding, lowestEmpty, hasSeat, taken, keyIn, routeWanting, lowestRoute, routeOfPlace};
 ghost use Rattle.room.specs.Numbers.{seatFound, numberFound, routeNumbered, wantedOf};
 use crate::layout;
+use crate::layout::Room;
 use crate::layout::Seat;
 use key::Key;
 use packet::ConnectionNumber;
@@ -60,7 +61,7 @@ fn number_at(numbers: usize, place: usize) -> FoundNumber
     if numbers <= place {
         return FoundNumber::None;
     }
-    FoundNumber::At(ConnectionNumber(layout::FIRST_NUMBER + place as u8))
+    FoundNumber::At(ConnectionNumber(Room::FIRST_NUMBER + place as u8))
 }
 
 // The seat that holds a key.
@@ -178,13 +179,13 @@ pub fn wanted_by(
 ) -> Wanted
     ensures { λ r. ⌜ r ≡ wantedOf (routeNumbered seats numbers (now (memory .entry)) (seat .0) (number .0)) ⌝ }
 {
-    if number.0 < layout::FIRST_NUMBER {
+    if number.0 < Room::FIRST_NUMBER {
         return Wanted::nothing();
     }
     if !has_seat(memory, seats, numbers, seat) {
         return Wanted::nothing();
     }
-    let place = (number.0 - layout::FIRST_NUMBER) as usize;
+    let place = (number.0 - Room::FIRST_NUMBER) as usize;
     wanted_at(
         layout::routes_table(memory, seats, numbers, seat.0 as usize),
         numbers,
