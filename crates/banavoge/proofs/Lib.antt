@@ -1,7 +1,8 @@
 -- `Codes` has the laws of answers as signed numbers; `Reading`, `Writing`, `NodeTelling` and `HeldTelling` carry the promises of `packet`, `node`
--- and `lent_list` over to the exports.
+-- and `lent_list` over to the exports; `RelayCounts` bounds what a call of the relay answers.
 mod Codes
 mod HeldTelling
 mod NodeTelling
 mod Reading
+mod RelayCounts
 mod Writing

@@ -5,3 +5,4 @@ pub mod Written
 pub mod Nodes
 pub mod Nearest
 pub mod Rooms
+pub mod RelayCalls

@@ -1,6 +1,6 @@
 // The functions that a host calls from C or Rust: thin, each with the promise of what it calls.
 //
-// An answer of 0 or more is a kind, a byte count, or 1 where a node is shown or kept; below 0 it is minus document 01's refusal number, and then
+// An answer of 0 or more is a kind, a seat, a byte count, or 1 where a node is shown or kept; below 0 it is minus document 01's refusal number, and then
 // whatever the `&mut` parameters refer to is as before, but for a nearest list begun with a bad size. Memory stays the host's; two parameters of one
 // call must not overlap.
 mod answer;
@@ -8,5 +8,6 @@ mod keys;
 mod nearest_lists;
 mod nodes;
 mod readers;
+mod relay_calls;
 mod rooms;
 mod writers;

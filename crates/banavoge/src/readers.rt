@@ -10,7 +10,7 @@ use crate::answer;
 use packet::client;
 use packet::client::ClientRead;
 use packet::client::RelayPacket;
-use packet::relay;
+use packet::relay as relay_end;
 use packet::relay::ClientPacket;
 use packet::relay::RelayRead;
 
@@ -139,7 +139,7 @@ pub extern "C" fn banavoge_relay_read(
 ) -> i32
     ensures { λ r. ⌜ ReadsFields clientFields (relayRead (now (packet .entry))) r (places (now (number .entry)) (now (ping .entry)) (now (start .entry)) (now (length .entry))) (places (now (number .exit)) (now (ping .exit)) (now (start .exit)) (now (length .exit))) ⌝ }
 {
-    match relay::read(packet) {
+    match relay_end::read(packet) {
         RelayRead::Packet(shown) => tell(of_client(shown), number, ping, start, length),
         RelayRead::Refused(why) => answer::refused(why),
     }
@@ -167,9 +167,9 @@ pub extern "C" fn banavoge_client_read(
 pub extern "C" fn banavoge_relay_key(packet: &[u8], key: &mut [u8; 32]) -> i32
     ensures { λ r. ⌜ ReadsKey clientFields relayKey (relayRead (now (packet .entry))) r (now (key .entry)) (now (key .exit)) ⌝ }
 {
-    match relay::read(packet) {
+    match relay_end::read(packet) {
         RelayRead::Packet(shown) => {
-            let found = relay::key(packet);
+            let found = relay_end::key(packet);
             let bytes = found.0;
             *key = bytes;
             of_client(shown).kind as i32

@@ -1,0 +1,59 @@
+// The calls of the relay on a room in the host's memory. Document 01's section "The room".
+//
+// Every call tests the room in full before it uses it. A refused call leaves every byte of the room and of the output.
+ghost use mathlib.Core.Path.{_≡_};
+ghost use Rattle.relay.specs.Calls.{answerOf};
+ghost use Rattle.banavoge.specs.RelayCalls.{seatCode, countCode, CallCounted, ArrivesIn, LeavesRoom, SendsIn};
+use crate::answer;
+use key::Key;
+use relay::Answer;
+use relay::calls;
+use room::Seat;
+
+// The seat of an accepted call, or minus the refusal's number.
+fn seat_of(given: Answer) -> i32
+    ensures { λ r. ⌜ r ≡ seatCode (answerOf given) ⌝ }
+{
+    match given {
+        Answer::Accepted(seat, _) => seat.0 as i32,
+        Answer::Refused(why) => answer::refused(why),
+    }
+}
+
+// The byte count of an accepted call, or minus the refusal's number.
+fn count_of(given: Answer) -> i32
+    requires { ⌜ CallCounted (answerOf given) ⌝ }
+    ensures { λ r. ⌜ r ≡ countCode (answerOf given) ⌝ }
+{
+    match given {
+        Answer::Accepted(_, bytes) => bytes as i32,
+        Answer::Refused(why) => answer::refused(why),
+    }
+}
+
+// A key arrives: its seat, or minus 11, 2 or 1.
+#[no_mangle]
+pub extern "C" fn banavoge_arrive(room: &mut [u8], key: &[u8; 32]) -> i32
+    ensures { λ r. ⌜ ArrivesIn (now (key .entry)) (now (room .entry)) r (now (room .exit)) ⌝ }
+{
+    let given = calls::arrive(room, Key(*key));
+    seat_of(given)
+}
+
+// The client in a seat leaves: the byte count of what is sent, or minus 10, 11 or 3.
+#[no_mangle]
+pub extern "C" fn banavoge_leave(room: &mut [u8], seat: u8, out: &mut [u8]) -> i32
+    ensures { λ r. ⌜ LeavesRoom seat (now (room .entry)) (now (out .entry)) r (now (room .exit)) (now (out .exit)) ⌝ }
+{
+    let given = calls::leave(room, Seat(seat), out);
+    count_of(given)
+}
+
+// The client in a seat sends a packet: the byte count of what is sent, or minus 10, 11 or 3 to 9.
+#[no_mangle]
+pub extern "C" fn banavoge_packet(room: &mut [u8], seat: u8, packet: &[u8], out: &mut [u8]) -> i32
+    ensures { λ r. ⌜ SendsIn seat (now (packet .entry)) (now (room .entry)) (now (out .entry)) r (now (room .exit)) (now (out .exit)) ⌝ }
+{
+    let given = calls::packet(room, Seat(seat), packet, out);
+    count_of(given)
+}
