@@ -5,6 +5,7 @@
 
 pub mod nearest;
 pub mod node;
+pub mod relay;
 pub mod room;
 
 use crate::Key;

@@ -21,12 +21,13 @@
 //! ```
 //!
 //! [`node`] has the packed nodes, [`nearest`] the nearest lists, [`room`] the
-//! room in lent memory.
+//! room in lent memory, [`relay`] the calls on it.
 
 mod ffi;
 pub mod nearest;
 pub mod node;
 pub mod raw;
+pub mod relay;
 pub mod room;
 
 use std::error::Error;

@@ -11,5 +11,6 @@ mod nearest;
 mod nodes;
 mod output;
 mod readers;
+mod relay;
 mod tally;
 mod writers;
