@@ -1,0 +1,190 @@
+//! Document 01's examples of the relay, made on the library: those marked P,
+//! which are proved too, the bounds, and the errors that students make.
+
+use banavoge::{relay, room, Key, Refusal};
+
+const KA: Key = [0x11; 32];
+const KB: Key = [0x22; 32];
+const KC: Key = [0x33; 32];
+
+/// A host: the memory of a room, and the output that it lends.
+struct Host {
+    room: Vec<u8>,
+    out: [u8; 2_048],
+}
+
+impl Host {
+    fn new() -> Self {
+        let mut room = vec![0; room::bytes()];
+        room::empty(&mut room).expect("the memory is long enough");
+        Host {
+            room,
+            out: [0xEE; 2_048],
+        }
+    }
+
+    fn arrive(&mut self, key: &Key) -> Result<u8, Refusal> {
+        relay::arrive(&mut self.room, key)
+    }
+
+    fn leave(&mut self, seat: u8) -> Result<Vec<u8>, Refusal> {
+        let count = relay::leave(&mut self.room, seat, &mut self.out)?;
+        Ok(self.out[..count].to_vec())
+    }
+
+    fn packet(&mut self, seat: u8, packet: &[u8]) -> Result<Vec<u8>, Refusal> {
+        let count = relay::packet(&mut self.room, seat, packet, &mut self.out)?;
+        Ok(self.out[..count].to_vec())
+    }
+
+    fn request(&mut self, seat: u8, key: &Key) -> Result<Vec<u8>, Refusal> {
+        self.packet(seat, &[&[0], &key[..]].concat())
+    }
+
+    /// P5: KA in seat 0 and KB in seat 1, each with number 16 for the other.
+    fn connected() -> Self {
+        let mut host = Host::new();
+        assert_eq!(host.arrive(&KA), Ok(0));
+        assert_eq!(host.arrive(&KB), Ok(1));
+        host.request(0, &KB).expect("a request is accepted");
+        host.request(1, &KA).expect("a request is accepted");
+        host
+    }
+}
+
+/// The record of an answer to a request.
+fn answer(seat: u8, number: u8, key: &Key) -> Vec<u8> {
+    [&[seat, 0, 0x22, 1, number], &key[..]].concat()
+}
+
+fn key_of(number: u8) -> Key {
+    let mut key = [0; 32];
+    key[31] = number;
+    key
+}
+
+#[test]
+fn p1_to_p6_two_clients_connect_and_send() {
+    let mut host = Host::new();
+    assert_eq!(host.arrive(&KA), Ok(0));
+    assert_eq!(host.arrive(&KB), Ok(1));
+    assert_eq!(host.arrive(&KA), Err(Refusal(2)));
+    assert_eq!(host.request(0, &KB), Ok(answer(0, 0x10, &KB)));
+    let told = [
+        &answer(1, 0x10, &KA)[..],
+        &[1, 0, 2, 2, 0x10],
+        &[0, 0, 2, 2, 0x10],
+    ]
+    .concat();
+    assert_eq!(told.len(), 47);
+    assert_eq!(host.request(1, &KA), Ok(told));
+    assert_eq!(
+        host.packet(0, &[0x10, 0x61, 0x62]),
+        Ok(vec![1, 0, 3, 0x10, 0x61, 0x62])
+    );
+}
+
+#[test]
+fn p7_p8_data_on_a_waiting_number_and_on_none() {
+    let mut host = Host::new();
+    assert_eq!(host.arrive(&KA), Ok(0));
+    assert_eq!(host.arrive(&KB), Ok(1));
+    assert_eq!(host.request(0, &KB), Ok(answer(0, 0x10, &KB)));
+    assert_eq!(host.packet(0, &[0x10, 0x61, 0x62]), Err(Refusal(9)));
+    assert_eq!(host.packet(0, &[0x11, 0x61, 0x62]), Err(Refusal(8)));
+    let mut host = Host::connected();
+    assert_eq!(host.packet(0, &[0x11, 0x61, 0x62]), Err(Refusal(8)));
+}
+
+#[test]
+fn p9_another_takes_the_seat_that_was_left() {
+    let mut host = Host::connected();
+    assert_eq!(host.leave(0), Ok(vec![1, 0, 2, 3, 0x10]));
+    assert_eq!(host.arrive(&KC), Ok(0));
+    assert_eq!(host.packet(1, &[0x10, 0x61]), Err(Refusal(9)));
+}
+
+#[test]
+fn p10_p11_what_the_reader_refuses() {
+    let mut host = Host::connected();
+    assert_eq!(
+        host.packet(0, &[4, 0, 0, 0, 0, 0, 0, 0, 0]),
+        Err(Refusal(7))
+    );
+    assert_eq!(host.packet(0, &[0x10]), Err(Refusal(6)));
+}
+
+#[test]
+fn bounds_of_out_of_band_packets_and_of_data() {
+    let mut host = Host::connected();
+    let out_of_band = |length: usize| {
+        let mut packet = vec![7; length];
+        packet[0] = 6;
+        packet[1..33].copy_from_slice(&KB);
+        packet
+    };
+    for (length, answer) in [
+        (33, Err(Refusal(6))),
+        (34, Ok(37)),
+        (1_057, Ok(1_060)),
+        (1_058, Err(Refusal(6))),
+    ] {
+        let sent = host.packet(0, &out_of_band(length)).map(|sent| sent.len());
+        assert_eq!(sent, answer, "out-of-band of {length} bytes");
+    }
+    for (length, answer) in [(2_032, Ok(2_035)), (2_033, Err(Refusal(4)))] {
+        let sent = host.packet(0, &vec![0x10; length]).map(|sent| sent.len());
+        assert_eq!(sent, answer, "data of {length} bytes");
+    }
+}
+
+#[test]
+fn the_32nd_request_is_numbered_47_and_the_33rd_gets_0() {
+    let mut host = Host::new();
+    assert_eq!(host.arrive(&KA), Ok(0));
+    for place in 0..32 {
+        let wanted = key_of(place);
+        assert_eq!(host.request(0, &wanted), Ok(answer(0, 16 + place, &wanted)));
+    }
+    let wanted = key_of(32);
+    assert_eq!(host.request(0, &wanted), Ok(answer(0, 0, &wanted)));
+    let repeated = key_of(31);
+    assert_eq!(host.request(0, &repeated), Ok(answer(0, 47, &repeated)));
+}
+
+#[test]
+fn the_40th_arrival_is_accepted_and_the_41st_gets_1() {
+    let mut host = Host::new();
+    for seat in 0..40 {
+        assert_eq!(host.arrive(&key_of(seat)), Ok(seat));
+    }
+    assert_eq!(host.arrive(&key_of(40)), Err(Refusal(1)));
+    assert_eq!(host.arrive(&key_of(39)), Err(Refusal(2)));
+}
+
+#[test]
+fn data_goes_on_under_the_number_of_the_one_who_gets_it() {
+    let mut host = Host::new();
+    assert_eq!(host.arrive(&KA), Ok(0));
+    assert_eq!(host.arrive(&KB), Ok(1));
+    assert_eq!(host.request(1, &KC), Ok(answer(1, 0x10, &KC)));
+    assert_eq!(host.request(0, &KB), Ok(answer(0, 0x10, &KB)));
+    host.request(1, &KA).expect("a request is accepted");
+    assert_eq!(
+        host.packet(0, &[0x10, 0x61, 0x62]),
+        Ok(vec![1, 0, 3, 0x11, 0x61, 0x62])
+    );
+}
+
+#[test]
+fn both_are_told_again_when_the_other_asks_again() {
+    let mut host = Host::connected();
+    assert_eq!(host.packet(0, &[3, 0x10]), Ok(vec![1, 0, 2, 3, 0x10]));
+    let told = [
+        &answer(0, 0x10, &KB)[..],
+        &[0, 0, 2, 2, 0x10],
+        &[1, 0, 2, 2, 0x10],
+    ]
+    .concat();
+    assert_eq!(host.request(0, &KB), Ok(told));
+}
