@@ -1,4 +1,5 @@
--- What a reader must believe of this crate, in the order to read it.
+-- What a reader must believe of this crate, in the order to read it: Calls and History. Output, Peers and Steps are cited by private
+-- functions alone.
 pub mod Output
 pub mod Calls
 pub mod Peers

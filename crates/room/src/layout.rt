@@ -44,10 +44,7 @@ pub const MOST_NUMBERS: usize = 240;
 // The sizes that the room was made for.
 pub const ROOM_HEADER: usize = 2;
 
-// Nothing is kept there yet.
-pub const SEAT_HEADER: usize = 8;
-
-// Where the table of routes stands in a seat's record.
+// Where the table of routes stands in a seat's record: behind its key and 8 bytes in which nothing is kept yet.
 pub const ROUTES_IN_SEAT: usize = 40;
 
 // Whether a room can be of these sizes.

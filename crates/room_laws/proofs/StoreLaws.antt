@@ -3,7 +3,7 @@
 -- route of such a seat to a key that it does not want yet, or frees one that wants a key.
 use mathlib.Core.Path.{_≡_, refl, sym, ap, _∙_, subst}
 use mathlib.Core.Bool.{true, _&&_}
-use mathlib.Core.List.{List, [], _∷_, _++_}
+use mathlib.Core.List.{List, [], _∷_}
 use Prim.Native.Nat.{ℕ, _<_}
 use lib.ListN.{length, getD, set}
 use lib.Dec.{ltb}
@@ -94,12 +94,6 @@ module _ (s n : ℕ) (b : List ℕ) (o : roomWhole s n b ≡ true) where
 abbrev pub FitAll : ℕ → ℕ → Room → List Change → Type 0
 FitAll s n room [] = Unit {0}
 FitAll s n room (change ∷ changes) = Fit s n room change × FitAll s n (apply (sizesOf s n) room change) changes
-
-pub fit-append : (s n : ℕ) (room : Room) (first second : List Change) → FitAll s n room first → FitAll s n (applyAll (sizesOf s n) room first) second
-    → FitAll s n room (first ++ second)
-unfolding applyAll
-fit-append s n room [] second f g = g
-fit-append s n room (change ∷ first) second f g = (f .0, fit-append s n (apply (sizesOf s n) room change) first second (f .1) g)
 
 pub store-all-is-apply-all : (s n : ℕ) (b : List ℕ) → roomWhole s n b ≡ true → (changes : List Change) → FitAll s n (viewRoom s n b) changes
     → (viewRoom s n (storeAll s n b changes) ≡ applyAll (sizesOf s n) (viewRoom s n b) changes)

@@ -53,9 +53,6 @@ module _ (p w : ℕ) (b : List ℕ) (t : Table p w b) (n : ℕ) (below : n < p) 
       let z = t .long in
       length-splice b (1 + p + n * w + at) new (length new) (omega arith) refl
 
-  pub refilled-table : Table p w (refilled p w b n at new)
-  refilled-table = record { small = t .small; key = t .key; narrow = t .narrow; long = refilled-length ∙ t .long }
-
   pub refilled-count : count (refilled p w b n at new) ≡ count b
   refilled-count = ap count made
 

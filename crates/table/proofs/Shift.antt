@@ -79,8 +79,3 @@ still-next R l i h =
     let e = length-take-le i R h in
     ap (λ (x : ℕ). getD (take i R ++ drop i l) (x + 1) 0) (sym e)
     ∙ getD-append-add (take i R) (drop i l) 1 0 ∙ getD-drop i l 1 0
-
--- a turn of the loop that copies
-pub copy-step : (d s : List ℕ) (i : ℕ) → i < length s → i < length d →
-    set (take i s ++ drop i d) i (getD s i 0) ≡ take (i + 1) s ++ drop (i + 1) d
-copy-step d s i h k = store s d i h k

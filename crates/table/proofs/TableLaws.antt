@@ -8,7 +8,7 @@ use mathlib.Core.List.{List, [], _∷_, _++_}
 use lib.ListN.{length, take, drop, getD, set, length-append, length-drop, List·getD-eq-default}
 use lib.Seq.{length-take-le, take-at, drop-at, take-take, take-append-le}
 use lib.Dec.{eqb, ltb}
-use borrow.Author.Tests.{eq-eqb, ne-eqb, lt-ltb, le-ltb}
+use borrow.Author.Tests.{eq-eqb, ne-eqb, lt-ltb}
 use Rattle.table.specs.Bytes.{splice, keyBefore, member, indexOf, insertAt, removeAt}
 use Rattle.table.specs.Table.{Table, count, order, records, listed, recordAt, keyAt, rising, risingAfter, tableWhole, position, placeOf, entered, closed, put, unlisted, freed, view}
 use Rattle.table.proofs.KeyOrder.{no, clash, key-before-total, rising-apart, rising-below, rising-put, rising-out}
@@ -16,7 +16,7 @@ use Rattle.table.proofs.Shift.{length-in, take-more-in, length-out, tak
 use Rattle.table.proofs.Listed.{listed-is, length-order, length-listed, row-fits, whole-count, whole-rising, whole-is, length-key, place-le}
 use Rattle.table.proofs.Distinct.{out-gone, rising-distinct}
 use Rattle.table.proofs.Stores.{length-splice}
-use Rattle.table.proofs.Places.{getD-tabulate, length-tabulate, tabulate-set, part, part-other, part-same, splice-inner, member-in, member-out, index-member, index-none}
+use Rattle.table.proofs.Places.{getD-tabulate, length-tabulate, tabulate-set, part, part-other, part-same, splice-inner, member-in, member-out, index-member}
 
 -- ---- a table made of a count, an order and records
 
@@ -251,14 +251,6 @@ module _ (p w : ℕ) (b : List ℕ) (n : ℕ) (t : Table p w b) (o : tableWhole 
 
   long′ : p < length b
   long′ = let q = t .long in omega arith
-
-  -- a place that is not listed: nothing is done
-  pub freed-out : member n (listed p b) ≡ false → freed p b n ≡ b
-  unfolding freed
-  freed-out h =
-      let q = index-none n (listed p b) h in
-      let l = length-listed p b long′ c-le in
-      rw (le-ltb (indexOf n (listed p b)) (count b) (omega arith))
 
   module _ (h : member n (listed p b) ≡ true) where
     at : indexOf n (listed p b) < count b
