@@ -1,0 +1,3 @@
+-- `StoredLaws` has what is known of the stored call at the front of bytes, for the crates above; `FormLaws` serves the functions here.
+pub mod FormLaws
+pub mod StoredLaws
