@@ -1,15 +1,39 @@
 -- Which parts are the form of a call, case by case, and what the call at the front of bytes is. Assumes nothing.
 use mathlib.Core.Path.{_≡_, _∙_, sym, ap}
-use mathlib.Core.List.{List}
+use mathlib.Core.List.{List, []}
 use Prim.Native.Nat.{ℕ, _+_, _-_, _≤_, _<_}
 use native.Mathlib.Nat.{add-sub-cancel-left}
 use native.Mathlib.Omega.{arith}
-use lib.ListN.{length, getD, take, drop, length-take, length-drop}
+use lib.ListN.{length, getD, take, drop, length-append, length-take, length-drop}
 use lib.Seq.{take-all}
 use borrow.Author.Tests.{le-leb, lt-leb, eq-eqb, ne-eqb}
-use Rattle.wire.specs.Numbers.{numberOf}
+use Rattle.wire.specs.Numbers.{numberOf, bytesOf}
+use Rattle.wire.proofs.Numbers.{length-bytesOf}
 use Rattle.rules.specs.Call.{arrive, leave, packetCall}
-use Rattle.stored.specs.Stored.{First, none, call, formed, headed, firstCall}
+use Rattle.stored.specs.Stored.{storedForm, storedBytes, none, call, formed, headed, firstCall}
+
+-- ---- how many bytes a stored call has
+
+pub length-form : (code seat : ℕ) (given : List ℕ) → length (storedForm code seat given) ≡ 4 + length given
+unfolding storedForm
+length-form code seat given =
+    let e = length-append (bytesOf 2 (length given)) given in
+    let f = length-bytesOf 2 (length given) in
+    omega arith
+
+pub length-arrive : (key : List ℕ) → length (storedBytes (arrive key)) ≡ 4 + length key
+unfolding storedBytes
+length-arrive key = length-form 0 0 key
+
+pub length-leave : (seat : ℕ) (given : List ℕ) → length given ≡ 0 → length (storedBytes (leave seat)) ≡ 4 + length given
+unfolding storedBytes
+length-leave seat given e = length-form 1 seat [] ∙ ap (λ (n : ℕ). 4 + n) (sym e)
+
+pub length-packet : (seat : ℕ) (bytes : List ℕ) → length (storedBytes (packetCall seat bytes)) ≡ 4 + length bytes
+unfolding storedBytes
+length-packet seat bytes = length-form 2 seat bytes
+
+-- ---- the form
 
 module _ (code seat : ℕ) (given : List ℕ) where
   pub arrival : code ≡ 0 → seat ≡ 0 → length given ≡ 32 → formed code seat given ≡ call (arrive given)

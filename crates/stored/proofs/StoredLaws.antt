@@ -1,17 +1,17 @@
 -- What is known of the stored call at the front of bytes: its parts are the bytes there, and as many of them as its stored form has. Assumes nothing.
-use mathlib.Core.Path.{_≡_, refl, sym, ap, subst, _∙_}
+use mathlib.Core.Path.{_≡_, refl, ap, subst, _∙_}
 use mathlib.Core.Bool.{Bool, true, false, cond}
-use mathlib.Core.List.{List, [], _++_}
-use Prim.Native.Nat.{ℕ, suc, _+_, _≤_}
+use mathlib.Core.List.{List}
+use Prim.Native.Nat.{ℕ, _+_, _≤_}
 use native.Mathlib.Omega.{arith}
 use lib.Dec.{eqb, leb}
-use lib.ListN.{length, getD, take, drop, length-append, length-drop}
+use lib.ListN.{length, getD, take, drop, length-drop}
 use lib.Seq.{length-take-le}
 use borrow.Author.Tests.{leb-true, eqb-true}
-use Rattle.wire.specs.Numbers.{numberOf, bytesOf}
-use Rattle.wire.proofs.Numbers.{length-bytesOf}
+use Rattle.wire.specs.Numbers.{numberOf}
 use Rattle.rules.specs.Call.{Call, arrive, leave, packetCall}
-use Rattle.stored.specs.Stored.{storedForm, storedBytes, First, none, call, formed, headed, firstCall}
+use Rattle.stored.specs.Stored.{storedBytes, First, none, call, formed, headed, firstCall}
+use Rattle.stored.proofs.FormLaws.{length-arrive, length-leave, length-packet}
 
 -- ---- the form, read back
 
@@ -91,21 +91,13 @@ first-is bytes c e =
 
 -- ---- how many bytes a stored call has
 
-pub length-form : (code seat : ℕ) (given : List ℕ) → length (storedForm code seat given) ≡ 4 + length given
-unfolding storedForm
-length-form code seat given =
-    let e = length-append (bytesOf 2 (length given)) given in
-    let f = length-bytesOf 2 (length given) in
-    omega arith
-
 pub length-stored : (bytes : List ℕ) (c : Call) → Fronts bytes c → length (storedBytes c) ≡ 4 + sizeIn bytes
-unfolding storedBytes
 length-stored bytes c f = go c (f .form)
   where
     go : (c : Call) → Formed (getD bytes 0 0) (getD bytes 1 0) (givenIn bytes) c → length (storedBytes c) ≡ 4 + sizeIn bytes
-    go c (arrives a b l) = length-form 0 0 (givenIn bytes) ∙ ap (λ (n : ℕ). 4 + n) (f .long)
-    go c (leaves a l) = length-form 1 (getD bytes 1 0) [] ∙ ap (λ (n : ℕ). 4 + n) (sym l ∙ f .long)
-    go c (sends a) = length-form 2 (getD bytes 1 0) (givenIn bytes) ∙ ap (λ (n : ℕ). 4 + n) (f .long)
+    go c (arrives a b l) = length-arrive (givenIn bytes) ∙ ap (λ (n : ℕ). 4 + n) (f .long)
+    go c (leaves a l) = length-leave (getD bytes 1 0) (givenIn bytes) l ∙ ap (λ (n : ℕ). 4 + n) (f .long)
+    go c (sends a) = length-packet (getD bytes 1 0) (givenIn bytes) ∙ ap (λ (n : ℕ). 4 + n) (f .long)
 
 -- no call takes more than there is, and each takes something
 pub first-within : (bytes : List ℕ) (c : Call) → firstCall bytes ≡ call c → (4 ≤ length (storedBytes c)) × (length (storedBytes c) ≤ length bytes)

@@ -63,4 +63,4 @@ shownCall (packetCall seat bytes) = Packet (record { 0 = seat }) (length bytes)
 
 unfoldable pub shownFirst : First → StoredRead
 shownFirst none = code.None
-shownFirst (call c) = code.Call (shownCall c)
+shownFirst (call c) = code.Call (shownCall c) (length (storedBytes c))

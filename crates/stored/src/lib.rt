@@ -23,9 +23,9 @@ pub enum StoredCall {
     Packet(Seat, usize),
 }
 
-// What stands at the front of bytes.
+// What stands at the front of bytes: a call, and how many bytes it takes, or none.
 pub enum StoredRead {
-    Call(StoredCall),
+    Call(StoredCall, usize),
     None,
 }
 
@@ -33,6 +33,7 @@ pub enum StoredRead {
 fn formed(code: u8, seat: Seat, given: &[u8]) -> StoredRead
     ensures { λ r. ⌜ r ≡ shownFirst (formed code (seat .0) (now (given .entry))) ⌝ }
 {
+    let end = HEAD + given.len();
     match code {
         ARRIVE => {
             if seat.0 != 0 {
@@ -41,15 +42,15 @@ fn formed(code: u8, seat: Seat, given: &[u8]) -> StoredRead
             if given.len() != Key::BYTES {
                 return StoredRead::None;
             }
-            StoredRead::Call(StoredCall::Arrive)
+            StoredRead::Call(StoredCall::Arrive, end)
         }
         LEAVE => {
             if given.len() != 0 {
                 return StoredRead::None;
             }
-            StoredRead::Call(StoredCall::Leave(seat))
+            StoredRead::Call(StoredCall::Leave(seat), end)
         }
-        PACKET => StoredRead::Call(StoredCall::Packet(seat, given.len())),
+        PACKET => StoredRead::Call(StoredCall::Packet(seat, given.len()), end),
         _ => StoredRead::None,
     }
 }
