@@ -83,6 +83,18 @@ fn act(
     }
 }
 
+// The refusal in a read that is one. The `else` of a `let` binds no name, so `step` gets it from here. A `match` has to answer for a packet too; the
+// `requires` says that no call gets there.
+fn refusal_of(read: RelayRead) -> Refusal
+    requires { ⌜ ((why : Refusal) × (read ≡ RelayRead.Refused why)) ⌝ }
+    ensures { λ r. ⌜ read ≡ RelayRead.Refused r ⌝ }
+{
+    match read {
+        RelayRead::Refused(why) => why,
+        RelayRead::Packet(_) => Refusal::UnexpectedKind,
+    }
+}
+
 // The client in a seat of a whole room sends a packet: 3, 4, 5, 6, 7, 8, 9.
 pub(crate) fn step(
     memory: &mut [u8],
@@ -99,8 +111,9 @@ pub(crate) fn step(
         return Answer::Refused(Refusal::NotSeated);
     }
     let key = lookup::key_in(memory, seats, numbers, seat);
-    match relay::read(packet) {
-        RelayRead::Packet(shown) => act(memory, seats, numbers, seat, key, packet, shown, out),
-        RelayRead::Refused(why) => Answer::Refused(why),
-    }
+    let read = relay::read(packet);
+    let RelayRead::Packet(shown) = read else {
+        return Answer::Refused(refusal_of(read));
+    };
+    act(memory, seats, numbers, seat, key, packet, shown, out)
 }

@@ -30,8 +30,30 @@ key-in-requires c κs = search needs
 read-requires : tie.Need-read-requires
 read-requires c κs = search needs
 
-enum-known-shown : tie.Need-enum-known-shown
-enum-known-shown c = search needs
+enum-known-read : tie.Need-enum-known-read
+enum-known-read c = search needs
+
+enum-told : tie.Need-enum-told
+enum-told c = search needs
+
+refusal-of-requires : tie.Need-refusal-of-requires
+refusal-of-requires c κs = search needs
+
+same-length-2 : tie.Need-same-length-2
+same-length-2 c = search needs
+
+returns-2 : tie.Need-returns-2
+unfolding answerOf
+returns-2 c =
+    let s = c .before .before .before .before .before .before .before .before .before .before .before .before in
+    let a = s .args in
+    let b = a .memory .now in
+    let key = c .before .before .before .before .key-in in
+    let sits = leave-sits (a .seats) (a .numbers) b (s .pre .0) (a .seat .0) (sym (c .before .before .before .before .before .before .before .is-taken .ensures) ∙ not-false _ (c .before .before .before .before .before .before .if1 .left)) (key .result .0) (key .ensures) in
+    let e = shows-refused (relayRead (a .packet .now)) (c .refusal-of .result) (sym (c .refusal-of .ensures) ∙ c .before .before .before .read .ensures .exact) in
+    let routes = viewRoutes (a .numbers) (routesTable (a .seats) (a .numbers) b (a .seat .0)) in
+    from-seat (a .seats) (a .numbers) (viewRoom (a .seats) (a .numbers) b) (a .seat .0) b (a .out .now) _ _ _ (key .result .0) routes (a .packet .now) sits
+    (turned-down (a .seats) (a .numbers) (viewRoom (a .seats) (a .numbers) b) (a .seat .0) b (a .out .now) (a .packet .now) (key .result .0) routes (relayRead (a .packet .now)) (c .refusal-of .result) e)
 
 act-requires : tie.Need-act-requires
 act-requires c κs =
@@ -39,41 +61,22 @@ act-requires c κs =
     let a = s .args in
     let key = c .before .before .before .before .before .before .key-in in
     let sits = leave-sits (a .seats) (a .numbers) (a .memory .now) (s .pre .0) (a .seat .0) (sym (c .before .before .before .before .before .before .before .before .before .is-taken .ensures) ∙ not-false _ (c .before .before .before .before .before .before .before .before .if1 .left)) (key .result .0) (key .ensures) in
-    (s .pre .0, sits, sym (c .before .before .before .shown .given .1) ∙ c .before .before .before .before .before .read .ensures .exact, s .pre .1)
-
-enum-known-why : tie.Need-enum-known-why
-enum-known-why c = search needs
-
-same-length-2 : tie.Need-same-length-2
-same-length-2 c = search needs
+    (s .pre .0, sits, sym (c .before .before .before .read2 .given .1) ∙ c .before .before .before .before .before .read .ensures .exact, s .pre .1)
 
 same-length-3 : tie.Need-same-length-3
 same-length-3 c = search needs
 
-returns-2 : tie.Need-returns-2
-returns-2 c =
+same-length-4 : tie.Need-same-length-4
+same-length-4 c = search needs
+
+returns-3 : tie.Need-returns-3
+returns-3 c =
     let s = c .before .before .before .before .before .before .before .before .before .before .before .before .before .before .before .before .before .before .before in
     let a = s .args in
     let b = a .memory .now in
     let key = c .before .before .before .before .before .before .before .before .before .before .before .key-in in
     let sits = leave-sits (a .seats) (a .numbers) b (s .pre .0) (a .seat .0) (sym (c .before .before .before .before .before .before .before .before .before .before .before .before .before .before .is-taken .ensures) ∙ not-false _ (c .before .before .before .before .before .before .before .before .before .before .before .before .before .if1 .left)) (key .result .0) (key .ensures) in
     from-seat (a .seats) (a .numbers) (viewRoom (a .seats) (a .numbers) b) (a .seat .0) b (a .out .now) _ _ _ (key .result .0) (viewRoutes (a .numbers) (routesTable (a .seats) (a .numbers) b (a .seat .0))) (a .packet .now) sits (c .before .before .before .before .act .ensures)
-
-same-length-4 : tie.Need-same-length-4
-same-length-4 c = search needs
-
-returns-3 : tie.Need-returns-3
-unfolding answerOf
-returns-3 c =
-    let s = c .before .before .before .before .before .before .before .before .before .before .before .before in
-    let a = s .args in
-    let b = a .memory .now in
-    let key = c .before .before .before .before .key-in in
-    let sits = leave-sits (a .seats) (a .numbers) b (s .pre .0) (a .seat .0) (sym (c .before .before .before .before .before .before .before .is-taken .ensures) ∙ not-false _ (c .before .before .before .before .before .before .if1 .left)) (key .result .0) (key .ensures) in
-    let e = shows-refused (relayRead (a .packet .now)) (c .before .why .given .0 .0) (sym (c .before .why .given .1) ∙ c .before .before .before .read .ensures .exact) in
-    let routes = viewRoutes (a .numbers) (routesTable (a .seats) (a .numbers) b (a .seat .0)) in
-    from-seat (a .seats) (a .numbers) (viewRoom (a .seats) (a .numbers) b) (a .seat .0) b (a .out .now) _ _ _ (key .result .0) routes (a .packet .now) sits
-    (turned-down (a .seats) (a .numbers) (viewRoom (a .seats) (a .numbers) b) (a .seat .0) b (a .out .now) (a .packet .now) (key .result .0) routes (relayRead (a .packet .now)) (c .before .why .given .0 .0) e)
 
 pub step-spec : {M : Type 1} → statement M
 step-spec =
@@ -84,11 +87,12 @@ step-spec =
     returns
     key-in-requires
     read-requires
-    enum-known-shown
-    act-requires
-    enum-known-why
+    enum-known-read
+    enum-told
+    refusal-of-requires
     same-length-2
-    same-length-3
     returns-2
+    act-requires
+    same-length-3
     same-length-4
     returns-3)
