@@ -31,7 +31,7 @@ unfolding shownFirst
 returns-2 c =
     let a = c .before .before .before .before .before .args in
     let long = c .before .before .before .if1 .left in
-    sym (ap shownFirst (shown-cut (a .bytes .now) (omega arith) (c .before .read-number .result) (c .before .read-number .ensures) (c .if2 .taken)))
+    sym (ap shownFirst (shown-cut (a .bytes .now) (omega arith) (c .before .read-number .result) (c .before .read-number .ensures) (omega arith)))
 
 add-end : tie.Need-add-end
 add-end c = search needs
@@ -59,7 +59,7 @@ returns-3 c =
     let a = c .before .before .before .before .before .before .before .before .before .args in
     let long = c .before .before .before .before .before .before .before .if1 .left in
     let read = c .before .before .before .before .before .read-number in
-    c .formed .ensures ∙ sym (ap shownFirst (shown-there (a .bytes .now) (omega arith) (read .result) (read .ensures) (c .before .before .before .before .if2 .left)))
+    c .formed .ensures ∙ sym (ap shownFirst (shown-there (a .bytes .now) (omega arith) (read .result) (read .ensures) (omega arith)))
 
 pub read-spec : {M : Type 1} → statement M
 read-spec =
