@@ -1,0 +1,572 @@
+/*
+ * One relay in a classroom, driven by single calls: what a host gives the library, what it gets
+ * back, and what it does with it. Each step prints a line and checks the answer and every byte of
+ * the output.
+ *
+ * A real host has a socket for each seat. It opens what comes in on it and gives the packet to
+ * banavoge_packet; it seals the packet of each record and sends it on the socket of the record's
+ * seat. Here a table of names stands in for the sockets, and nothing is sealed.
+ */
+#include "banavoge.h"
+
+#include <inttypes.h>
+#include <stdio.h>
+#include <stdlib.h>
+#include <string.h>
+
+#define CHECK(condition)                                                            \
+    do {                                                                            \
+        if (!(condition)) {                                                         \
+            fprintf(stderr, "%s:%d: not so: %s\n", __FILE__, __LINE__, #condition); \
+            exit(1);                                                                \
+        }                                                                           \
+    } while (0)
+
+/* ---- Who takes part ---- */
+
+struct client {
+    const char *name;
+    uint8_t key[BANAVOGE_KEY_BYTES];
+};
+
+#define EIGHT(byte) byte, byte, byte, byte, byte, byte, byte, byte
+#define KEY_OF(byte) {EIGHT(byte), EIGHT(byte), EIGHT(byte), EIGHT(byte)}
+
+static const struct client alice = {"Alice", KEY_OF(0x11)};
+static const struct client bob = {"Bob", KEY_OF(0x22)};
+static const struct client carol = {"Carol", KEY_OF(0x44)};
+static const struct client dave = {"Dave", KEY_OF(0x33)};
+
+/* The seats that the arrivals below are given: always the lowest empty one. */
+enum {
+    ALICE_SEAT = 0,
+    BOB_SEAT = 1,
+    CAROL_SEAT = 2,
+    DAVE_SEAT = BOB_SEAT,
+    BOB_SECOND_SEAT = 3
+};
+
+/* A connection number belongs to the client that asked for it, so each pair has two of them. */
+enum {
+    ALICE_TO_BOB = BANAVOGE_FIRST_NUMBER,
+    ALICE_TO_CAROL = BANAVOGE_FIRST_NUMBER + 1,
+    BOB_TO_ALICE = BANAVOGE_FIRST_NUMBER,
+    CAROL_TO_ALICE = BANAVOGE_FIRST_NUMBER
+};
+
+/* ---- The host's memory ---- */
+
+/* All of it is the host's: the library keeps nothing between two calls. */
+struct host {
+    uint8_t *room;
+    size_t room_length;
+    uint8_t out[BANAVOGE_LEAST_OUTPUT];
+    const struct client *seated[BANAVOGE_SEATS];
+};
+
+static void open_room(struct host *host)
+{
+    host->room_length = banavoge_room_bytes();
+    host->room = malloc(host->room_length);
+    CHECK(host->room != NULL);
+    CHECK(banavoge_room_empty(host->room, host->room_length) == 0);
+    for (size_t seat = 0; seat < BANAVOGE_SEATS; seat++) {
+        host->seated[seat] = NULL;
+    }
+}
+
+static void close_room(struct host *host)
+{
+    CHECK(banavoge_room_check(host->room, host->room_length) == 0);
+    free(host->room);
+}
+
+static const char *name_in(const struct host *host, uint8_t seat)
+{
+    return host->seated[seat] == NULL ? "an empty seat" : host->seated[seat]->name;
+}
+
+static const char *name_with(const struct host *host, const uint8_t key[BANAVOGE_KEY_BYTES])
+{
+    for (size_t seat = 0; seat < BANAVOGE_SEATS; seat++) {
+        const struct client *client = host->seated[seat];
+
+        if (client != NULL && banavoge_same_key(client->key, key)) {
+            return client->name;
+        }
+    }
+    return "a key that is not seated";
+}
+
+/* What the output holds before a call. Only so can it be seen that the bytes behind the records,
+   and after a refusal all of them, keep their old contents; a host has no need to do this. */
+enum { OLD_BYTE = 0xEE };
+
+static void fill_output(struct host *host)
+{
+    memset(host->out, OLD_BYTE, sizeof host->out);
+}
+
+/* ---- Answers and records, printed ---- */
+
+/* Document 01's words for each refusal; of 8 and 10, those for a room. */
+static const char *const refusal_words[] = {
+    [BANAVOGE_REFUSAL_ROOM_FULL] = "arrival with all 40 seats taken",
+    [BANAVOGE_REFUSAL_ALREADY_SEATED] = "arrival of a key already seated",
+    [BANAVOGE_REFUSAL_NOT_SEATED] = "seat above 39, or empty",
+    [BANAVOGE_REFUSAL_PACKET_SIZE] = "packet of 0 or more than 2,032 bytes",
+    [BANAVOGE_REFUSAL_UNEXPECTED_KIND] = "a kind this end does not take",
+    [BANAVOGE_REFUSAL_WRONG_LENGTH] = "wrong length for the kind",
+    [BANAVOGE_REFUSAL_ZERO_PING] = "ping number 0",
+    [BANAVOGE_REFUSAL_NO_SUCH_ROUTE] = "number names no route",
+    [BANAVOGE_REFUSAL_NOT_CONNECTED] = "data on a waiting route",
+    [BANAVOGE_REFUSAL_OUTPUT_TOO_SHORT] = "lent output too short",
+    [BANAVOGE_REFUSAL_ROOM_NOT_WHOLE] = "room not whole",
+    [BANAVOGE_REFUSAL_LIST_SIZE] = "list size not 1 to 16",
+    [BANAVOGE_REFUSAL_KEY_NOT_HELD] = "key to remove is not held",
+    [BANAVOGE_REFUSAL_LIST_NOT_WHOLE] = "list longer than its size, not strictly rising in "
+                                        "distance, or holding an unknown family",
+    [BANAVOGE_REFUSAL_UNKNOWN_FAMILY] = "unknown family byte",
+    [BANAVOGE_REFUSAL_NODE_CUT_SHORT] = "node cut short",
+    [BANAVOGE_REFUSAL_BYTES_AFTER_NODES] = "bytes left after four nodes",
+};
+
+/* An answer below 0 is minus a refusal number. */
+static void print_refusal(int32_t answer)
+{
+    size_t number = (size_t)-answer;
+
+    CHECK(number < sizeof refusal_words / sizeof refusal_words[0]);
+    printf("refused with %zu: %s\n", number, refusal_words[number]);
+}
+
+/* How a client reads what it gets. It refuses nothing that the relay sends: "A writer makes exactly
+   the bytes its reader takes". The payload is shown where it stands in the packet. */
+static void print_packet(const struct host *host, const uint8_t *packet, size_t packet_length)
+{
+    uint8_t number;
+    uint64_t ping;
+    size_t start;
+    size_t length;
+    uint8_t key[BANAVOGE_KEY_BYTES];
+    int32_t kind = banavoge_client_read(packet, packet_length, &number, &ping, &start, &length);
+
+    CHECK(kind >= 0);
+    CHECK(banavoge_client_key(packet, packet_length, key) == kind);
+    const char *payload = (const char *)packet + start;
+    switch (kind) {
+    case BANAVOGE_KIND_ROUTING_RESPONSE:
+        printf("number %u for %s", number, name_with(host, key));
+        break;
+    case BANAVOGE_KIND_CONNECT_NOTIFICATION:
+        printf("connected on %u", number);
+        break;
+    case BANAVOGE_KIND_DISCONNECT_NOTIFICATION:
+        printf("disconnected on %u", number);
+        break;
+    case BANAVOGE_KIND_PING:
+        printf("ping %" PRIu64, ping);
+        break;
+    case BANAVOGE_KIND_PONG:
+        printf("pong %" PRIu64, ping);
+        break;
+    case BANAVOGE_KIND_OOB_RECEIVED:
+        printf("out-of-band \"%.*s\" from %s", (int)length, payload, name_with(host, key));
+        break;
+    case BANAVOGE_KIND_DATA:
+        printf("data \"%.*s\" on %u", (int)length, payload, number);
+        break;
+    }
+}
+
+struct record {
+    uint8_t seat;
+    const uint8_t *packet;
+    size_t length;
+};
+
+/* The record at a place of an output, and the place behind it. A record is the seat (1 byte), the
+   length of the packet (2 bytes, the higher first) and the packet. */
+static size_t read_record(const uint8_t *out, size_t at, struct record *record)
+{
+    record->seat = out[at];
+    record->length = (size_t)out[at + 1] << 8 | out[at + 2];
+    record->packet = out + at + BANAVOGE_RECORD_HEAD;
+    return at + BANAVOGE_RECORD_HEAD + record->length;
+}
+
+/* Where this prints, a host seals the packet and sends it. */
+static void print_records(const struct host *host, size_t written)
+{
+    const char *between = "";
+    size_t at = 0;
+
+    while (at < written) {
+        struct record record;
+
+        at = read_record(host->out, at, &record);
+        printf("%s%s gets ", between, name_in(host, record.seat));
+        print_packet(host, record.packet, record.length);
+        between = "; ";
+    }
+    printf("\n");
+}
+
+static void print_outcome(const struct host *host, int32_t answer)
+{
+    if (answer < 0) {
+        print_refusal(answer);
+    } else {
+        print_records(host, (size_t)answer);
+    }
+}
+
+/* ---- Calls ---- */
+
+static int32_t arrive(struct host *host, const struct client *client)
+{
+    int32_t answer = banavoge_arrive(host->room, host->room_length, client->key);
+
+    printf("%s arrives: ", client->name);
+    if (answer < 0) {
+        print_refusal(answer);
+    } else {
+        host->seated[answer] = client;
+        printf("seat %d\n", (int)answer);
+    }
+    return answer;
+}
+
+static int32_t leave(struct host *host, uint8_t seat)
+{
+    int32_t answer;
+
+    fill_output(host);
+    answer = banavoge_leave(host->room, host->room_length, seat, host->out, sizeof host->out);
+    printf("%s leaves: ", name_in(host, seat));
+    print_outcome(host, answer);
+    if (answer >= 0) {
+        host->seated[seat] = NULL;
+    }
+    return answer;
+}
+
+static int32_t give_packet(struct host *host, uint8_t seat, const uint8_t *packet, int32_t length)
+{
+    int32_t answer;
+
+    CHECK(length > 0);
+    fill_output(host);
+    answer = banavoge_packet(host->room, host->room_length, seat, packet, (size_t)length,
+                             host->out, sizeof host->out);
+    print_outcome(host, answer);
+    return answer;
+}
+
+/* ---- What clients send; a client writes its packets with the same library ---- */
+
+static int32_t request(struct host *host, uint8_t seat, const struct client *wanted)
+{
+    uint8_t packet[BANAVOGE_MOST_PACKET_BYTES];
+    int32_t length = banavoge_routing_request(wanted->key, packet, sizeof packet);
+
+    printf("%s requests %s: ", name_in(host, seat), wanted->name);
+    return give_packet(host, seat, packet, length);
+}
+
+static int32_t send_data(struct host *host, uint8_t seat, uint8_t number, const char *text)
+{
+    uint8_t packet[BANAVOGE_MOST_PACKET_BYTES];
+    int32_t length =
+        banavoge_data(number, (const uint8_t *)text, strlen(text), packet, sizeof packet);
+
+    printf("%s sends data \"%s\" on %u: ", name_in(host, seat), text, number);
+    return give_packet(host, seat, packet, length);
+}
+
+static int32_t send_out_of_band(struct host *host, uint8_t seat, const struct client *to,
+                                const char *text)
+{
+    uint8_t packet[BANAVOGE_MOST_PACKET_BYTES];
+    int32_t length =
+        banavoge_oob_send(to->key, (const uint8_t *)text, strlen(text), packet, sizeof packet);
+
+    printf("%s sends %s out-of-band \"%s\": ", name_in(host, seat), to->name, text);
+    return give_packet(host, seat, packet, length);
+}
+
+static int32_t ping(struct host *host, uint8_t seat, uint64_t number)
+{
+    uint8_t packet[BANAVOGE_MOST_PACKET_BYTES];
+    int32_t length = banavoge_ping(number, packet, sizeof packet);
+
+    printf("%s sends ping %" PRIu64 ": ", name_in(host, seat), number);
+    return give_packet(host, seat, packet, length);
+}
+
+static int32_t drop(struct host *host, uint8_t seat, uint8_t number)
+{
+    uint8_t packet[BANAVOGE_MOST_PACKET_BYTES];
+    int32_t length = banavoge_drop(number, packet, sizeof packet);
+
+    printf("%s drops %u: ", name_in(host, seat), number);
+    return give_packet(host, seat, packet, length);
+}
+
+/* ---- What is expected ---- */
+
+/* A whole output: records, and behind them what stood there before. */
+struct output {
+    uint8_t bytes[BANAVOGE_LEAST_OUTPUT];
+    size_t length;
+};
+
+static struct output nothing(void)
+{
+    struct output output;
+
+    memset(output.bytes, OLD_BYTE, sizeof output.bytes);
+    output.length = 0;
+    return output;
+}
+
+static void add(struct output *output, const void *bytes, size_t length)
+{
+    memcpy(output->bytes + output->length, bytes, length);
+    output->length += length;
+}
+
+static void add_response(struct output *output, uint8_t seat, uint8_t number,
+                         const struct client *requested)
+{
+    const uint8_t front[] = {seat, 0x00, 0x22, 0x01, number};
+
+    add(output, front, sizeof front);
+    add(output, requested->key, sizeof requested->key);
+}
+
+static void add_connected(struct output *output, uint8_t seat, uint8_t number)
+{
+    const uint8_t record[] = {seat, 0x00, 0x02, 0x02, number};
+
+    add(output, record, sizeof record);
+}
+
+static void add_disconnected(struct output *output, uint8_t seat, uint8_t number)
+{
+    const uint8_t record[] = {seat, 0x00, 0x02, 0x03, number};
+
+    add(output, record, sizeof record);
+}
+
+/* Data of two bytes. */
+static void add_data(struct output *output, uint8_t seat, uint8_t number, const char *two)
+{
+    const uint8_t front[] = {seat, 0x00, 0x03, number};
+
+    add(output, front, sizeof front);
+    add(output, two, 2);
+}
+
+static bool output_is(const struct host *host, const struct output *expected)
+{
+    return memcmp(host->out, expected->bytes, sizeof expected->bytes) == 0;
+}
+
+/* The answer of a call that was accepted is how many bytes it wrote. */
+static bool sent(const struct host *host, int32_t answer, const struct output *expected)
+{
+    return answer == (int32_t)expected->length && output_is(host, expected);
+}
+
+/* A refused call writes nothing. */
+static bool refused(const struct host *host, int32_t answer, enum banavoge_refusal why)
+{
+    const struct output untouched = nothing();
+
+    return answer == -(int32_t)why && output_is(host, &untouched);
+}
+
+/* ---- The lesson; P1 to P9 are document 01's examples ---- */
+
+/* P1 to P3. An arrival writes nothing, so it is lent no output. */
+static void arrivals(struct host *host)
+{
+    CHECK(arrive(host, &alice) == ALICE_SEAT);
+    CHECK(arrive(host, &bob) == BOB_SEAT);
+    CHECK(arrive(host, &bob) == -BANAVOGE_REFUSAL_ALREADY_SEATED);
+    CHECK(arrive(host, &carol) == CAROL_SEAT);
+}
+
+/* P4, P7, P8. Alice alone has asked: her request stands, and her number waits. */
+static void one_request(struct host *host)
+{
+    struct output response = nothing();
+
+    add_response(&response, ALICE_SEAT, ALICE_TO_BOB, &bob);
+    CHECK(sent(host, request(host, ALICE_SEAT, &bob), &response));
+
+    CHECK(refused(host, send_data(host, ALICE_SEAT, ALICE_TO_BOB, "ab"),
+                  BANAVOGE_REFUSAL_NOT_CONNECTED));
+    CHECK(refused(host, send_data(host, ALICE_SEAT, ALICE_TO_CAROL, "ab"),
+                  BANAVOGE_REFUSAL_NO_SUCH_ROUTE));
+}
+
+/* P5. Once each has asked for the other, both are told, the asker first. */
+static void both_request(struct host *host)
+{
+    struct output connected = nothing();
+
+    add_response(&connected, BOB_SEAT, BOB_TO_ALICE, &alice);
+    add_connected(&connected, BOB_SEAT, BOB_TO_ALICE);
+    add_connected(&connected, ALICE_SEAT, ALICE_TO_BOB);
+    CHECK(sent(host, request(host, BOB_SEAT, &alice), &connected));
+}
+
+/* A key already asked for gets its old number again and nothing else happens. */
+static void repeated_request(struct host *host)
+{
+    struct output response = nothing();
+
+    add_response(&response, BOB_SEAT, BOB_TO_ALICE, &alice);
+    CHECK(sent(host, request(host, BOB_SEAT, &alice), &response));
+}
+
+/* Alice's second number is 17, while Carol's first is 16. */
+static void second_connection(struct host *host)
+{
+    struct output response = nothing();
+    struct output connected = nothing();
+
+    add_response(&response, ALICE_SEAT, ALICE_TO_CAROL, &carol);
+    CHECK(sent(host, request(host, ALICE_SEAT, &carol), &response));
+
+    add_response(&connected, CAROL_SEAT, CAROL_TO_ALICE, &alice);
+    add_connected(&connected, CAROL_SEAT, CAROL_TO_ALICE);
+    add_connected(&connected, ALICE_SEAT, ALICE_TO_CAROL);
+    CHECK(sent(host, request(host, CAROL_SEAT, &alice), &connected));
+}
+
+/* P6. Data goes to the peer under the peer's number: what Carol sends on 16 comes in on 17. */
+static void data(struct host *host)
+{
+    struct output to_bob = nothing();
+    struct output to_alice = nothing();
+
+    add_data(&to_bob, BOB_SEAT, BOB_TO_ALICE, "ab");
+    CHECK(sent(host, send_data(host, ALICE_SEAT, ALICE_TO_BOB, "ab"), &to_bob));
+
+    add_data(&to_alice, ALICE_SEAT, ALICE_TO_CAROL, "hi");
+    CHECK(sent(host, send_data(host, CAROL_SEAT, CAROL_TO_ALICE, "hi"), &to_alice));
+}
+
+/* An out-of-band packet asks for no connection; the receiver gets the sender's key. */
+static void out_of_band(struct host *host)
+{
+    const uint8_t front[] = {BOB_SEAT, 0x00, 0x23, 0x07};
+    struct output received = nothing();
+
+    add(&received, front, sizeof front);
+    add(&received, carol.key, sizeof carol.key);
+    add(&received, "yo", 2);
+    CHECK(sent(host, send_out_of_band(host, CAROL_SEAT, &bob, "yo"), &received));
+}
+
+static void ping_and_pong(struct host *host)
+{
+    const uint8_t record[] = {BOB_SEAT, 0x00, 0x09, 0x05, 0, 0, 0, 0, 0, 0, 0x01, 0x02};
+    struct output pong = nothing();
+
+    add(&pong, record, sizeof record);
+    CHECK(sent(host, ping(host, BOB_SEAT, 0x0102), &pong));
+}
+
+/* P9. A route names a key and no seat: Dave in Bob's seat hears nothing that is meant for Bob, and
+   has no number of his own yet. A packet for a seat that is empty belongs to nobody. */
+static void guest_in_the_seat(struct host *host)
+{
+    struct output disconnected = nothing();
+
+    add_disconnected(&disconnected, ALICE_SEAT, ALICE_TO_BOB);
+    CHECK(sent(host, leave(host, BOB_SEAT), &disconnected));
+    CHECK(refused(host, send_data(host, BOB_SEAT, BOB_TO_ALICE, "ab"),
+                  BANAVOGE_REFUSAL_NOT_SEATED));
+
+    CHECK(arrive(host, &dave) == DAVE_SEAT);
+    CHECK(refused(host, send_data(host, ALICE_SEAT, ALICE_TO_BOB, "ab"),
+                  BANAVOGE_REFUSAL_NOT_CONNECTED));
+    CHECK(refused(host, send_data(host, DAVE_SEAT, BOB_TO_ALICE, "ab"),
+                  BANAVOGE_REFUSAL_NO_SUCH_ROUTE));
+}
+
+/* Alice's request has gone on waiting for Bob's key, so both are told connected when he asks again,
+   wherever he sits. */
+static void back_in_another_seat(struct host *host)
+{
+    struct output connected = nothing();
+    struct output to_bob = nothing();
+
+    CHECK(arrive(host, &bob) == BOB_SECOND_SEAT);
+    add_response(&connected, BOB_SECOND_SEAT, BOB_TO_ALICE, &alice);
+    add_connected(&connected, BOB_SECOND_SEAT, BOB_TO_ALICE);
+    add_connected(&connected, ALICE_SEAT, ALICE_TO_BOB);
+    CHECK(sent(host, request(host, BOB_SECOND_SEAT, &alice), &connected));
+
+    add_data(&to_bob, BOB_SECOND_SEAT, BOB_TO_ALICE, "ab");
+    CHECK(sent(host, send_data(host, ALICE_SEAT, ALICE_TO_BOB, "ab"), &to_bob));
+}
+
+/* The peer of a dropped number is told; the dropper hears nothing and has the number no more. */
+static void dropped(struct host *host)
+{
+    struct output disconnected = nothing();
+
+    add_disconnected(&disconnected, CAROL_SEAT, CAROL_TO_ALICE);
+    CHECK(sent(host, drop(host, ALICE_SEAT, ALICE_TO_CAROL), &disconnected));
+    CHECK(refused(host, send_data(host, ALICE_SEAT, ALICE_TO_CAROL, "ab"),
+                  BANAVOGE_REFUSAL_NO_SUCH_ROUTE));
+    CHECK(refused(host, send_data(host, CAROL_SEAT, CAROL_TO_ALICE, "hi"),
+                  BANAVOGE_REFUSAL_NOT_CONNECTED));
+}
+
+/* Lent memory is tested before anything else: the output by its length, whatever would be written,
+   and then the whole room. */
+static void errors_of_the_host(struct host *host)
+{
+    int32_t answer;
+
+    fill_output(host);
+    answer = banavoge_leave(host->room, host->room_length, CAROL_SEAT, host->out,
+                            BANAVOGE_LEAST_OUTPUT - 1);
+    printf("a leave with 2,047 bytes of output: ");
+    print_outcome(host, answer);
+    CHECK(refused(host, answer, BANAVOGE_REFUSAL_OUTPUT_TOO_SHORT));
+
+    answer = banavoge_leave(host->room, host->room_length - 1, CAROL_SEAT, host->out,
+                            sizeof host->out);
+    printf("a leave with a room that is cut short: ");
+    print_outcome(host, answer);
+    CHECK(refused(host, answer, BANAVOGE_REFUSAL_ROOM_NOT_WHOLE));
+}
+
+int main(void)
+{
+    struct host host;
+
+    printf("Alice teaches, Bob and Carol are pupils, Dave is a guest\n");
+    open_room(&host);
+    arrivals(&host);
+    one_request(&host);
+    both_request(&host);
+    repeated_request(&host);
+    second_connection(&host);
+    data(&host);
+    out_of_band(&host);
+    ping_and_pong(&host);
+    guest_in_the_seat(&host);
+    back_in_another_seat(&host);
+    dropped(&host);
+    errors_of_the_host(&host);
+    close_room(&host);
+    return 0;
+}
