@@ -26,7 +26,7 @@ use Rattle.relay.proofs.ReadBack.{written-read}
 use Rattle.relay.proofs.ShortRecords.{all-short}
 
 -- an answer counts the bytes sent
-made-written : (o : Outcome) → RefusedOrAccepted o → written (o .answer) ≡ length (sentBytes (o .sent))
+pub made-written : (o : Outcome) → RefusedOrAccepted o → written (o .answer) ≡ length (sentBytes (o .sent))
 unfolding written refuse accept sentBytes
 made-written o (refusal why e) = rw e
 made-written o (acceptance seat changes sent e) = rw e

@@ -15,6 +15,12 @@ pub mod CallsLaws
 pub mod ReadBack
 pub mod ShortRecords
 pub mod Histories
+pub mod EntryLaws
+pub mod PlayLaws
+pub mod MakeCases
+pub mod NextCases
+pub mod RunCases
+pub mod TurnCases
 pub mod DataInHistories
 pub mod IsolationInHistories
 pub mod EverySequence

@@ -5,3 +5,5 @@ pub mod Calls
 pub mod Peers
 pub mod Steps
 pub mod History
+pub mod Play
+pub mod PlaySteps

@@ -7,9 +7,11 @@ mod arrive;
 pub mod calls;
 mod carry;
 mod drop;
+mod entry;
 mod leave;
 mod packet_call;
 mod peer;
+pub mod play;
 mod record;
 mod request;
 
