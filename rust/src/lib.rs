@@ -23,9 +23,12 @@
 //! [`node`] has the packed nodes, [`nearest`] the nearest lists, [`room`] the
 //! room in lent memory, [`relay`] the calls on it.
 
-mod ffi;
+#![deny(unsafe_code, clippy::undocumented_unsafe_blocks)]
+
 pub mod nearest;
 pub mod node;
+#[allow(unsafe_code)]
+#[doc(hidden)]
 pub mod raw;
 pub mod relay;
 pub mod room;
@@ -81,15 +84,15 @@ impl Shown {
 
 /// Reads a packet at the relay's end.
 pub fn relay_read(packet: &[u8]) -> Result<Shown, Refusal> {
-    let mut places = raw::Places::default();
-    let answer = raw::relay_read(packet, &mut places);
+    let mut places = raw::readers::Places::default();
+    let answer = raw::readers::relay_read(packet, &mut places);
     Ok(shown(kind(answer)?, places))
 }
 
 /// Reads a packet at the client's end.
 pub fn client_read(packet: &[u8]) -> Result<Shown, Refusal> {
-    let mut places = raw::Places::default();
-    let answer = raw::client_read(packet, &mut places);
+    let mut places = raw::readers::Places::default();
+    let answer = raw::readers::client_read(packet, &mut places);
     Ok(shown(kind(answer)?, places))
 }
 
@@ -97,7 +100,7 @@ pub fn client_read(packet: &[u8]) -> Result<Shown, Refusal> {
 /// or an out-of-band send packet, and 32 zero bytes for any other.
 pub fn relay_key(packet: &[u8]) -> Result<(u8, Key), Refusal> {
     let mut key = [0; 32];
-    let answer = raw::relay_key(packet, &mut key);
+    let answer = raw::readers::relay_key(packet, &mut key);
     Ok((kind(answer)?, key))
 }
 
@@ -105,105 +108,71 @@ pub fn relay_key(packet: &[u8]) -> Result<(u8, Key), Refusal> {
 /// or an out-of-band received packet, and 32 zero bytes for any other.
 pub fn client_key(packet: &[u8]) -> Result<(u8, Key), Refusal> {
     let mut key = [0; 32];
-    let answer = raw::client_key(packet, &mut key);
+    let answer = raw::readers::client_key(packet, &mut key);
     Ok((kind(answer)?, key))
 }
 
 /// Writes the client's request for a route to `key`.
 pub fn routing_request(key: &Key, out: &mut [u8]) -> Result<usize, Refusal> {
-    // SAFETY: the pointers come from references that outlive the call, and
-    // each count is that of the bytes before it.
-    count(unsafe { ffi::banavoge_routing_request(key, out.as_mut_ptr(), out.len()) })
+    count(raw::writers::routing_request(key, out))
 }
 
 /// Writes the relay's answer to a request.
 pub fn routing_response(number: u8, key: &Key, out: &mut [u8]) -> Result<usize, Refusal> {
-    // SAFETY: the pointers come from references that outlive the call, and
-    // each count is that of the bytes before it.
-    count(unsafe { ffi::banavoge_routing_response(number, key, out.as_mut_ptr(), out.len()) })
+    count(raw::writers::routing_response(number, key, out))
 }
 
 /// Writes the relay's connected packet.
 pub fn connect_notification(number: u8, out: &mut [u8]) -> Result<usize, Refusal> {
-    // SAFETY: the pointer comes from a reference that outlives the call, and
-    // the count is that of its bytes.
-    count(unsafe { ffi::banavoge_connect_notification(number, out.as_mut_ptr(), out.len()) })
+    count(raw::writers::connect_notification(number, out))
 }
 
 /// Writes the relay's disconnected packet.
 pub fn disconnect_notification(number: u8, out: &mut [u8]) -> Result<usize, Refusal> {
-    // SAFETY: the pointer comes from a reference that outlives the call, and
-    // the count is that of its bytes.
-    count(unsafe { ffi::banavoge_disconnect_notification(number, out.as_mut_ptr(), out.len()) })
+    count(raw::writers::disconnect_notification(number, out))
 }
 
 /// Writes the client's drop packet, which may have any number.
 pub fn drop(number: u8, out: &mut [u8]) -> Result<usize, Refusal> {
-    // SAFETY: the pointer comes from a reference that outlives the call, and
-    // the count is that of its bytes.
-    count(unsafe { ffi::banavoge_drop(number, out.as_mut_ptr(), out.len()) })
+    count(raw::writers::drop_route(number, out))
 }
 
 /// Writes a ping, for either end.
 pub fn ping(number: u64, out: &mut [u8]) -> Result<usize, Refusal> {
-    // SAFETY: the pointer comes from a reference that outlives the call, and
-    // the count is that of its bytes.
-    count(unsafe { ffi::banavoge_ping(number, out.as_mut_ptr(), out.len()) })
+    count(raw::writers::ping(number, out))
 }
 
 /// Writes a pong, for either end.
 pub fn pong(number: u64, out: &mut [u8]) -> Result<usize, Refusal> {
-    // SAFETY: the pointer comes from a reference that outlives the call, and
-    // the count is that of its bytes.
-    count(unsafe { ffi::banavoge_pong(number, out.as_mut_ptr(), out.len()) })
+    count(raw::writers::pong(number, out))
 }
 
 /// Writes the client's out-of-band packet to the client that holds `key`.
 pub fn oob_send(key: &Key, data: &[u8], out: &mut [u8]) -> Result<usize, Refusal> {
-    // SAFETY: the pointers come from references that outlive the call, and
-    // each count is that of the bytes before it.
-    count(unsafe {
-        ffi::banavoge_oob_send(key, data.as_ptr(), data.len(), out.as_mut_ptr(), out.len())
-    })
+    count(raw::writers::oob_send(key, data, out))
 }
 
 /// Writes the relay's out-of-band packet from the client that holds `key`.
 pub fn oob_received(key: &Key, data: &[u8], out: &mut [u8]) -> Result<usize, Refusal> {
-    // SAFETY: the pointers come from references that outlive the call, and
-    // each count is that of the bytes before it.
-    count(unsafe {
-        ffi::banavoge_oob_received(key, data.as_ptr(), data.len(), out.as_mut_ptr(), out.len())
-    })
+    count(raw::writers::oob_received(key, data, out))
 }
 
 /// Writes a data packet, for either end.
 pub fn data(number: u8, data: &[u8], out: &mut [u8]) -> Result<usize, Refusal> {
-    // SAFETY: the pointers come from references that outlive the call, and
-    // each count is that of the bytes before it.
-    count(unsafe {
-        ffi::banavoge_data(
-            number,
-            data.as_ptr(),
-            data.len(),
-            out.as_mut_ptr(),
-            out.len(),
-        )
-    })
+    count(raw::writers::data(number, data, out))
 }
 
 /// Whether `a` is strictly nearer to `target` than `b` is.
 pub fn nearer(target: &Key, a: &Key, b: &Key) -> bool {
-    // SAFETY: the pointers come from references that outlive the call.
-    unsafe { ffi::banavoge_nearer(target, a, b) }
+    raw::keys::nearer(target, a, b)
 }
 
 /// Whether two keys are the same.
 pub fn same_key(a: &Key, b: &Key) -> bool {
-    // SAFETY: the pointers come from references that outlive the call.
-    unsafe { ffi::banavoge_same_key(a, b) }
+    raw::keys::same(a, b)
 }
 
-fn shown(kind: u8, places: raw::Places) -> Shown {
+fn shown(kind: u8, places: raw::readers::Places) -> Shown {
     Shown {
         kind,
         number: places.number,

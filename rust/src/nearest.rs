@@ -29,12 +29,11 @@
 //! ```
 
 use crate::node::Node;
-use crate::{accepted, ffi, raw, Key, Refusal};
+use crate::{accepted, raw, Key, Refusal};
 
 /// How many bytes of memory a list takes.
 pub fn bytes() -> usize {
-    // SAFETY: the call takes nothing.
-    unsafe { ffi::nearest::banavoge_nearest_bytes() }
+    raw::nearest::bytes()
 }
 
 /// Begins the empty list of a size for a target. A bad size is refused, and

@@ -27,7 +27,7 @@
 //! # Ok::<(), banavoge::Refusal>(())
 //! ```
 
-use crate::{raw, refusal, Key, Refusal};
+use crate::{raw, refusal, Refusal};
 
 /// The family of a node reached by UDP over IPv4.
 pub const UDP_IPV4: u8 = 2;
@@ -38,20 +38,7 @@ pub const TCP_IPV4: u8 = 130;
 /// The family of a node reached by TCP over IPv6.
 pub const TCP_IPV6: u8 = 138;
 
-/// A node: where a key is reached.
-#[derive(Debug, Clone, Copy, PartialEq, Eq, Default)]
-pub struct Node {
-    /// The family byte. A node of any family can be made; one of unknown
-    /// family is refused where it is written or offered.
-    pub family: u8,
-    /// The address. That of IPv4 stands in the first 4 bytes; the others are 0
-    /// when it is read, and are not looked at when it is written.
-    pub address: [u8; 16],
-    /// The port, which may be 0.
-    pub port: u16,
-    /// The key.
-    pub key: Key,
-}
+pub use crate::raw::node::Parts as Node;
 
 impl Node {
     /// Reads the node that starts at the place `at`, whatever bytes follow it.

@@ -1,72 +1,25 @@
-//! The readers with the places they write into lent by the caller.
+//! The library's C functions, each with a safe call on slices.
 //!
-//! The answer is the library's own: the kind, or a refusal number with its
-//! sign changed. On a refusal the lent places are as they were.
+//! This is the only module with unsafe code, and no part of the interface: the
+//! types at the root of the crate rest on it, and the tests use it to lend
+//! places that are filled beforehand, so that a stray write shows.
+//!
+//! Each call answers what the library answers: 0 or more, or a refusal number
+//! with its sign changed, and then whatever is lent is as it was.
+//!
+//! A C function asks of its parameters what memory asks for, and references
+//! give just that. A pointer made from a reference is neither null nor
+//! misaligned and stays good during the call. A slice goes as its pointer and
+//! its count; an empty one has a pointer that is not null. What one call may
+//! write overlaps with nothing else that it is lent, since it comes from `&mut`.
 
+pub mod keys;
 pub mod nearest;
 pub mod node;
+pub mod readers;
 pub mod relay;
 pub mod room;
+pub mod writers;
 
-use crate::{ffi, Key};
-
-/// The places that a reader writes into.
-#[derive(Debug, Clone, Copy, PartialEq, Eq, Default)]
-pub struct Places {
-    /// The connection number.
-    pub number: u8,
-    /// The ping number.
-    pub ping: u64,
-    /// Where the payload starts in the packet.
-    pub start: usize,
-    /// How many bytes the payload has.
-    pub length: usize,
-}
-
-/// Reads a packet at the relay's end.
-pub fn relay_read(packet: &[u8], places: &mut Places) -> i32 {
-    // SAFETY: the pointers come from references that outlive the call, and
-    // the count is that of the packet's bytes.
-    unsafe {
-        ffi::banavoge_relay_read(
-            packet.as_ptr(),
-            packet.len(),
-            &mut places.number,
-            &mut places.ping,
-            &mut places.start,
-            &mut places.length,
-        )
-    }
-}
-
-/// Reads a packet at the client's end.
-pub fn client_read(packet: &[u8], places: &mut Places) -> i32 {
-    // SAFETY: the pointers come from references that outlive the call, and
-    // the count is that of the packet's bytes.
-    unsafe {
-        ffi::banavoge_client_read(
-            packet.as_ptr(),
-            packet.len(),
-            &mut places.number,
-            &mut places.ping,
-            &mut places.start,
-            &mut places.length,
-        )
-    }
-}
-
-/// Reads the key of a packet at the relay's end; 32 zero bytes where a packet
-/// of its kind has none.
-pub fn relay_key(packet: &[u8], key: &mut Key) -> i32 {
-    // SAFETY: the pointers come from references that outlive the call, and
-    // the count is that of the packet's bytes.
-    unsafe { ffi::banavoge_relay_key(packet.as_ptr(), packet.len(), key) }
-}
-
-/// Reads the key of a packet at the client's end; 32 zero bytes where a packet
-/// of its kind has none.
-pub fn client_key(packet: &[u8], key: &mut Key) -> i32 {
-    // SAFETY: the pointers come from references that outlive the call, and
-    // the count is that of the packet's bytes.
-    unsafe { ffi::banavoge_client_key(packet.as_ptr(), packet.len(), key) }
-}
+/// A key, as the C functions take it.
+pub type Key = [u8; 32];

@@ -15,12 +15,11 @@
 //! # Ok::<(), banavoge::Refusal>(())
 //! ```
 
-use crate::{accepted, ffi, raw, Refusal};
+use crate::{accepted, raw, Refusal};
 
 /// How many bytes of memory a room takes.
 pub fn bytes() -> usize {
-    // SAFETY: the call takes nothing.
-    unsafe { ffi::room::banavoge_room_bytes() }
+    raw::room::bytes()
 }
 
 /// Makes memory the empty room. Memory that is too short is refused and left

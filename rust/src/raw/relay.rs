@@ -1,23 +1,42 @@
-//! The calls of the relay, with the library's own answers.
-//!
-//! An answer below 0 is a refusal number with its sign changed; then the room
-//! and the output are as they were.
+//! The calls of the relay on a room in lent memory.
 
-use crate::{ffi::relay as ffi, Key};
+use super::Key;
+
+extern "C" {
+    fn banavoge_arrive(room: *mut u8, room_length: usize, key: *const Key) -> i32;
+
+    fn banavoge_leave(
+        room: *mut u8,
+        room_length: usize,
+        seat: u8,
+        out: *mut u8,
+        out_length: usize,
+    ) -> i32;
+
+    fn banavoge_packet(
+        room: *mut u8,
+        room_length: usize,
+        seat: u8,
+        packet: *const u8,
+        packet_length: usize,
+        out: *mut u8,
+        out_length: usize,
+    ) -> i32;
+}
 
 /// A key arrives: its seat, or a refusal.
 pub fn arrive(room: &mut [u8], key: &Key) -> i32 {
-    // SAFETY: the pointers come from references that outlive the call, and
-    // the count is that of the room's bytes.
-    unsafe { ffi::banavoge_arrive(room.as_mut_ptr(), room.len(), key) }
+    // SAFETY: the pointers come from references to the room, whose count is its
+    // own, and to the key.
+    unsafe { banavoge_arrive(room.as_mut_ptr(), room.len(), key) }
 }
 
 /// The client in a seat leaves: how many bytes are written, or a refusal.
 pub fn leave(room: &mut [u8], seat: u8, out: &mut [u8]) -> i32 {
-    // SAFETY: the pointers come from references that outlive the call, and
-    // each count is that of the bytes before it.
+    // SAFETY: the pointers come from references to the room and the output, the
+    // counts are those of the two slices.
     unsafe {
-        ffi::banavoge_leave(
+        banavoge_leave(
             room.as_mut_ptr(),
             room.len(),
             seat,
@@ -30,10 +49,10 @@ pub fn leave(room: &mut [u8], seat: u8, out: &mut [u8]) -> i32 {
 /// The client in a seat sends a packet: how many bytes are written, or a
 /// refusal.
 pub fn packet(room: &mut [u8], seat: u8, packet: &[u8], out: &mut [u8]) -> i32 {
-    // SAFETY: the pointers come from references that outlive the call, and
-    // each count is that of the bytes before it.
+    // SAFETY: the pointers come from references to the room, the packet and the
+    // output, the counts are those of the three slices.
     unsafe {
-        ffi::banavoge_packet(
+        banavoge_packet(
             room.as_mut_ptr(),
             room.len(),
             seat,

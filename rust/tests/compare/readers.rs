@@ -3,7 +3,7 @@
 use crate::generator::{Generator, ROUTE_NUMBERS};
 use crate::tally::{say, Tally};
 use crate::writers;
-use banavoge::raw::{self, Places};
+use banavoge::raw::readers::{self, Places};
 use reference::key::Key;
 use reference::packet::{self, FromClient, FromRelay};
 
@@ -40,7 +40,7 @@ struct Reading {
 /// differ. Answers the reference's outcome.
 pub fn compare_relay(bytes: &[u8]) -> Result<FromClient, u8> {
     let outcome = packet::relay_read(bytes);
-    let found = library_reading(bytes, raw::relay_read, raw::relay_key);
+    let found = library_reading(bytes, readers::relay_read, readers::relay_key);
     let expected = match &outcome {
         Ok(packet) => client_packet_reading(packet),
         Err(number) => refused_reading(*number),
@@ -60,7 +60,7 @@ pub fn compare_relay(bytes: &[u8]) -> Result<FromClient, u8> {
 /// differ. Answers the reference's outcome.
 pub fn compare_client(bytes: &[u8]) -> Result<FromRelay, u8> {
     let outcome = packet::client_read(bytes);
-    let found = library_reading(bytes, raw::client_read, raw::client_key);
+    let found = library_reading(bytes, readers::client_read, readers::client_key);
     let expected = match &outcome {
         Ok(packet) => relay_packet_reading(packet),
         Err(number) => refused_reading(*number),
