@@ -16,7 +16,7 @@
 //! assert_eq!(shown.number, 16);
 //! assert_eq!(shown.payload(packet), b"ab");
 //!
-//! assert_eq!(banavoge::ping(0, &mut out), Err(banavoge::Refusal(7)));
+//! assert_eq!(banavoge::ping(0, &mut out), Err(banavoge::Refusal::ZeroPing));
 //! # Ok::<(), banavoge::Refusal>(())
 //! ```
 //!
@@ -25,34 +25,24 @@
 
 #![deny(unsafe_code, clippy::undocumented_unsafe_blocks)]
 
+mod answer;
 pub mod nearest;
 pub mod node;
 #[allow(unsafe_code)]
 #[doc(hidden)]
 pub mod raw;
+mod refusal;
 pub mod relay;
 pub mod room;
 
-use std::error::Error;
-use std::fmt;
+use answer::accepted;
+pub use refusal::Refusal;
 
 /// A key is 32 bytes.
 pub type Key = [u8; 32];
 
 /// The kind that a reader shows for a data packet, whatever its number.
 pub const DATA: u8 = 16;
-
-/// The number of a refusal.
-#[derive(Debug, Clone, Copy, PartialEq, Eq)]
-pub struct Refusal(pub u8);
-
-impl fmt::Display for Refusal {
-    fn fmt(&self, f: &mut fmt::Formatter<'_>) -> fmt::Result {
-        write!(f, "refused with {}", self.0)
-    }
-}
-
-impl Error for Refusal {}
 
 /// What a reader shows of a packet. What a packet of its kind does not have
 /// is 0.
@@ -114,52 +104,52 @@ pub fn client_key(packet: &[u8]) -> Result<(u8, Key), Refusal> {
 
 /// Writes the client's request for a route to `key`.
 pub fn routing_request(key: &Key, out: &mut [u8]) -> Result<usize, Refusal> {
-    count(raw::writers::routing_request(key, out))
+    accepted(raw::writers::routing_request(key, out))
 }
 
 /// Writes the relay's answer to a request.
 pub fn routing_response(number: u8, key: &Key, out: &mut [u8]) -> Result<usize, Refusal> {
-    count(raw::writers::routing_response(number, key, out))
+    accepted(raw::writers::routing_response(number, key, out))
 }
 
 /// Writes the relay's connected packet.
 pub fn connect_notification(number: u8, out: &mut [u8]) -> Result<usize, Refusal> {
-    count(raw::writers::connect_notification(number, out))
+    accepted(raw::writers::connect_notification(number, out))
 }
 
 /// Writes the relay's disconnected packet.
 pub fn disconnect_notification(number: u8, out: &mut [u8]) -> Result<usize, Refusal> {
-    count(raw::writers::disconnect_notification(number, out))
+    accepted(raw::writers::disconnect_notification(number, out))
 }
 
 /// Writes the client's drop packet, which may have any number.
 pub fn drop(number: u8, out: &mut [u8]) -> Result<usize, Refusal> {
-    count(raw::writers::drop_route(number, out))
+    accepted(raw::writers::drop_route(number, out))
 }
 
 /// Writes a ping, for either end.
 pub fn ping(number: u64, out: &mut [u8]) -> Result<usize, Refusal> {
-    count(raw::writers::ping(number, out))
+    accepted(raw::writers::ping(number, out))
 }
 
 /// Writes a pong, for either end.
 pub fn pong(number: u64, out: &mut [u8]) -> Result<usize, Refusal> {
-    count(raw::writers::pong(number, out))
+    accepted(raw::writers::pong(number, out))
 }
 
 /// Writes the client's out-of-band packet to the client that holds `key`.
 pub fn oob_send(key: &Key, data: &[u8], out: &mut [u8]) -> Result<usize, Refusal> {
-    count(raw::writers::oob_send(key, data, out))
+    accepted(raw::writers::oob_send(key, data, out))
 }
 
 /// Writes the relay's out-of-band packet from the client that holds `key`.
 pub fn oob_received(key: &Key, data: &[u8], out: &mut [u8]) -> Result<usize, Refusal> {
-    count(raw::writers::oob_received(key, data, out))
+    accepted(raw::writers::oob_received(key, data, out))
 }
 
 /// Writes a data packet, for either end.
 pub fn data(number: u8, data: &[u8], out: &mut [u8]) -> Result<usize, Refusal> {
-    count(raw::writers::data(number, data, out))
+    accepted(raw::writers::data(number, data, out))
 }
 
 /// Whether `a` is strictly nearer to `target` than `b` is.
@@ -182,25 +172,7 @@ fn shown(kind: u8, places: raw::readers::Places) -> Shown {
     }
 }
 
-/// The byte count that a writer answers.
-fn count(answer: i32) -> Result<usize, Refusal> {
-    usize::try_from(answer).map_err(|_| refusal(answer))
-}
-
 /// The kind that a reader answers.
 fn kind(answer: i32) -> Result<u8, Refusal> {
     Ok(u8::try_from(accepted(answer)?).expect("a kind is a byte"))
-}
-
-/// The answer, if it is no refusal.
-fn accepted(answer: i32) -> Result<i32, Refusal> {
-    if answer < 0 {
-        return Err(refusal(answer));
-    }
-    Ok(answer)
-}
-
-/// The refusal that an answer below 0 stands for.
-fn refusal(answer: i32) -> Refusal {
-    Refusal(u8::try_from(answer.unsigned_abs()).expect("a refusal number is a byte"))
 }

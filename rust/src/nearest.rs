@@ -24,7 +24,7 @@
 //! nearest::remove(&mut list, &ending(3).key)?;
 //! assert_eq!(nearest::node(&list, 0)?, Some(ending(5)));
 //! assert_eq!(nearest::node(&list, 1)?, None);
-//! assert_eq!(nearest::remove(&mut list, &[7; 32]), Err(banavoge::Refusal(13)));
+//! assert_eq!(nearest::remove(&mut list, &[7; 32]), Err(banavoge::Refusal::KeyNotHeld));
 //! # Ok::<(), banavoge::Refusal>(())
 //! ```
 

@@ -23,11 +23,12 @@
 //! }
 //! assert_eq!(nodes.count(), 1);
 //!
-//! assert_eq!(Node::read(&list[..38], 0), Err(banavoge::Refusal(16)));
+//! assert_eq!(Node::read(&list[..38], 0), Err(banavoge::Refusal::NodeCutShort));
 //! # Ok::<(), banavoge::Refusal>(())
 //! ```
 
-use crate::{raw, refusal, Refusal};
+use crate::answer::accepted;
+use crate::{raw, Refusal};
 
 /// The family of a node reached by UDP over IPv4.
 pub const UDP_IPV4: u8 = 2;
@@ -46,17 +47,14 @@ impl Node {
     pub fn read(bytes: &[u8], at: usize) -> Result<(Node, usize), Refusal> {
         let mut node = Node::default();
         let mut next = 0;
-        let answer = raw::node::read(bytes, at, &mut node, &mut next);
-        if answer < 0 {
-            return Err(refusal(answer));
-        }
+        accepted(raw::node::read(bytes, at, &mut node, &mut next))?;
         Ok((node, next))
     }
 
     /// Writes the node at the front of `out` and answers how many bytes it
     /// has, 39 or 51.
     pub fn write(&self, out: &mut [u8]) -> Result<usize, Refusal> {
-        crate::count(raw::node::write(self, out))
+        accepted(raw::node::write(self, out))
     }
 }
 
@@ -84,10 +82,7 @@ impl<'a> Nodes<'a> {
         let mut node = Node::default();
         let mut next = 0;
         let answer = raw::node::step(self.list, self.place, self.count, &mut node, &mut next);
-        if answer < 0 {
-            return Err(refusal(answer));
-        }
-        if answer == 0 {
+        if accepted(answer)? == 0 {
             return Ok(None);
         }
         self.place = next;

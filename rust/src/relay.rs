@@ -20,11 +20,11 @@
 //!
 //! assert_eq!(relay::leave(&mut memory, seat, &mut out)?, 0);
 //! let again = relay::leave(&mut memory, seat, &mut out);
-//! assert_eq!(again, Err(banavoge::Refusal(3)));
+//! assert_eq!(again, Err(banavoge::Refusal::NotSeated));
 //! # Ok::<(), banavoge::Refusal>(())
 //! ```
 
-use crate::{accepted, count, raw, Key, Refusal};
+use crate::{accepted, raw, Key, Refusal};
 
 /// A key arrives: it takes the lowest empty seat, and this is the answer.
 pub fn arrive(room: &mut [u8], key: &Key) -> Result<u8, Refusal> {
@@ -34,10 +34,10 @@ pub fn arrive(room: &mut [u8], key: &Key) -> Result<u8, Refusal> {
 
 /// The client in a seat leaves. Answers how many bytes were written.
 pub fn leave(room: &mut [u8], seat: u8, out: &mut [u8]) -> Result<usize, Refusal> {
-    count(raw::relay::leave(room, seat, out))
+    accepted(raw::relay::leave(room, seat, out))
 }
 
 /// The client in a seat sends a packet. Answers how many bytes were written.
 pub fn packet(room: &mut [u8], seat: u8, packet: &[u8], out: &mut [u8]) -> Result<usize, Refusal> {
-    count(raw::relay::packet(room, seat, packet, out))
+    accepted(raw::relay::packet(room, seat, packet, out))
 }

@@ -6,12 +6,12 @@
 //! use banavoge::room;
 //!
 //! let mut memory = vec![0; room::bytes()];
-//! assert_eq!(room::check(&memory), Err(banavoge::Refusal(11)));
+//! assert_eq!(room::check(&memory), Err(banavoge::Refusal::RoomNotWhole));
 //! room::empty(&mut memory)?;
 //! room::check(&memory)?;
 //!
 //! let short = &mut memory[1..];
-//! assert_eq!(room::empty(short), Err(banavoge::Refusal(10)));
+//! assert_eq!(room::empty(short), Err(banavoge::Refusal::OutputTooShort));
 //! # Ok::<(), banavoge::Refusal>(())
 //! ```
 

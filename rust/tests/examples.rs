@@ -68,7 +68,7 @@ fn p1_to_p6_two_clients_connect_and_send() {
     let mut host = Host::new();
     assert_eq!(host.arrive(&KA), Ok(0));
     assert_eq!(host.arrive(&KB), Ok(1));
-    assert_eq!(host.arrive(&KA), Err(Refusal(2)));
+    assert_eq!(host.arrive(&KA), Err(Refusal::AlreadySeated));
     assert_eq!(host.request(0, &KB), Ok(answer(0, 0x10, &KB)));
     let told = [
         &answer(1, 0x10, &KA)[..],
@@ -90,10 +90,19 @@ fn p7_p8_data_on_a_waiting_number_and_on_none() {
     assert_eq!(host.arrive(&KA), Ok(0));
     assert_eq!(host.arrive(&KB), Ok(1));
     assert_eq!(host.request(0, &KB), Ok(answer(0, 0x10, &KB)));
-    assert_eq!(host.packet(0, &[0x10, 0x61, 0x62]), Err(Refusal(9)));
-    assert_eq!(host.packet(0, &[0x11, 0x61, 0x62]), Err(Refusal(8)));
+    assert_eq!(
+        host.packet(0, &[0x10, 0x61, 0x62]),
+        Err(Refusal::NotConnected)
+    );
+    assert_eq!(
+        host.packet(0, &[0x11, 0x61, 0x62]),
+        Err(Refusal::NoSuchRoute)
+    );
     let mut host = Host::connected();
-    assert_eq!(host.packet(0, &[0x11, 0x61, 0x62]), Err(Refusal(8)));
+    assert_eq!(
+        host.packet(0, &[0x11, 0x61, 0x62]),
+        Err(Refusal::NoSuchRoute)
+    );
 }
 
 #[test]
@@ -101,7 +110,7 @@ fn p9_another_takes_the_seat_that_was_left() {
     let mut host = Host::connected();
     assert_eq!(host.leave(0), Ok(vec![1, 0, 2, 3, 0x10]));
     assert_eq!(host.arrive(&KC), Ok(0));
-    assert_eq!(host.packet(1, &[0x10, 0x61]), Err(Refusal(9)));
+    assert_eq!(host.packet(1, &[0x10, 0x61]), Err(Refusal::NotConnected));
 }
 
 #[test]
@@ -109,9 +118,9 @@ fn p10_p11_what_the_reader_refuses() {
     let mut host = Host::connected();
     assert_eq!(
         host.packet(0, &[4, 0, 0, 0, 0, 0, 0, 0, 0]),
-        Err(Refusal(7))
+        Err(Refusal::ZeroPing)
     );
-    assert_eq!(host.packet(0, &[0x10]), Err(Refusal(6)));
+    assert_eq!(host.packet(0, &[0x10]), Err(Refusal::WrongLength));
 }
 
 #[test]
@@ -124,15 +133,15 @@ fn bounds_of_out_of_band_packets_and_of_data() {
         packet
     };
     for (length, answer) in [
-        (33, Err(Refusal(6))),
+        (33, Err(Refusal::WrongLength)),
         (34, Ok(37)),
         (1_057, Ok(1_060)),
-        (1_058, Err(Refusal(6))),
+        (1_058, Err(Refusal::WrongLength)),
     ] {
         let sent = host.packet(0, &out_of_band(length)).map(|sent| sent.len());
         assert_eq!(sent, answer, "out-of-band of {length} bytes");
     }
-    for (length, answer) in [(2_032, Ok(2_035)), (2_033, Err(Refusal(4)))] {
+    for (length, answer) in [(2_032, Ok(2_035)), (2_033, Err(Refusal::PacketSize))] {
         let sent = host.packet(0, &vec![0x10; length]).map(|sent| sent.len());
         assert_eq!(sent, answer, "data of {length} bytes");
     }
@@ -158,8 +167,8 @@ fn the_40th_arrival_is_accepted_and_the_41st_gets_1() {
     for seat in 0..40 {
         assert_eq!(host.arrive(&key_of(seat)), Ok(seat));
     }
-    assert_eq!(host.arrive(&key_of(40)), Err(Refusal(1)));
-    assert_eq!(host.arrive(&key_of(39)), Err(Refusal(2)));
+    assert_eq!(host.arrive(&key_of(40)), Err(Refusal::RoomFull));
+    assert_eq!(host.arrive(&key_of(39)), Err(Refusal::AlreadySeated));
 }
 
 #[test]

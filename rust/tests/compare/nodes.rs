@@ -135,9 +135,10 @@ fn compare_walk(list: &[u8], tallies: &mut Tallies) -> Result<(), u8> {
 
     // Neither the end nor a refusal moves the walker.
     let before = walker;
-    let expected_end = end.map(|()| None).map_err(Refusal);
+    let expected_end = end.map(|()| None);
     for _ in 0..2 {
-        assert_eq!(walker.step(), expected_end, "{list:02x?}");
+        let found = walker.step().map_err(Refusal::number);
+        assert_eq!(found, expected_end, "{list:02x?}");
         assert_eq!(walker, before);
     }
     assert_eq!(walker.count(), expected.len());
@@ -297,9 +298,9 @@ fn named_nodes(tallies: &mut Tallies) {
         assert_eq!(node.key, [0x11; 32]);
     }
     let refused = LibraryNode::read(&bytes[..38], 0);
-    assert_eq!(refused, Err(Refusal(16)));
-    assert_eq!(LibraryNode::read(&[], 0), Err(Refusal(16)));
-    assert_eq!(LibraryNode::read(&[1], 0), Err(Refusal(15)));
+    assert_eq!(refused, Err(Refusal::NodeCutShort));
+    assert_eq!(LibraryNode::read(&[], 0), Err(Refusal::NodeCutShort));
+    assert_eq!(LibraryNode::read(&[1], 0), Err(Refusal::UnknownFamily));
 }
 
 /// Every family byte, with bytes enough for any node and cut at every byte,

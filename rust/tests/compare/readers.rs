@@ -289,14 +289,14 @@ fn safe_calls(generator: &mut Generator) {
         assert_eq!(shown.payload(&out[..count]), data);
         assert_eq!(banavoge::relay_key(&out[..count]), Ok((6, key)));
         let refused = banavoge::client_read(&out[..count]);
-        assert_eq!(refused, Err(banavoge::Refusal(5)));
+        assert_eq!(refused, Err(banavoge::Refusal::UnexpectedKind));
 
         let count = banavoge::oob_received(&key, &data, &mut out).expect("a good packet");
         let shown = banavoge::client_read(&out[..count]).expect("a good packet");
         assert_eq!(shown.payload(&out[..count]), data);
         assert_eq!(banavoge::client_key(&out[..count]), Ok((7, key)));
         let refused = banavoge::relay_read(&out[..count]);
-        assert_eq!(refused, Err(banavoge::Refusal(5)));
+        assert_eq!(refused, Err(banavoge::Refusal::UnexpectedKind));
     }
 }
 

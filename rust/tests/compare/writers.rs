@@ -118,8 +118,8 @@ fn compare_on(
     let length = found.lent().len();
     let answered = by_library(found.lent());
     assert_eq!(
-        answered,
-        outcome.map_err(Refusal),
+        answered.map_err(Refusal::number),
+        outcome,
         "{what}, output of {length} bytes"
     );
     if found != expected {

@@ -1,0 +1,16 @@
+//! Answers of the library, as results.
+
+use crate::Refusal;
+
+/// An answer of 0 or more as it is; one below 0 is a refusal number with its
+/// sign changed.
+pub fn accepted(answer: i32) -> Result<usize, Refusal> {
+    usize::try_from(answer).map_err(|_| refusal(answer))
+}
+
+fn refusal(answer: i32) -> Refusal {
+    u8::try_from(answer.unsigned_abs())
+        .ok()
+        .and_then(Refusal::from_number)
+        .expect("the library refuses with document 01's numbers")
+}
