@@ -29,7 +29,8 @@
 //! ```
 
 use crate::node::Node;
-use crate::{accepted, raw, Key, Refusal};
+use crate::raw::{self, Key};
+use crate::{accepted, Refusal};
 
 /// How many bytes of memory a list takes.
 pub fn bytes() -> usize {

@@ -24,7 +24,8 @@
 //! # Ok::<(), banavoge::Refusal>(())
 //! ```
 
-use crate::{accepted, raw, Key, Refusal};
+use crate::raw::{self, Key};
+use crate::{accepted, Refusal};
 
 /// A key arrives: it takes the lowest empty seat, and this is the answer.
 pub fn arrive(room: &mut [u8], key: &Key) -> Result<u8, Refusal> {

@@ -1,7 +1,8 @@
 //! Document 01's examples of the relay, made on the library: those marked P,
 //! which are proved too, the bounds, and the errors that students make.
 
-use banavoge::{relay, room, Key, Refusal};
+use banavoge::raw::Key;
+use banavoge::{relay, room, Refusal};
 
 const KA: Key = [0x11; 32];
 const KB: Key = [0x22; 32];

@@ -41,6 +41,14 @@ pub struct Places {
     pub length: usize,
 }
 
+impl Places {
+    /// The payload, as a part of the packet that was read; no bytes where a
+    /// packet of its kind has none.
+    pub fn payload<'a>(&self, packet: &'a [u8]) -> &'a [u8] {
+        &packet[self.start..][..self.length]
+    }
+}
+
 /// Reads a packet at the relay's end.
 pub fn relay_read(packet: &[u8], places: &mut Places) -> i32 {
     // SAFETY: the pointers come from references to the packet, whose count is

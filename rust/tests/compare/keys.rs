@@ -2,6 +2,7 @@
 
 use crate::generator::Generator;
 use crate::tally::say;
+use banavoge::raw;
 use reference::key::{self, Key};
 
 /// How often each answer was met.
@@ -25,7 +26,7 @@ impl Answers {
     fn run_nearer(&mut self, target: &Key, a: &Key, b: &Key) {
         let expected = key::nearer(target, a, b);
         assert_eq!(
-            banavoge::nearer(target, a, b),
+            banavoge::Key(*target).nearer(&banavoge::Key(*a), &banavoge::Key(*b)),
             expected,
             "target {target:02x?}, keys {a:02x?} and {b:02x?}"
         );
@@ -38,7 +39,7 @@ impl Answers {
 
     fn run_same(&mut self, a: &Key, b: &Key) {
         let expected = a == b;
-        let found = banavoge::same_key(a, b);
+        let found = raw::keys::same(a, b);
         assert_eq!(found, expected, "keys {a:02x?} and {b:02x?}");
         if expected {
             self.same += 1;

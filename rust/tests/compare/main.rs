@@ -10,6 +10,7 @@ mod memory;
 mod nearest;
 mod nodes;
 mod output;
+mod packets;
 mod readers;
 mod relay;
 mod tally;

@@ -1,9 +1,11 @@
 //! The readers of both ends.
 
 use crate::generator::{Generator, ROUTE_NUMBERS};
+use crate::packets::{from_client, from_relay};
 use crate::tally::{say, Tally};
 use crate::writers;
 use banavoge::raw::readers::{self, Places};
+use banavoge::Refusal;
 use reference::key::Key;
 use reference::packet::{self, FromClient, FromRelay};
 
@@ -46,6 +48,12 @@ pub fn compare_relay(bytes: &[u8]) -> Result<FromClient, u8> {
         Err(number) => refused_reading(*number),
     };
     assert_eq!(found, expected, "the relay's reader, {}", described(bytes));
+    assert_eq!(
+        banavoge::FromClient::read(bytes).map_err(Refusal::number),
+        outcome.as_ref().map(from_client).map_err(|number| *number),
+        "the relay's reader, {}",
+        described(bytes)
+    );
     if let Ok(packet) = &outcome {
         assert_eq!(
             writers::client_packet_written(packet),
@@ -66,6 +74,12 @@ pub fn compare_client(bytes: &[u8]) -> Result<FromRelay, u8> {
         Err(number) => refused_reading(*number),
     };
     assert_eq!(found, expected, "the client's reader, {}", described(bytes));
+    assert_eq!(
+        banavoge::FromRelay::read(bytes).map_err(Refusal::number),
+        outcome.as_ref().map(from_relay).map_err(|number| *number),
+        "the client's reader, {}",
+        described(bytes)
+    );
     if let Ok(packet) = &outcome {
         assert_eq!(
             writers::relay_packet_written(packet),
@@ -276,27 +290,65 @@ fn random_bytes(generator: &mut Generator, tallies: &mut Tallies) {
     }
 }
 
-/// The safe calls, on the paths that the raw ones do not show.
-fn safe_calls(generator: &mut Generator) {
+/// What is read borrows its payload: it is a part of the packet itself, at its
+/// place. The other end refuses the kind.
+fn payloads_are_lent(generator: &mut Generator) {
     let mut out = vec![0; 2_048];
     for _ in 0..1_000 {
         let key = generator.key();
         let length = 1 + generator.below(1_024);
         let data = generator.bytes(length);
 
-        let count = banavoge::oob_send(&key, &data, &mut out).expect("a good packet");
-        let shown = banavoge::relay_read(&out[..count]).expect("a good packet");
-        assert_eq!(shown.payload(&out[..count]), data);
-        assert_eq!(banavoge::relay_key(&out[..count]), Ok((6, key)));
-        let refused = banavoge::client_read(&out[..count]);
-        assert_eq!(refused, Err(banavoge::Refusal::UnexpectedKind));
+        let send = FromClient::OobSend {
+            key,
+            data: data.clone(),
+        };
+        let count = from_client(&send).write(&mut out).expect("a good packet");
+        let packet = &out[..count];
+        match banavoge::FromClient::read(packet) {
+            Ok(banavoge::FromClient::OobSend {
+                destination,
+                payload,
+            }) => {
+                assert_eq!(destination.0, key);
+                assert_eq!(payload, data);
+                assert!(std::ptr::eq(payload, &packet[33..]));
+            }
+            other => panic!("{other:?}"),
+        }
+        let refused = banavoge::FromRelay::read(packet);
+        assert_eq!(refused, Err(Refusal::UnexpectedKind));
 
-        let count = banavoge::oob_received(&key, &data, &mut out).expect("a good packet");
-        let shown = banavoge::client_read(&out[..count]).expect("a good packet");
-        assert_eq!(shown.payload(&out[..count]), data);
-        assert_eq!(banavoge::client_key(&out[..count]), Ok((7, key)));
-        let refused = banavoge::relay_read(&out[..count]);
-        assert_eq!(refused, Err(banavoge::Refusal::UnexpectedKind));
+        let received = FromRelay::OobReceived {
+            key,
+            data: data.clone(),
+        };
+        let count = from_relay(&received)
+            .write(&mut out)
+            .expect("a good packet");
+        let packet = &out[..count];
+        match banavoge::FromRelay::read(packet) {
+            Ok(banavoge::FromRelay::OobReceived { sender, payload }) => {
+                assert_eq!(sender.0, key);
+                assert_eq!(payload, data);
+                assert!(std::ptr::eq(payload, &packet[33..]));
+            }
+            other => panic!("{other:?}"),
+        }
+        let refused = banavoge::FromClient::read(packet);
+        assert_eq!(refused, Err(Refusal::UnexpectedKind));
+
+        let data_packet = FromClient::Data { number: 16, data };
+        let count = from_client(&data_packet)
+            .write(&mut out)
+            .expect("a good packet");
+        let packet = &out[..count];
+        match banavoge::FromClient::read(packet) {
+            Ok(banavoge::FromClient::Data { payload, .. }) => {
+                assert!(std::ptr::eq(payload, &packet[1..]));
+            }
+            other => panic!("{other:?}"),
+        }
     }
 }
 
@@ -312,7 +364,7 @@ fn readers_agree_with_the_reference() {
     ping_numbers(&mut generator, &mut tallies);
     written_and_damaged(&mut generator, &mut tallies);
     random_bytes(&mut generator, &mut tallies);
-    safe_calls(&mut generator);
+    payloads_are_lent(&mut generator);
 
     let Tallies { relay, client } = tallies;
     say(&format!(

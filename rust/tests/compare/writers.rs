@@ -2,6 +2,7 @@
 
 use crate::generator::Generator;
 use crate::output::Output;
+use crate::packets::{from_client, from_relay};
 use crate::readers::{compare_client, compare_relay};
 use crate::tally::{say, Tally};
 use banavoge::Refusal;
@@ -13,35 +14,12 @@ const PAYLOADS: [usize; 27] = [
     1_999, 2_000, 2_001, 2_029, 2_030, 2_031, 2_032, 2_033, 5_000,
 ];
 
-/// Writes a packet of the client with the library.
-fn write_client_packet(packet: &FromClient, out: &mut [u8]) -> Result<usize, Refusal> {
-    match packet {
-        FromClient::RoutingRequest { key } => banavoge::routing_request(key, out),
-        FromClient::Drop { number } => banavoge::drop(*number, out),
-        FromClient::Ping { id } => banavoge::ping(*id, out),
-        FromClient::Pong { id } => banavoge::pong(*id, out),
-        FromClient::OobSend { key, data } => banavoge::oob_send(key, data, out),
-        FromClient::Data { number, data } => banavoge::data(*number, data, out),
-    }
-}
-
-/// Writes a packet of the relay with the library.
-fn write_relay_packet(packet: &FromRelay, out: &mut [u8]) -> Result<usize, Refusal> {
-    match packet {
-        FromRelay::RoutingResponse { number, key } => banavoge::routing_response(*number, key, out),
-        FromRelay::Connect { number } => banavoge::connect_notification(*number, out),
-        FromRelay::Disconnect { number } => banavoge::disconnect_notification(*number, out),
-        FromRelay::Ping { id } => banavoge::ping(*id, out),
-        FromRelay::Pong { id } => banavoge::pong(*id, out),
-        FromRelay::OobReceived { key, data } => banavoge::oob_received(key, data, out),
-        FromRelay::Data { number, data } => banavoge::data(*number, data, out),
-    }
-}
-
 /// The bytes that the library writes for a packet that it must accept.
 pub fn client_packet_written(packet: &FromClient) -> Vec<u8> {
     let mut out = vec![0; 2_048];
-    let count = write_client_packet(packet, &mut out).expect("a packet that may be sent");
+    let count = from_client(packet)
+        .write(&mut out)
+        .expect("a packet that may be sent");
     out.truncate(count);
     out
 }
@@ -49,7 +27,9 @@ pub fn client_packet_written(packet: &FromClient) -> Vec<u8> {
 /// The bytes that the library writes for a packet that it must accept.
 pub fn relay_packet_written(packet: &FromRelay) -> Vec<u8> {
     let mut out = vec![0; 2_048];
-    let count = write_relay_packet(packet, &mut out).expect("a packet that may be sent");
+    let count = from_relay(packet)
+        .write(&mut out)
+        .expect("a packet that may be sent");
     out.truncate(count);
     out
 }
@@ -150,7 +130,7 @@ impl Tallies {
             let outcome = compare(
                 &what,
                 length,
-                |out| write_client_packet(packet, out),
+                |out| from_client(packet).write(out),
                 |out| packet::write_from_client(packet, out),
             );
             accepted |= outcome.is_ok();
@@ -171,7 +151,7 @@ impl Tallies {
             let outcome = compare(
                 &what,
                 length,
-                |out| write_relay_packet(packet, out),
+                |out| from_relay(packet).write(out),
                 |out| packet::write_from_relay(packet, out),
             );
             accepted |= outcome.is_ok();
