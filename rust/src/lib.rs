@@ -1,8 +1,8 @@
 //! Safe Rust calls to the static library `libbanavoge.a`.
 //!
-//! [`FromClient`] and [`FromRelay`] are the packets of both ends, [`node`] has
-//! the packed nodes, [`nearest`] the nearest lists, [`room`] the room in lent
-//! memory, [`relay`] the calls on it.
+//! [`FromClient`] and [`FromRelay`] are the packets of both ends, [`Node`] is
+//! a packed node and [`Nodes`] a list of them, [`nearest`] has the nearest
+//! lists, [`room`] the room in lent memory, [`relay`] the calls on it.
 
 #![deny(unsafe_code, clippy::undocumented_unsafe_blocks)]
 
@@ -10,7 +10,8 @@ mod answer;
 mod connection_number;
 mod key;
 pub mod nearest;
-pub mod node;
+mod node;
+mod nodes;
 mod packet;
 #[allow(unsafe_code)]
 #[doc(hidden)]
@@ -22,5 +23,7 @@ pub mod room;
 use answer::accepted;
 pub use connection_number::ConnectionNumber;
 pub use key::Key;
+pub use node::{Node, Transport, LONGEST_NODE};
+pub use nodes::Nodes;
 pub use packet::{FromClient, FromRelay, LONGEST_PACKET};
 pub use refusal::Refusal;

@@ -6,12 +6,18 @@
 //!
 //! ```
 //! use banavoge::nearest;
-//! use banavoge::node::{Node, UDP_IPV4};
+//! use banavoge::{Key, Node, Transport};
+//! use std::net::Ipv4Addr;
 //!
 //! let ending = |last| {
-//!     let mut key = [0; 32];
-//!     key[31] = last;
-//!     Node { family: UDP_IPV4, key, ..Node::default() }
+//!     let mut key = Key([0; 32]);
+//!     key.0[31] = last;
+//!     Node {
+//!         transport: Transport::Udp,
+//!         ip: Ipv4Addr::LOCALHOST.into(),
+//!         port: 33_445,
+//!         key,
+//!     }
 //! };
 //!
 //! let mut list = vec![0; nearest::bytes()];
@@ -21,16 +27,15 @@
 //! assert!(!nearest::offer(&mut list, &ending(9))?);
 //! assert_eq!(nearest::node(&list, 0)?, Some(ending(3)));
 //!
-//! nearest::remove(&mut list, &ending(3).key)?;
+//! nearest::remove(&mut list, &ending(3).key.0)?;
 //! assert_eq!(nearest::node(&list, 0)?, Some(ending(5)));
 //! assert_eq!(nearest::node(&list, 1)?, None);
 //! assert_eq!(nearest::remove(&mut list, &[7; 32]), Err(banavoge::Refusal::KeyNotHeld));
 //! # Ok::<(), banavoge::Refusal>(())
 //! ```
 
-use crate::node::Node;
 use crate::raw::{self, Key};
-use crate::{accepted, Refusal};
+use crate::{accepted, Node, Refusal};
 
 /// How many bytes of memory a list takes.
 pub fn bytes() -> usize {
@@ -45,7 +50,7 @@ pub fn begin(list: &mut [u8], target: &Key, size: usize) -> Result<(), Refusal> 
 
 /// Offers a node and answers whether it is kept.
 pub fn offer(list: &mut [u8], node: &Node) -> Result<bool, Refusal> {
-    accepted(raw::nearest::offer(list, node)).map(|answer| answer == 1)
+    accepted(raw::nearest::offer(list, &node.parts())).map(|answer| answer == 1)
 }
 
 /// Takes out the node of a key.
@@ -56,7 +61,7 @@ pub fn remove(list: &mut [u8], key: &Key) -> Result<(), Refusal> {
 /// The node held at an index, the nearest at 0, or `None` where the list holds
 /// no more.
 pub fn node(list: &[u8], index: usize) -> Result<Option<Node>, Refusal> {
-    let mut node = Node::default();
-    let answer = accepted(raw::nearest::node(list, index, &mut node))?;
-    Ok((answer == 1).then_some(node))
+    let mut parts = raw::node::Parts::default();
+    let answer = accepted(raw::nearest::node(list, index, &mut parts))?;
+    Ok((answer == 1).then(|| Node::of_parts(&parts)))
 }

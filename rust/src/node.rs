@@ -1,107 +1,122 @@
-//! Packed nodes, and lists of them.
-//!
-//! A packed node is a family byte, the address, a 2-byte port and the key. A
-//! node list is 0 to 4 packed nodes with no byte over.
-//!
-//! ```
-//! use banavoge::node::{Node, Nodes};
-//!
-//! let mut list = [0; 39];
-//! list[..7].copy_from_slice(&[2, 127, 0, 0, 1, 0x82, 0xa5]);
-//! list[7..].fill(0x11);
-//!
-//! let mut nodes = Nodes::new(&list);
-//! while let Some(node) = nodes.step()? {
-//!     assert_eq!(node.family, banavoge::node::UDP_IPV4);
-//!     assert_eq!(node.address[..4], [127, 0, 0, 1]);
-//!     assert_eq!(node.port, 33445);
-//!     assert_eq!(node.key, [0x11; 32]);
-//!
-//!     let mut out = [0; 51];
-//!     let count = node.write(&mut out)?;
-//!     assert_eq!(out[..count], list);
-//! }
-//! assert_eq!(nodes.count(), 1);
-//!
-//! assert_eq!(Node::read(&list[..38], 0), Err(banavoge::Refusal::NodeCutShort));
-//! # Ok::<(), banavoge::Refusal>(())
-//! ```
+//! Packed nodes.
 
 use crate::answer::accepted;
-use crate::{raw, Refusal};
+use crate::raw::{self, node::Parts};
+use crate::{Key, Refusal};
+use std::net::{IpAddr, SocketAddr};
 
-/// The family of a node reached by UDP over IPv4.
-pub const UDP_IPV4: u8 = 2;
-/// The family of a node reached by UDP over IPv6.
-pub const UDP_IPV6: u8 = 10;
-/// The family of a node reached by TCP over IPv4.
-pub const TCP_IPV4: u8 = 130;
-/// The family of a node reached by TCP over IPv6.
-pub const TCP_IPV6: u8 = 138;
+/// The most bytes that a packed node has: one over IPv6. One over IPv4 has 39.
+pub const LONGEST_NODE: usize = 51;
 
-pub use crate::raw::node::Parts as Node;
+/// How a node is reached.
+#[derive(Debug, Clone, Copy, PartialEq, Eq, Hash)]
+pub enum Transport {
+    /// By UDP: family 2 over IPv4, 10 over IPv6.
+    Udp,
+    /// By TCP: family 130 over IPv4, 138 over IPv6.
+    Tcp,
+}
+
+/// A node: a key, and where it is reached.
+///
+/// Packed it is a family byte, the address, a 2-byte port and the key. The
+/// family byte tells the transport and the version of the address.
+///
+/// ```
+/// use banavoge::{Key, Node, Refusal, Transport, LONGEST_NODE};
+/// use std::net::Ipv4Addr;
+///
+/// let node = Node {
+///     transport: Transport::Udp,
+///     ip: Ipv4Addr::LOCALHOST.into(),
+///     port: 33_445,
+///     key: Key([0x11; 32]),
+/// };
+/// let mut out = [0; LONGEST_NODE];
+/// assert_eq!(node.write(&mut out), Ok(39));
+/// assert_eq!(out[..7], [2, 127, 0, 0, 1, 0x82, 0xa5]);
+///
+/// assert_eq!(Node::read(&out), Ok((node, 39)));
+/// assert_eq!(Node::read(&out[..38]), Err(Refusal::NodeCutShort));
+/// ```
+#[derive(Debug, Clone, Copy, PartialEq, Eq, Hash)]
+pub struct Node {
+    /// How it is reached.
+    pub transport: Transport,
+    /// Its address.
+    pub ip: IpAddr,
+    /// Its port, which may be 0.
+    pub port: u16,
+    /// Its key.
+    pub key: Key,
+}
 
 impl Node {
-    /// Reads the node that starts at the place `at`, whatever bytes follow it.
-    /// Answers the node and the place behind it.
-    pub fn read(bytes: &[u8], at: usize) -> Result<(Node, usize), Refusal> {
-        let mut node = Node::default();
-        let mut next = 0;
-        accepted(raw::node::read(bytes, at, &mut node, &mut next))?;
-        Ok((node, next))
+    /// Reads the node at the front of `bytes`, which more may follow. Answers
+    /// the node and how many bytes it has. Refused with 15 or 16.
+    pub fn read(bytes: &[u8]) -> Result<(Node, usize), Refusal> {
+        let mut parts = Parts::default();
+        let mut count = 0;
+        accepted(raw::node::read(bytes, 0, &mut parts, &mut count))?;
+        Ok((Node::of_parts(&parts), count))
     }
 
-    /// Writes the node at the front of `out` and answers how many bytes it
-    /// has, 39 or 51.
+    /// Writes the packed node at the front of `out` and answers how many bytes
+    /// it has; the bytes behind it stay. Refused with 10.
     pub fn write(&self, out: &mut [u8]) -> Result<usize, Refusal> {
-        accepted(raw::node::write(self, out))
+        accepted(raw::node::write(&self.parts(), out))
     }
-}
 
-/// A walker through a lent node list.
-#[derive(Debug, Clone, Copy, PartialEq, Eq)]
-pub struct Nodes<'a> {
-    list: &'a [u8],
-    place: usize,
-    count: usize,
-}
+    /// Its address and port together.
+    pub const fn socket_address(&self) -> SocketAddr {
+        SocketAddr::new(self.ip, self.port)
+    }
 
-impl<'a> Nodes<'a> {
-    /// A walker at the start of a list.
-    pub fn new(list: &'a [u8]) -> Nodes<'a> {
-        Nodes {
-            list,
-            place: 0,
-            count: 0,
+    /// The node in the library's parts. The address bytes that IPv4 does not
+    /// use are 0.
+    pub(crate) fn parts(&self) -> Parts {
+        let mut address = [0; 16];
+        match self.ip {
+            IpAddr::V4(ip) => address[..4].copy_from_slice(&ip.octets()),
+            IpAddr::V6(ip) => address = ip.octets(),
+        }
+        Parts {
+            family: family(self.transport, self.ip),
+            address,
+            port: self.port,
+            key: self.key.0,
         }
     }
 
-    /// Shows the next node, or `None` at the end. At the end and on a refusal
-    /// the walker stays as it was.
-    pub fn step(&mut self) -> Result<Option<Node>, Refusal> {
-        let mut node = Node::default();
-        let mut next = 0;
-        let answer = raw::node::step(self.list, self.place, self.count, &mut node, &mut next);
-        if accepted(answer)? == 0 {
-            return Ok(None);
+    /// The node of parts that the library has shown, so of a known family.
+    pub(crate) fn of_parts(parts: &Parts) -> Node {
+        let [a, b, c, d, ..] = parts.address;
+        let (transport, ip) = match parts.family {
+            UDP_IPV4 => (Transport::Udp, [a, b, c, d].into()),
+            UDP_IPV6 => (Transport::Udp, parts.address.into()),
+            TCP_IPV4 => (Transport::Tcp, [a, b, c, d].into()),
+            TCP_IPV6 => (Transport::Tcp, parts.address.into()),
+            family => unreachable!("family {family} in a node that is shown"),
+        };
+        Node {
+            transport,
+            ip,
+            port: parts.port,
+            key: Key(parts.key),
         }
-        self.place = next;
-        self.count += 1;
-        Ok(Some(node))
     }
+}
 
-    /// The list that is walked.
-    pub fn list(&self) -> &'a [u8] {
-        self.list
-    }
+const UDP_IPV4: u8 = 2;
+const UDP_IPV6: u8 = 10;
+const TCP_IPV4: u8 = 130;
+const TCP_IPV6: u8 = 138;
 
-    /// Where the next node starts.
-    pub fn place(&self) -> usize {
-        self.place
-    }
-
-    /// How many nodes were shown.
-    pub fn count(&self) -> usize {
-        self.count
+fn family(transport: Transport, ip: IpAddr) -> u8 {
+    match (transport, ip) {
+        (Transport::Udp, IpAddr::V4(_)) => UDP_IPV4,
+        (Transport::Udp, IpAddr::V6(_)) => UDP_IPV6,
+        (Transport::Tcp, IpAddr::V4(_)) => TCP_IPV4,
+        (Transport::Tcp, IpAddr::V6(_)) => TCP_IPV6,
     }
 }

@@ -3,7 +3,7 @@
 //! The memory's layout is known here from docs/ARCHITECTURE.md alone.
 
 use crate::generator::{Generator, FAMILIES};
-use crate::nodes::{to_library, NODE_BEFORE};
+use crate::nodes::{to_parts, NODE_BEFORE};
 use crate::output::Output;
 use crate::tally::{say, Tally};
 use banavoge::raw;
@@ -172,7 +172,7 @@ impl Tallies {
                 outcome
             }
         };
-        let answer = raw::nearest::offer(memory.lent(), &to_library(node));
+        let answer = raw::nearest::offer(memory.lent(), &to_parts(node));
         assert_eq!(answer, code(&outcome.map(i32::from)), "offer of {node:?}");
         same_memory(memory, &expected, &("offer", node));
         self.offered.add(&outcome);
@@ -222,7 +222,7 @@ impl Tallies {
                 Ok(Some(node)) => {
                     self.shown += 1;
                     assert_eq!(answer, 1, "node {index}");
-                    to_library(node)
+                    to_parts(node)
                 }
                 Ok(None) => {
                     self.none += 1;

@@ -2,13 +2,14 @@
 
 use crate::generator::{Generator, FAMILIES};
 use crate::tally::{say, Tally};
-use crate::writers::compare;
-use banavoge::node::{Node as LibraryNode, Nodes};
-use banavoge::{raw, Refusal};
+use crate::writers::{answered, compare};
+use banavoge::raw::{self, node::Parts};
+use banavoge::{Key, Nodes, Refusal, Transport};
 use reference::node::{self, Node, Step};
+use std::net::{IpAddr, Ipv4Addr, Ipv6Addr};
 
 /// What stands in the lent node before a call, so that a write shows.
-pub const NODE_BEFORE: LibraryNode = LibraryNode {
+pub const NODE_BEFORE: Parts = Parts {
     family: 0xa5,
     address: [0xa5; 16],
     port: 0xa55a,
@@ -41,9 +42,9 @@ const FAR_PLACES: [usize; 4] = [
     usize::MAX,
 ];
 
-/// A node of the reference as one of the library.
-pub fn to_library(node: &Node) -> LibraryNode {
-    LibraryNode {
+/// A node of the reference in the parts that the library takes.
+pub fn to_parts(node: &Node) -> Parts {
+    Parts {
         family: node.family,
         address: node.address,
         port: node.port,
@@ -51,11 +52,33 @@ pub fn to_library(node: &Node) -> LibraryNode {
     }
 }
 
+/// A node of the reference, of known family, as the library's node.
+pub fn to_library(node: &Node) -> banavoge::Node {
+    let ipv4 = || {
+        let first: [u8; 4] = node.address[..4].try_into().expect("4 bytes");
+        IpAddr::from(Ipv4Addr::from(first))
+    };
+    let ipv6 = || IpAddr::from(Ipv6Addr::from(node.address));
+    let (transport, ip) = match node.family {
+        2 => (Transport::Udp, ipv4()),
+        10 => (Transport::Udp, ipv6()),
+        130 => (Transport::Tcp, ipv4()),
+        138 => (Transport::Tcp, ipv6()),
+        family => panic!("family {family} is not known"),
+    };
+    banavoge::Node {
+        transport,
+        ip,
+        port: node.port,
+        key: Key(node.key),
+    }
+}
+
 /// All that a reader or a step answers and leaves behind.
 #[derive(Debug, PartialEq, Eq)]
 struct Reading {
     answer: i32,
-    node: LibraryNode,
+    node: Parts,
     next: usize,
 }
 
@@ -69,7 +92,7 @@ fn nothing_shown(answer: i32) -> Reading {
 }
 
 /// What a library's call answers and leaves behind.
-fn found(call: impl Fn(&mut LibraryNode, &mut usize) -> i32) -> Reading {
+fn found(call: impl Fn(&mut Parts, &mut usize) -> i32) -> Reading {
     let mut node = NODE_BEFORE;
     let mut next = NEXT_BEFORE;
     let answer = call(&mut node, &mut next);
@@ -83,7 +106,7 @@ fn compare_read(bytes: &[u8], at: usize) -> Result<(Node, usize), u8> {
     let expected = match &outcome {
         Ok((node, next)) => Reading {
             answer: 0,
-            node: to_library(node),
+            node: to_parts(node),
             next: *next,
         },
         Err(number) => nothing_shown(-i32::from(*number)),
@@ -95,6 +118,15 @@ fn compare_read(bytes: &[u8], at: usize) -> Result<(Node, usize), u8> {
         "node read at {at} of {} bytes: {bytes:02x?}",
         bytes.len()
     );
+    let front = bytes.get(at..).unwrap_or(&[]);
+    assert_eq!(
+        banavoge::Node::read(front).map_err(Refusal::number),
+        outcome
+            .as_ref()
+            .map(|(node, next)| (to_library(node), next - at))
+            .map_err(|number| *number),
+        "node read at the front of {front:02x?}"
+    );
     outcome
 }
 
@@ -105,7 +137,7 @@ fn compare_step(list: &[u8], place: usize, count: usize) -> Result<Step, u8> {
     let expected = match &outcome {
         Ok(Step::Shown { node, next }) => Reading {
             answer: 1,
-            node: to_library(node),
+            node: to_parts(node),
             next: *next,
         },
         Ok(Step::End) => nothing_shown(0),
@@ -128,20 +160,32 @@ fn compare_walk(list: &[u8], tallies: &mut Tallies) -> Result<(), u8> {
     let (expected, end) = node::walk(list);
     let mut walker = Nodes::new(list);
     for node in &expected {
-        tallies.run_step(list, walker.place(), walker.count());
+        tallies.run_step(list, walker.place(), walker.shown());
         assert_eq!(walker.step(), Ok(Some(to_library(node))), "{list:02x?}");
     }
-    tallies.run_step(list, walker.place(), walker.count());
+    tallies.run_step(list, walker.place(), walker.shown());
 
     // Neither the end nor a refusal moves the walker.
-    let before = walker;
+    let before = walker.clone();
     let expected_end = end.map(|()| None);
     for _ in 0..2 {
         let found = walker.step().map_err(Refusal::number);
         assert_eq!(found, expected_end, "{list:02x?}");
         assert_eq!(walker, before);
     }
-    assert_eq!(walker.count(), expected.len());
+    assert_eq!(walker.shown(), expected.len());
+
+    // As an iterator it shows the nodes, then the refusal if there is one, and
+    // nothing after that.
+    let mut iterator = Nodes::new(list);
+    let expected = expected.iter().map(|node| Ok(to_library(node)));
+    for item in expected.chain(end.err().map(Err)) {
+        let found = iterator.next().map(|shown| shown.map_err(Refusal::number));
+        assert_eq!(found, Some(item), "{list:02x?}");
+    }
+    for _ in 0..2 {
+        assert_eq!(iterator.next(), None, "{list:02x?}");
+    }
     end
 }
 
@@ -251,16 +295,26 @@ impl Tallies {
     /// Compares the writer on one node with every output length around its
     /// own, then reads back what was written.
     fn run_write(&mut self, node: &Node) {
-        let library_node = to_library(node);
+        let parts = to_parts(node);
+        let known = FAMILIES.contains(&node.family).then(|| to_library(node));
         let what = format!("{node:?}");
         let mut accepted = false;
         for length in output_lengths(node.family) {
             let outcome = compare(
                 &what,
                 *length,
-                |out| library_node.write(out),
+                |out| answered(raw::node::write(&parts, out)),
                 |out| node::write(node, out),
             );
+            if let Some(known) = known {
+                let safely = compare(
+                    &what,
+                    *length,
+                    |out| known.write(out).map_err(Refusal::number),
+                    |out| node::write(node, out),
+                );
+                assert_eq!(safely, outcome, "{what}");
+            }
             accepted |= outcome.is_ok();
             self.written.add(&outcome);
         }
@@ -290,17 +344,25 @@ fn named_nodes(tallies: &mut Tallies) {
         let mut bytes = bytes.clone();
         bytes[0] = family;
         tallies.run_read(&bytes, 0);
-        let (node, next) = LibraryNode::read(&bytes, 0).expect("a good node");
-        assert_eq!((node.family, next), (family, 39));
-        assert_eq!(node.address[..4], [127, 0, 0, 1]);
-        assert_eq!(node.address[4..], [0; 12]);
-        assert_eq!(node.port, 33_445);
-        assert_eq!(node.key, [0x11; 32]);
+        let mut parts = NODE_BEFORE;
+        let mut next = NEXT_BEFORE;
+        assert_eq!(raw::node::read(&bytes, 0, &mut parts, &mut next), 0);
+        assert_eq!((parts.family, next), (family, 39));
+        assert_eq!(parts.address[..4], [127, 0, 0, 1]);
+        assert_eq!(parts.address[4..], [0; 12]);
+        assert_eq!(parts.port, 33_445);
+        assert_eq!(parts.key, [0x11; 32]);
+
+        let (node, count) = banavoge::Node::read(&bytes).expect("a good node");
+        assert_eq!(count, 39);
+        assert_eq!(node.transport == Transport::Tcp, family == 130);
+        assert_eq!(node.socket_address().to_string(), "127.0.0.1:33445");
+        assert_eq!(node.key, Key([0x11; 32]));
     }
-    let refused = LibraryNode::read(&bytes[..38], 0);
-    assert_eq!(refused, Err(Refusal::NodeCutShort));
-    assert_eq!(LibraryNode::read(&[], 0), Err(Refusal::NodeCutShort));
-    assert_eq!(LibraryNode::read(&[1], 0), Err(Refusal::UnknownFamily));
+    let read = banavoge::Node::read;
+    assert_eq!(read(&bytes[..38]), Err(Refusal::NodeCutShort));
+    assert_eq!(read(&[]), Err(Refusal::NodeCutShort));
+    assert_eq!(read(&[1]), Err(Refusal::UnknownFamily));
 }
 
 /// Every family byte, with bytes enough for any node and cut at every byte,

@@ -72,12 +72,17 @@ fn outputs(length: usize) -> [Output; 2] {
     [Output::new(length, 0x5a), Output::new(length, 0xa5)]
 }
 
+/// The outcome that an answer of the library tells.
+pub fn answered(answer: i32) -> Result<usize, u8> {
+    usize::try_from(answer).map_err(|_| answer.unsigned_abs() as u8)
+}
+
 /// Compares two writers on one packet or node and one output length, and
 /// answers the reference's outcome.
 pub fn compare(
     what: &str,
     length: usize,
-    by_library: impl Fn(&mut [u8]) -> Result<usize, Refusal>,
+    by_library: impl Fn(&mut [u8]) -> Result<usize, u8>,
     by_reference: impl Fn(&mut [u8]) -> Result<usize, u8>,
 ) -> Result<usize, u8> {
     let outcomes =
@@ -89,7 +94,7 @@ pub fn compare(
 fn compare_on(
     what: &str,
     before: &Output,
-    by_library: &impl Fn(&mut [u8]) -> Result<usize, Refusal>,
+    by_library: &impl Fn(&mut [u8]) -> Result<usize, u8>,
     by_reference: &impl Fn(&mut [u8]) -> Result<usize, u8>,
 ) -> Result<usize, u8> {
     let mut expected = before.clone();
@@ -97,11 +102,7 @@ fn compare_on(
     let mut found = before.clone();
     let length = found.lent().len();
     let answered = by_library(found.lent());
-    assert_eq!(
-        answered.map_err(Refusal::number),
-        outcome,
-        "{what}, output of {length} bytes"
-    );
+    assert_eq!(answered, outcome, "{what}, output of {length} bytes");
     if found != expected {
         let place = found.first_difference(&expected);
         panic!("{what}, output of {length} bytes: byte {place} is wrong");
@@ -130,7 +131,7 @@ impl Tallies {
             let outcome = compare(
                 &what,
                 length,
-                |out| from_client(packet).write(out),
+                |out| from_client(packet).write(out).map_err(Refusal::number),
                 |out| packet::write_from_client(packet, out),
             );
             accepted |= outcome.is_ok();
@@ -151,7 +152,7 @@ impl Tallies {
             let outcome = compare(
                 &what,
                 length,
-                |out| from_relay(packet).write(out),
+                |out| from_relay(packet).write(out).map_err(Refusal::number),
                 |out| packet::write_from_relay(packet, out),
             );
             accepted |= outcome.is_ok();
