@@ -1,15 +1,16 @@
 //! Safe Rust calls to the static library `libbanavoge.a`.
 //!
 //! [`FromClient`] and [`FromRelay`] are the packets of both ends, [`Node`] is
-//! a packed node and [`Nodes`] a list of them, [`nearest`] has the nearest
-//! lists, [`room`] the room in lent memory, [`relay`] the calls on it.
+//! a packed node and [`Nodes`] a list of them, [`NearestList`] a
+//! nearest list; [`room`] has the room in lent memory, [`relay`] the calls on
+//! it.
 
 #![deny(unsafe_code, clippy::undocumented_unsafe_blocks)]
 
 mod answer;
 mod connection_number;
 mod key;
-pub mod nearest;
+mod nearest;
 mod node;
 mod nodes;
 mod packet;
@@ -23,6 +24,7 @@ pub mod room;
 use answer::accepted;
 pub use connection_number::ConnectionNumber;
 pub use key::Key;
+pub use nearest::{HeldNodes, NearestList};
 pub use node::{Node, Transport, LONGEST_NODE};
 pub use nodes::Nodes;
 pub use packet::{FromClient, FromRelay, LONGEST_PACKET};

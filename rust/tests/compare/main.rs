@@ -10,6 +10,7 @@ mod memory;
 mod nearest;
 mod nodes;
 mod output;
+mod owned_lists;
 mod packets;
 mod readers;
 mod relay;

@@ -6,7 +6,7 @@ use crate::generator::{Generator, FAMILIES};
 use crate::nodes::{to_parts, NODE_BEFORE};
 use crate::output::Output;
 use crate::tally::{say, Tally};
-use banavoge::raw;
+use banavoge::{raw, NearestList};
 use reference::key::Key;
 use reference::nearest::{self, List};
 use reference::node::Node;
@@ -77,7 +77,7 @@ fn node_in(slot: &[u8]) -> Node {
 /// The list that stands in memory, if the memory is long enough for one. A
 /// count may tell of more nodes than there are slots; those behind the slots
 /// are made up, since such a list is longer than any size.
-fn list_in(memory: &[u8]) -> Option<List> {
+pub fn list_in(memory: &[u8]) -> Option<List> {
     if memory.len() < LIST_BYTES {
         return None;
     }
@@ -256,7 +256,7 @@ fn memory_for_a_list(generator: &mut Generator) -> Output {
 /// Keys around a target: its own, some that differ in one bit or in the last
 /// byte, and some far off. A list that is offered these meets each of them
 /// more than once.
-fn keys_around(generator: &mut Generator, target: &Key) -> Vec<Key> {
+pub fn keys_around(generator: &mut Generator, target: &Key) -> Vec<Key> {
     let mut keys = vec![*target];
     for _ in 0..10 {
         let mut key = *target;
@@ -275,7 +275,7 @@ fn keys_around(generator: &mut Generator, target: &Key) -> Vec<Key> {
 }
 
 /// A node to offer, of unknown family now and then.
-fn node_to_offer(generator: &mut Generator, keys: &[Key]) -> Node {
+pub fn node_to_offer(generator: &mut Generator, keys: &[Key]) -> Node {
     let mut node = generator.node();
     if generator.below(10) > 0 {
         node.key = generator.pick(keys);
@@ -307,7 +307,7 @@ fn key_to_remove(generator: &mut Generator, memory: &mut Output, keys: &[Key]) -
 
 /// The memory with one thing wrong by the layout, or with nothing wrong after
 /// all where the list holds too few nodes.
-fn damaged(generator: &mut Generator, memory: &Output) -> Output {
+pub fn damaged(generator: &mut Generator, memory: &Output) -> Output {
     let mut memory = memory.clone();
     let bytes = memory.lent();
     let size = bytes[SIZE_PLACE];
@@ -348,7 +348,7 @@ fn damaged(generator: &mut Generator, memory: &Output) -> Output {
 }
 
 /// The front of the memory, too short for a list.
-fn too_short(generator: &mut Generator, memory: &Output) -> Output {
+pub fn too_short(generator: &mut Generator, memory: &Output) -> Output {
     let any_length = generator.below(LIST_BYTES);
     let length = generator.pick(&[0, 1, 2, 34, LIST_BYTES - 1, LIST_BYTES - 51, any_length]);
     let mut short = Output::new(length, generator.byte());
@@ -426,7 +426,8 @@ fn named_lists(tallies: &mut Tallies) {
 
 #[test]
 fn nearest_lists_agree_with_the_reference() {
-    assert_eq!(banavoge::nearest::bytes(), LIST_BYTES);
+    assert_eq!(raw::nearest::bytes(), LIST_BYTES);
+    assert_eq!(NearestList::BYTES, LIST_BYTES);
     let mut generator = Generator::new(5);
     let mut tallies = Tallies {
         begun: Tally::new(),
