@@ -5,7 +5,8 @@ use std::fmt;
 /// The number of a route: what a client and the relay call one connection.
 ///
 /// Each client has its own, so the two ends of a connection may have different
-/// numbers for it.
+/// numbers for it. It is no [`Seat`](crate::Seat), and neither is taken where
+/// the other belongs.
 ///
 /// Any byte can be written here. Whether a packet may carry it is judged by
 /// the library, and whether it names a route by the room.

@@ -2,8 +2,7 @@
 //!
 //! [`FromClient`] and [`FromRelay`] are the packets of both ends, [`Node`] is
 //! a packed node and [`Nodes`] a list of them, [`NearestList`] a
-//! nearest list; [`room`] has the room in lent memory, [`relay`] the calls on
-//! it.
+//! nearest list, and [`Room`] the relay.
 
 #![deny(unsafe_code, clippy::undocumented_unsafe_blocks)]
 
@@ -17,15 +16,18 @@ mod packet;
 #[allow(unsafe_code)]
 #[doc(hidden)]
 pub mod raw;
+mod record;
 mod refusal;
-pub mod relay;
-pub mod room;
+mod room;
+mod seat;
 
-use answer::accepted;
 pub use connection_number::ConnectionNumber;
 pub use key::Key;
 pub use nearest::{HeldNodes, NearestList};
 pub use node::{Node, Transport, LONGEST_NODE};
 pub use nodes::Nodes;
 pub use packet::{FromClient, FromRelay, LONGEST_PACKET};
+pub use record::{Record, Records};
 pub use refusal::Refusal;
+pub use room::{Room, LEAST_OUTPUT};
+pub use seat::Seat;

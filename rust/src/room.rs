@@ -1,34 +1,152 @@
-//! The room: seats, the keys that they hold, and the routes of each.
-//!
-//! A room lives in memory of the caller, of [`bytes`] bytes or more.
-//!
-//! ```
-//! use banavoge::room;
-//!
-//! let mut memory = vec![0; room::bytes()];
-//! assert_eq!(room::check(&memory), Err(banavoge::Refusal::RoomNotWhole));
-//! room::empty(&mut memory)?;
-//! room::check(&memory)?;
-//!
-//! let short = &mut memory[1..];
-//! assert_eq!(room::empty(short), Err(banavoge::Refusal::OutputTooShort));
-//! # Ok::<(), banavoge::Refusal>(())
-//! ```
+//! The room: the relay itself.
 
-use crate::{accepted, raw, Refusal};
+use crate::answer::accepted;
+use crate::raw;
+use crate::{Key, Records, Refusal, Seat};
+use std::fmt;
 
-/// How many bytes of memory a room takes.
-pub fn bytes() -> usize {
-    raw::room::bytes()
+/// The least output to lend to [`Room::packet`] and [`Room::leave`]: with less
+/// they are refused with 10, whatever they would send. It is enough for every
+/// call.
+pub const LEAST_OUTPUT: usize = 2_048;
+
+/// A room: 40 seats, each empty or with one client's key and its 32 routes.
+///
+/// The relay's three calls are [`arrive`](Room::arrive),
+/// [`packet`](Room::packet) and [`leave`](Room::leave). What they send is
+/// written into an output that the caller lends; no call allocates. A refused
+/// call leaves room and output as they were.
+///
+/// A room owns its memory, which only the library's calls change, so it is
+/// always whole: 11 is refused where a room is made from bytes, and nowhere
+/// else.
+#[derive(Clone)]
+pub struct Room {
+    memory: Box<[u8]>,
 }
 
-/// Makes memory the empty room. Memory that is too short is refused and left
-/// as it was.
-pub fn empty(room: &mut [u8]) -> Result<(), Refusal> {
-    accepted(raw::room::empty(room)).map(|_| ())
+impl Room {
+    /// How many seats there are: 0 to 39.
+    pub const SEATS: usize = 40;
+
+    /// How many connection numbers each seat has: 16 to 47.
+    pub const NUMBERS: usize = 32;
+
+    /// How many bytes a room takes.
+    pub const BYTES: usize = 43_923;
+
+    /// The empty room.
+    pub fn empty() -> Room {
+        let mut memory = vec![0; Room::BYTES].into_boxed_slice();
+        accepted(raw::room::empty(&mut memory)).expect("the memory is as long as a room");
+        Room { memory }
+    }
+
+    /// The room that stands at the front of bytes that were kept, tested in
+    /// full. Refused with 11; fewer than [`Room::BYTES`] bytes are no room, and
+    /// bytes behind the room are left out.
+    ///
+    /// ```
+    /// use banavoge::{Key, Refusal, Room};
+    ///
+    /// let mut room = Room::empty();
+    /// room.arrive(&Key([1; 32]))?;
+    /// let mut kept = room.as_bytes().to_vec();
+    ///
+    /// let mut room = Room::from_bytes(&kept)?;
+    /// assert_eq!(room.arrive(&Key([1; 32])), Err(Refusal::AlreadySeated));
+    ///
+    /// kept[0] = 41;
+    /// assert_eq!(Room::from_bytes(&kept).err(), Some(Refusal::RoomNotWhole));
+    /// # Ok::<(), Refusal>(())
+    /// ```
+    pub fn from_bytes(bytes: &[u8]) -> Result<Room, Refusal> {
+        accepted(raw::room::check(bytes))?;
+        let memory = bytes[..Room::BYTES].into();
+        Ok(Room { memory })
+    }
+
+    /// The bytes of the room, to be kept. Their layout is drawn in
+    /// docs/ARCHITECTURE.md. Bytes that are no part of the room, such as the
+    /// keys of clients that have left, stand among them.
+    pub fn as_bytes(&self) -> &[u8] {
+        &self.memory
+    }
+
+    /// A client arrives: its key takes the lowest empty seat, and nothing is
+    /// sent. Refused with 2 or 1.
+    ///
+    /// ```
+    /// use banavoge::{Key, Refusal, Room, Seat};
+    ///
+    /// let mut room = Room::empty();
+    /// assert_eq!(room.arrive(&Key([1; 32])), Ok(Seat(0)));
+    /// assert_eq!(room.arrive(&Key([2; 32])), Ok(Seat(1)));
+    /// assert_eq!(room.arrive(&Key([1; 32])), Err(Refusal::AlreadySeated));
+    /// ```
+    pub fn arrive(&mut self, key: &Key) -> Result<Seat, Refusal> {
+        let seat = accepted(raw::relay::arrive(&mut self.memory, &key.0))?;
+        Ok(Seat(u8::try_from(seat).expect("a seat is a byte")))
+    }
+
+    /// The client in a seat leaves: each client connected with it is told, and
+    /// the seat is empty. Refused with 10 or 3.
+    ///
+    /// ```
+    /// use banavoge::{Key, Refusal, Room, LEAST_OUTPUT};
+    ///
+    /// let mut room = Room::empty();
+    /// let seat = room.arrive(&Key([1; 32]))?;
+    /// let mut out = [0; LEAST_OUTPUT];
+    /// for record in room.leave(seat, &mut out)? {
+    ///     println!("{} bytes for {}", record.packet.len(), record.seat);
+    /// }
+    /// let again = room.leave(seat, &mut out);
+    /// assert_eq!(again.err(), Some(Refusal::NotSeated));
+    /// # Ok::<(), Refusal>(())
+    /// ```
+    pub fn leave<'o>(&mut self, seat: Seat, out: &'o mut [u8]) -> Result<Records<'o>, Refusal> {
+        let count = accepted(raw::relay::leave(&mut self.memory, seat.0, out))?;
+        Ok(Records::written(&out[..count]))
+    }
+
+    /// The client in a seat sends a packet, which the relay reads and acts on.
+    /// Refused with 10 or 3 to 9.
+    ///
+    /// ```
+    /// use banavoge::{FromRelay, Key, Refusal, Room, LEAST_OUTPUT};
+    ///
+    /// let mut room = Room::empty();
+    /// let seat = room.arrive(&Key([1; 32]))?;
+    /// let mut out = [0; LEAST_OUTPUT];
+    /// let ping = [4, 0, 0, 0, 0, 0, 0, 0, 9];
+    /// for record in room.packet(seat, &ping, &mut out)? {
+    ///     assert_eq!(FromRelay::read(record.packet), Ok(FromRelay::Pong(9)));
+    /// }
+    /// let nothing = room.packet(seat, &[], &mut out);
+    /// assert_eq!(nothing.err(), Some(Refusal::PacketSize));
+    /// # Ok::<(), Refusal>(())
+    /// ```
+    pub fn packet<'o>(
+        &mut self,
+        seat: Seat,
+        packet: &[u8],
+        out: &'o mut [u8],
+    ) -> Result<Records<'o>, Refusal> {
+        let count = accepted(raw::relay::packet(&mut self.memory, seat.0, packet, out))?;
+        Ok(Records::written(&out[..count]))
+    }
 }
 
-/// Tests memory in full: refused unless it holds a whole room.
-pub fn check(room: &[u8]) -> Result<(), Refusal> {
-    accepted(raw::room::check(room)).map(|_| ())
+impl Default for Room {
+    /// The empty room.
+    fn default() -> Room {
+        Room::empty()
+    }
+}
+
+impl fmt::Debug for Room {
+    fn fmt(&self, f: &mut fmt::Formatter<'_>) -> fmt::Result {
+        f.debug_struct("Room").finish_non_exhaustive()
+    }
 }

@@ -1,76 +1,74 @@
 //! Document 01's examples of the relay, made on the library: those marked P,
 //! which are proved too, the bounds, and the errors that students make.
 
-use banavoge::raw::Key;
-use banavoge::{relay, room, Refusal};
+use banavoge::{Key, Refusal, Room, Seat, LEAST_OUTPUT};
 
-const KA: Key = [0x11; 32];
-const KB: Key = [0x22; 32];
-const KC: Key = [0x33; 32];
+const KA: Key = Key([0x11; 32]);
+const KB: Key = Key([0x22; 32]);
+const KC: Key = Key([0x33; 32]);
 
-/// A host: the memory of a room, and the output that it lends.
+/// A host: a room, and the output that it lends. What is sent is shown as the
+/// bytes of its records.
 struct Host {
-    room: Vec<u8>,
-    out: [u8; 2_048],
+    room: Room,
+    out: [u8; LEAST_OUTPUT],
 }
 
 impl Host {
     fn new() -> Self {
-        let mut room = vec![0; room::bytes()];
-        room::empty(&mut room).expect("the memory is long enough");
         Host {
-            room,
-            out: [0xEE; 2_048],
+            room: Room::empty(),
+            out: [0xEE; LEAST_OUTPUT],
         }
     }
 
-    fn arrive(&mut self, key: &Key) -> Result<u8, Refusal> {
-        relay::arrive(&mut self.room, key)
+    fn arrive(&mut self, key: &Key) -> Result<Seat, Refusal> {
+        self.room.arrive(key)
     }
 
-    fn leave(&mut self, seat: u8) -> Result<Vec<u8>, Refusal> {
-        let count = relay::leave(&mut self.room, seat, &mut self.out)?;
-        Ok(self.out[..count].to_vec())
+    fn leave(&mut self, seat: Seat) -> Result<Vec<u8>, Refusal> {
+        let records = self.room.leave(seat, &mut self.out)?;
+        Ok(records.as_bytes().to_vec())
     }
 
-    fn packet(&mut self, seat: u8, packet: &[u8]) -> Result<Vec<u8>, Refusal> {
-        let count = relay::packet(&mut self.room, seat, packet, &mut self.out)?;
-        Ok(self.out[..count].to_vec())
+    fn packet(&mut self, seat: Seat, packet: &[u8]) -> Result<Vec<u8>, Refusal> {
+        let records = self.room.packet(seat, packet, &mut self.out)?;
+        Ok(records.as_bytes().to_vec())
     }
 
-    fn request(&mut self, seat: u8, key: &Key) -> Result<Vec<u8>, Refusal> {
-        self.packet(seat, &[&[0], &key[..]].concat())
+    fn request(&mut self, seat: Seat, key: &Key) -> Result<Vec<u8>, Refusal> {
+        self.packet(seat, &[&[0], &key.0[..]].concat())
     }
 
     /// P5: KA in seat 0 and KB in seat 1, each with number 16 for the other.
     fn connected() -> Self {
         let mut host = Host::new();
-        assert_eq!(host.arrive(&KA), Ok(0));
-        assert_eq!(host.arrive(&KB), Ok(1));
-        host.request(0, &KB).expect("a request is accepted");
-        host.request(1, &KA).expect("a request is accepted");
+        assert_eq!(host.arrive(&KA), Ok(Seat(0)));
+        assert_eq!(host.arrive(&KB), Ok(Seat(1)));
+        host.request(Seat(0), &KB).expect("a request is accepted");
+        host.request(Seat(1), &KA).expect("a request is accepted");
         host
     }
 }
 
 /// The record of an answer to a request.
 fn answer(seat: u8, number: u8, key: &Key) -> Vec<u8> {
-    [&[seat, 0, 0x22, 1, number], &key[..]].concat()
+    [&[seat, 0, 0x22, 1, number], &key.0[..]].concat()
 }
 
 fn key_of(number: u8) -> Key {
-    let mut key = [0; 32];
-    key[31] = number;
+    let mut key = Key([0; 32]);
+    key.0[31] = number;
     key
 }
 
 #[test]
 fn p1_to_p6_two_clients_connect_and_send() {
     let mut host = Host::new();
-    assert_eq!(host.arrive(&KA), Ok(0));
-    assert_eq!(host.arrive(&KB), Ok(1));
+    assert_eq!(host.arrive(&KA), Ok(Seat(0)));
+    assert_eq!(host.arrive(&KB), Ok(Seat(1)));
     assert_eq!(host.arrive(&KA), Err(Refusal::AlreadySeated));
-    assert_eq!(host.request(0, &KB), Ok(answer(0, 0x10, &KB)));
+    assert_eq!(host.request(Seat(0), &KB), Ok(answer(0, 0x10, &KB)));
     let told = [
         &answer(1, 0x10, &KA)[..],
         &[1, 0, 2, 2, 0x10],
@@ -78,9 +76,9 @@ fn p1_to_p6_two_clients_connect_and_send() {
     ]
     .concat();
     assert_eq!(told.len(), 47);
-    assert_eq!(host.request(1, &KA), Ok(told));
+    assert_eq!(host.request(Seat(1), &KA), Ok(told));
     assert_eq!(
-        host.packet(0, &[0x10, 0x61, 0x62]),
+        host.packet(Seat(0), &[0x10, 0x61, 0x62]),
         Ok(vec![1, 0, 3, 0x10, 0x61, 0x62])
     );
 }
@@ -88,20 +86,20 @@ fn p1_to_p6_two_clients_connect_and_send() {
 #[test]
 fn p7_p8_data_on_a_waiting_number_and_on_none() {
     let mut host = Host::new();
-    assert_eq!(host.arrive(&KA), Ok(0));
-    assert_eq!(host.arrive(&KB), Ok(1));
-    assert_eq!(host.request(0, &KB), Ok(answer(0, 0x10, &KB)));
+    assert_eq!(host.arrive(&KA), Ok(Seat(0)));
+    assert_eq!(host.arrive(&KB), Ok(Seat(1)));
+    assert_eq!(host.request(Seat(0), &KB), Ok(answer(0, 0x10, &KB)));
     assert_eq!(
-        host.packet(0, &[0x10, 0x61, 0x62]),
+        host.packet(Seat(0), &[0x10, 0x61, 0x62]),
         Err(Refusal::NotConnected)
     );
     assert_eq!(
-        host.packet(0, &[0x11, 0x61, 0x62]),
+        host.packet(Seat(0), &[0x11, 0x61, 0x62]),
         Err(Refusal::NoSuchRoute)
     );
     let mut host = Host::connected();
     assert_eq!(
-        host.packet(0, &[0x11, 0x61, 0x62]),
+        host.packet(Seat(0), &[0x11, 0x61, 0x62]),
         Err(Refusal::NoSuchRoute)
     );
 }
@@ -109,19 +107,22 @@ fn p7_p8_data_on_a_waiting_number_and_on_none() {
 #[test]
 fn p9_another_takes_the_seat_that_was_left() {
     let mut host = Host::connected();
-    assert_eq!(host.leave(0), Ok(vec![1, 0, 2, 3, 0x10]));
-    assert_eq!(host.arrive(&KC), Ok(0));
-    assert_eq!(host.packet(1, &[0x10, 0x61]), Err(Refusal::NotConnected));
+    assert_eq!(host.leave(Seat(0)), Ok(vec![1, 0, 2, 3, 0x10]));
+    assert_eq!(host.arrive(&KC), Ok(Seat(0)));
+    assert_eq!(
+        host.packet(Seat(1), &[0x10, 0x61]),
+        Err(Refusal::NotConnected)
+    );
 }
 
 #[test]
 fn p10_p11_what_the_reader_refuses() {
     let mut host = Host::connected();
     assert_eq!(
-        host.packet(0, &[4, 0, 0, 0, 0, 0, 0, 0, 0]),
+        host.packet(Seat(0), &[4, 0, 0, 0, 0, 0, 0, 0, 0]),
         Err(Refusal::ZeroPing)
     );
-    assert_eq!(host.packet(0, &[0x10]), Err(Refusal::WrongLength));
+    assert_eq!(host.packet(Seat(0), &[0x10]), Err(Refusal::WrongLength));
 }
 
 #[test]
@@ -130,7 +131,7 @@ fn bounds_of_out_of_band_packets_and_of_data() {
     let out_of_band = |length: usize| {
         let mut packet = vec![7; length];
         packet[0] = 6;
-        packet[1..33].copy_from_slice(&KB);
+        packet[1..33].copy_from_slice(&KB.0);
         packet
     };
     for (length, answer) in [
@@ -139,11 +140,15 @@ fn bounds_of_out_of_band_packets_and_of_data() {
         (1_057, Ok(1_060)),
         (1_058, Err(Refusal::WrongLength)),
     ] {
-        let sent = host.packet(0, &out_of_band(length)).map(|sent| sent.len());
+        let sent = host
+            .packet(Seat(0), &out_of_band(length))
+            .map(|sent| sent.len());
         assert_eq!(sent, answer, "out-of-band of {length} bytes");
     }
     for (length, answer) in [(2_032, Ok(2_035)), (2_033, Err(Refusal::PacketSize))] {
-        let sent = host.packet(0, &vec![0x10; length]).map(|sent| sent.len());
+        let sent = host
+            .packet(Seat(0), &vec![0x10; length])
+            .map(|sent| sent.len());
         assert_eq!(sent, answer, "data of {length} bytes");
     }
 }
@@ -151,22 +156,28 @@ fn bounds_of_out_of_band_packets_and_of_data() {
 #[test]
 fn the_32nd_request_is_numbered_47_and_the_33rd_gets_0() {
     let mut host = Host::new();
-    assert_eq!(host.arrive(&KA), Ok(0));
+    assert_eq!(host.arrive(&KA), Ok(Seat(0)));
     for place in 0..32 {
         let wanted = key_of(place);
-        assert_eq!(host.request(0, &wanted), Ok(answer(0, 16 + place, &wanted)));
+        assert_eq!(
+            host.request(Seat(0), &wanted),
+            Ok(answer(0, 16 + place, &wanted))
+        );
     }
     let wanted = key_of(32);
-    assert_eq!(host.request(0, &wanted), Ok(answer(0, 0, &wanted)));
+    assert_eq!(host.request(Seat(0), &wanted), Ok(answer(0, 0, &wanted)));
     let repeated = key_of(31);
-    assert_eq!(host.request(0, &repeated), Ok(answer(0, 47, &repeated)));
+    assert_eq!(
+        host.request(Seat(0), &repeated),
+        Ok(answer(0, 47, &repeated))
+    );
 }
 
 #[test]
 fn the_40th_arrival_is_accepted_and_the_41st_gets_1() {
     let mut host = Host::new();
     for seat in 0..40 {
-        assert_eq!(host.arrive(&key_of(seat)), Ok(seat));
+        assert_eq!(host.arrive(&key_of(seat)), Ok(Seat(seat)));
     }
     assert_eq!(host.arrive(&key_of(40)), Err(Refusal::RoomFull));
     assert_eq!(host.arrive(&key_of(39)), Err(Refusal::AlreadySeated));
@@ -175,13 +186,13 @@ fn the_40th_arrival_is_accepted_and_the_41st_gets_1() {
 #[test]
 fn data_goes_on_under_the_number_of_the_one_who_gets_it() {
     let mut host = Host::new();
-    assert_eq!(host.arrive(&KA), Ok(0));
-    assert_eq!(host.arrive(&KB), Ok(1));
-    assert_eq!(host.request(1, &KC), Ok(answer(1, 0x10, &KC)));
-    assert_eq!(host.request(0, &KB), Ok(answer(0, 0x10, &KB)));
-    host.request(1, &KA).expect("a request is accepted");
+    assert_eq!(host.arrive(&KA), Ok(Seat(0)));
+    assert_eq!(host.arrive(&KB), Ok(Seat(1)));
+    assert_eq!(host.request(Seat(1), &KC), Ok(answer(1, 0x10, &KC)));
+    assert_eq!(host.request(Seat(0), &KB), Ok(answer(0, 0x10, &KB)));
+    host.request(Seat(1), &KA).expect("a request is accepted");
     assert_eq!(
-        host.packet(0, &[0x10, 0x61, 0x62]),
+        host.packet(Seat(0), &[0x10, 0x61, 0x62]),
         Ok(vec![1, 0, 3, 0x11, 0x61, 0x62])
     );
 }
@@ -189,12 +200,12 @@ fn data_goes_on_under_the_number_of_the_one_who_gets_it() {
 #[test]
 fn both_are_told_again_when_the_other_asks_again() {
     let mut host = Host::connected();
-    assert_eq!(host.packet(0, &[3, 0x10]), Ok(vec![1, 0, 2, 3, 0x10]));
+    assert_eq!(host.packet(Seat(0), &[3, 0x10]), Ok(vec![1, 0, 2, 3, 0x10]));
     let told = [
         &answer(0, 0x10, &KB)[..],
         &[0, 0, 2, 2, 0x10],
         &[1, 0, 2, 2, 0x10],
     ]
     .concat();
-    assert_eq!(host.request(0, &KB), Ok(told));
+    assert_eq!(host.request(Seat(0), &KB), Ok(told));
 }

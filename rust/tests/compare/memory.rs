@@ -362,6 +362,17 @@ fn answer_for(memory: &[u8]) -> i32 {
     }
 }
 
+/// A room is made from just the memory that holds one, and has its bytes.
+fn compare_from_bytes(memory: &[u8], expected: i32) {
+    match banavoge::Room::from_bytes(memory) {
+        Ok(room) => {
+            assert_eq!(expected, 0);
+            assert!(room.as_bytes() == &memory[..ROOM_BYTES]);
+        }
+        Err(refusal) => assert_eq!(-i32::from(refusal.number()), expected),
+    }
+}
+
 #[test]
 fn the_test_of_a_room_is_the_second_programs() {
     let mut random = Generator::new(21);
@@ -391,6 +402,7 @@ fn the_test_of_a_room_is_the_second_programs() {
             let expected = answer_for(&memory);
             let found = raw::room::check(&memory);
             assert_eq!(found, expected, "{kind:?} of room {made}");
+            compare_from_bytes(&memory, expected);
             match expected {
                 0 => met.whole += 1,
                 _ => met.not_whole += 1,
@@ -434,8 +446,11 @@ fn memory_too_short_is_no_room() {
 
 #[test]
 fn the_size_of_a_room_is_the_second_programs() {
-    assert_eq!(banavoge::room::bytes(), memory::length(BASE));
-    assert_eq!(banavoge::room::bytes(), ROOM_BYTES);
+    assert_eq!(raw::room::bytes(), memory::length(BASE));
+    assert_eq!(raw::room::bytes(), ROOM_BYTES);
+    assert_eq!(banavoge::Room::BYTES, ROOM_BYTES);
+    assert_eq!(banavoge::Room::SEATS, BASE.seats);
+    assert_eq!(banavoge::Room::NUMBERS, BASE.numbers);
 }
 
 /// The empty room is three bytes; memory too short is left alone.
