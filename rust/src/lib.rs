@@ -1,9 +1,137 @@
-//! Safe Rust calls to the static library `libbanavoge.a`.
+//! A Tox TCP relay for classrooms, as a library in which every function is
+//! proved to do what its paper, document 01, says: the safe interface to the
+//! static library `libbanavoge.a`.
 //!
-//! [`FromClient`] and [`FromRelay`] are the packets of both ends, [`Node`] is
-//! a packed node and [`Nodes`] a list of them, [`NearestList`] a
-//! nearest list, and [`Room`] the relay.
+//! Here are the relay, which is a [`Room`]; relay packets of both ends,
+//! [`FromClient`] and [`FromRelay`]; packed nodes, [`Node`], and lists of them,
+//! [`Nodes`]; and the [`NearestList`]. The host owns sockets, sealing and
+//! opening, and hands over opened packets. Nothing here keeps a socket, a clock
+//! or any state besides these values. A room takes its memory once, when it is
+//! made; its calls allocate nothing.
+//!
+//! Each call is accepted or refused with a [`Refusal`]; a refused call has
+//! written nothing and changed nothing. What is right is judged by the library
+//! alone: here its answers become types.
+//!
+//! # Two clients meet
+//!
+//! Document 01's examples P1 to P6:
+//!
+//! ```
+//! use banavoge::{ConnectionNumber, FromClient, FromRelay, Key, Records};
+//! use banavoge::{Refusal, Room, Seat, LEAST_OUTPUT, LONGEST_PACKET};
+//!
+//! /// What is sent, as the clients read it.
+//! fn read(sent: Records<'_>) -> Vec<(Seat, FromRelay<'_>)> {
+//!     sent.map(|record| (record.seat, FromRelay::read(record.packet).unwrap()))
+//!         .collect()
+//! }
+//!
+//! let (ka, kb) = (Key([0x11; 32]), Key([0x22; 32]));
+//! let number = ConnectionNumber(16);
+//! let mut room = Room::empty();
+//! let mut out = [0; LEAST_OUTPUT];
+//! let mut packet = [0; LONGEST_PACKET];
+//!
+//! // P1, P2, P3: KA arrives, then KB, then KA again.
+//! assert_eq!(room.arrive(&ka), Ok(Seat(0)));
+//! assert_eq!(room.arrive(&kb), Ok(Seat(1)));
+//! assert_eq!(room.arrive(&ka), Err(Refusal::AlreadySeated));
+//!
+//! // P4: KA asks for KB and is given number 16.
+//! let count = FromClient::RoutingRequest { key: kb }.write(&mut packet)?;
+//! let sent = room.packet(Seat(0), &packet[..count], &mut out)?;
+//! assert_eq!(sent.as_bytes().len(), 37);
+//! assert_eq!(
+//!     read(sent),
+//!     [(Seat(0), FromRelay::RoutingResponse { number, key: kb })]
+//! );
+//!
+//! // P5: KB asks for KA, and both are told that they are connected.
+//! let count = FromClient::RoutingRequest { key: ka }.write(&mut packet)?;
+//! let sent = room.packet(Seat(1), &packet[..count], &mut out)?;
+//! assert_eq!(sent.as_bytes().len(), 47);
+//! assert_eq!(
+//!     read(sent),
+//!     [
+//!         (Seat(1), FromRelay::RoutingResponse { number, key: ka }),
+//!         (Seat(1), FromRelay::ConnectNotification(number)),
+//!         (Seat(0), FromRelay::ConnectNotification(number)),
+//!     ]
+//! );
+//!
+//! // P6: what KA sends on its number goes to KB on KB's.
+//! let payload = b"ab";
+//! let count = FromClient::Data { number, payload }.write(&mut packet)?;
+//! let sent = room.packet(Seat(0), &packet[..count], &mut out)?;
+//! assert_eq!(sent.as_bytes(), [1, 0, 3, 16, b'a', b'b']);
+//! assert_eq!(read(sent), [(Seat(1), FromRelay::Data { number, payload })]);
+//! # Ok::<(), Refusal>(())
+//! ```
+//!
+//! # In a host
+//!
+//! A host keeps a connection for each seat. It hands each opened packet to the
+//! room, and seals and sends each record:
+//!
+//! ```
+//! use banavoge::{Key, Records, Refusal, Room, Seat, LEAST_OUTPUT};
+//!
+//! struct Connection {
+//!     // the socket, and the keys that seal and open
+//! }
+//!
+//! impl Connection {
+//!     fn seal_and_send(&mut self, packet: &[u8]) {}
+//! }
+//!
+//! struct Host {
+//!     room: Room,
+//!     connections: [Option<Connection>; Room::SEATS],
+//!     out: [u8; LEAST_OUTPUT],
+//! }
+//!
+//! impl Host {
+//!     /// A handshake is done, and the client is known by its key.
+//!     fn connected(&mut self, key: &Key, connection: Connection) -> Result<Seat, Refusal> {
+//!         let seat = self.room.arrive(key)?;
+//!         self.connections[seat.index()] = Some(connection);
+//!         Ok(seat)
+//!     }
+//!
+//!     /// A packet was opened.
+//!     fn opened(&mut self, seat: Seat, packet: &[u8]) -> Result<(), Refusal> {
+//!         let records = self.room.packet(seat, packet, &mut self.out)?;
+//!         send(&mut self.connections, records);
+//!         Ok(())
+//!     }
+//!
+//!     /// A connection was closed.
+//!     fn closed(&mut self, seat: Seat) -> Result<(), Refusal> {
+//!         let records = self.room.leave(seat, &mut self.out)?;
+//!         self.connections[seat.index()] = None;
+//!         send(&mut self.connections, records);
+//!         Ok(())
+//!     }
+//! }
+//!
+//! fn send(connections: &mut [Option<Connection>], records: Records<'_>) {
+//!     for record in records {
+//!         if let Some(connection) = &mut connections[record.seat.index()] {
+//!             connection.seal_and_send(record.packet);
+//!         }
+//!     }
+//! }
+//! ```
+//!
+//! # Safety
+//!
+//! All unsafe code stands in one hidden module, which lends references to the
+//! C functions. Where memory depends on what the library answers, it is checked
+//! here again: places become checked slices, numbers are matched case by case.
+//! An answer that the proofs rule out would be a panic.
 
+#![deny(missing_docs)]
 #![deny(unsafe_code, clippy::undocumented_unsafe_blocks)]
 
 mod answer;
