@@ -6,3 +6,4 @@ pub mod Nodes
 pub mod Nearest
 pub mod Rooms
 pub mod RelayCalls
+pub mod Runs

@@ -10,4 +10,5 @@ mod nodes;
 mod readers;
 mod relay_calls;
 mod rooms;
+mod runs;
 mod writers;
