@@ -135,12 +135,14 @@
 #![deny(unsafe_code, clippy::undocumented_unsafe_blocks)]
 
 mod answer;
+mod call;
 mod connection_number;
 mod key;
 mod nearest;
 mod node;
 mod nodes;
 mod packet;
+mod play;
 #[allow(unsafe_code)]
 #[doc(hidden)]
 pub mod raw;
@@ -149,12 +151,14 @@ mod refusal;
 mod room;
 mod seat;
 
+pub use call::{Call, TooLong};
 pub use connection_number::ConnectionNumber;
 pub use key::Key;
 pub use nearest::{HeldNodes, NearestList};
 pub use node::{Node, Transport, LONGEST_NODE};
 pub use nodes::Nodes;
 pub use packet::{FromClient, FromRelay, LONGEST_PACKET};
+pub use play::{Accepted, Answers, Played, Stop};
 pub use record::{Record, Records};
 pub use refusal::Refusal;
 pub use room::{Room, LEAST_OUTPUT};

@@ -16,6 +16,7 @@
 pub mod keys;
 pub mod nearest;
 pub mod node;
+pub mod play;
 pub mod readers;
 pub mod relay;
 pub mod room;

@@ -1,8 +1,8 @@
 //! The room: the relay itself.
 
 use crate::answer::accepted;
-use crate::raw;
-use crate::{Key, Records, Refusal, Seat};
+use crate::raw::{self, play::Counts};
+use crate::{Answers, Key, Played, Records, Refusal, Seat, Stop};
 use std::fmt;
 
 /// The least output to lend to [`Room::packet`] and [`Room::leave`]: with less
@@ -13,9 +13,10 @@ pub const LEAST_OUTPUT: usize = 2_048;
 /// A room: 40 seats, each empty or with one client's key and its 32 routes.
 ///
 /// The relay's three calls are [`arrive`](Room::arrive),
-/// [`packet`](Room::packet) and [`leave`](Room::leave). What they send is
-/// written into an output that the caller lends; no call allocates. A refused
-/// call leaves room and output as they were.
+/// [`packet`](Room::packet) and [`leave`](Room::leave); [`play`](Room::play)
+/// makes any number of them. What they send is written into an output that the
+/// caller lends; no call allocates. A refused call leaves room and output as
+/// they were.
 ///
 /// A room owns its memory, which only the library's calls change, so it is
 /// always whole: 11 is refused where a room is made from bytes, and nowhere
@@ -135,6 +136,61 @@ impl Room {
     ) -> Result<Records<'o>, Refusal> {
         let count = accepted(raw::relay::packet(&mut self.memory, seat.0, packet, out))?;
         Ok(Records::written(&out[..count]))
+    }
+
+    /// Plays stored calls from the front of `calls`, at most `allowance` of
+    /// them, as if each were made by itself. The library tests the room once
+    /// and not for each call.
+    ///
+    /// What is no stored call, an allowance used up and too little output only
+    /// stop it: the rest may be played by a further call.
+    ///
+    /// ```
+    /// use banavoge::{Call, Key, Refusal, Room, Seat, Stop};
+    ///
+    /// let (ka, kb) = (Key([0x11; 32]), Key([0x22; 32]));
+    /// let mut calls = Vec::new();
+    /// for call in [
+    ///     Call::Arrive { key: ka },
+    ///     Call::Arrive { key: kb },
+    ///     Call::Arrive { key: ka },
+    ///     Call::Packet { seat: Seat(0), packet: &[4, 0, 0, 0, 0, 0, 0, 0, 9] },
+    /// ] {
+    ///     call.store(&mut calls)?;
+    /// }
+    ///
+    /// let mut room = Room::empty();
+    /// let mut out = vec![0; 1 << 16];
+    /// let played = room.play(&calls, 3, &mut out)?;
+    /// assert_eq!((played.calls, played.stop), (3, Stop::Allowance));
+    /// let seats = played.answers.map(|answer| answer.map(|accepted| accepted.seat));
+    /// assert!(seats.eq([Ok(Seat(0)), Ok(Seat(1)), Err(Refusal::AlreadySeated)]));
+    ///
+    /// let rest = &calls[played.read..];
+    /// let played = room.play(rest, 3, &mut out)?;
+    /// assert_eq!((played.calls, played.stop), (1, Stop::End));
+    /// for answer in played.answers {
+    ///     for record in answer?.records {
+    ///         assert_eq!(record.packet, [5, 0, 0, 0, 0, 0, 0, 0, 9]);
+    ///     }
+    /// }
+    /// # Ok::<(), Box<dyn std::error::Error>>(())
+    /// ```
+    pub fn play<'o>(
+        &mut self,
+        calls: &[u8],
+        allowance: usize,
+        out: &'o mut [u8],
+    ) -> Result<Played<'o>, Refusal> {
+        let mut counts = Counts::default();
+        let room = &mut self.memory;
+        let answer = accepted(raw::play::play(room, calls, allowance, out, &mut counts))?;
+        Ok(Played {
+            calls: counts.played,
+            read: counts.read,
+            stop: Stop::of_answer(answer),
+            answers: Answers::written(&out[..counts.written]),
+        })
     }
 }
 

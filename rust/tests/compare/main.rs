@@ -11,6 +11,7 @@ mod nearest;
 mod nodes;
 mod output;
 mod owned_lists;
+mod owned_plays;
 mod owned_rooms;
 mod packets;
 mod readers;

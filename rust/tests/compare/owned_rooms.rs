@@ -14,7 +14,7 @@ const CALLS: usize = 8_000;
 
 /// The records are the second program's, one by one and as bytes, and each has
 /// a packet that a client takes.
-fn same_records(found: Records, expected: &[Record], told: &str) {
+pub fn same_records(found: Records, expected: &[Record], told: &str) {
     assert_eq!(found.as_bytes(), record::bytes(expected), "{told}");
     assert_eq!(found.clone().count(), expected.len(), "{told}");
     for (found, expected) in found.zip(expected) {
