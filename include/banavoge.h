@@ -379,6 +379,49 @@ int32_t banavoge_leave(uint8_t *room, size_t room_length, uint8_t seat, uint8_t 
 int32_t banavoge_packet(uint8_t *room, size_t room_length, uint8_t seat, const uint8_t *packet,
                         size_t packet_length, uint8_t *out, size_t out_length);
 
+/*
+ * ---- Play ----
+ *
+ * Stored calls, one behind the other, are played on a room. A stored call is
+ *
+ *     | call (1 byte) | seat (1 byte) | length (2 bytes, the higher first) | that many bytes |
+ *
+ *   0 arrive  seat 0, the 32 bytes of the key
+ *   1 leave   the seat, no bytes
+ *   2 packet  the seat, the packet
+ *
+ * and nothing else is one. For each call that is played, refused ones included, the output gets
+ *
+ *     | refusal (1 byte) | seat (1 byte) | length (2 bytes, the higher first) | its records |
+ *
+ * The refusal is 0 where there is none. The seat is that of the call, of an arrival the one that it
+ * was given, of a refused call 0.
+ */
+#define BANAVOGE_PLAYED_HEAD 4 /* refusal, seat and length, before the records of a played call */
+
+/* Why playing stopped. */
+enum banavoge_stop {
+    /* the end of the stored calls */
+    BANAVOGE_STOP_END = 0,
+    /* what comes next is no stored call */
+    BANAVOGE_STOP_NO_CALL = 1,
+    /* the allowance is used up */
+    BANAVOGE_STOP_ALLOWANCE = 2,
+    /* too little output left for another call: under 4 + 2,048 bytes */
+    BANAVOGE_STOP_OUTPUT = 3
+};
+
+/*
+ * Plays stored calls on a room, at most as many as the allowance. Before each call the stops are
+ * tested in the order 0, 2, 1, 3. Answers why it stopped (enum banavoge_stop) and sets played, how
+ * many calls were played; read, how many bytes of the stored calls these took, which is where the
+ * next one starts; and written, how many bytes of output. Refusals: 11, and then nothing is
+ * changed, the three counts included.
+ */
+int32_t banavoge_play(uint8_t *room, size_t room_length, const uint8_t *calls, size_t calls_length,
+                      size_t allowance, uint8_t *out, size_t out_length, size_t *played,
+                      size_t *read, size_t *written);
+
 #ifdef __cplusplus
 }
 #endif
