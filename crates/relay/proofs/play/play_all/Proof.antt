@@ -130,7 +130,7 @@ loop-again c =
     let m = turn-more (a .seats) (a .numbers) (a .allowance) (a .calls .now) (l .played) (l .read) (l .written) (l .memory) (l .out) (l .inv .5)
     (l .inv .0) (l .inv .1) (l .inv .2) (next .result) _ _ _ _ (next .ensures) (c .before .size .given .1) in (
       m .allowed,
-      m .read,
+      omega (arith, m .read),
       (let e = m .long in let f = m .wrote in omega arith),
       m .long ∙ l .inv .3,
       next .kept .0 ∙ l .inv .4,

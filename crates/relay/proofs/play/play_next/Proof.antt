@@ -46,7 +46,7 @@ returns-4 : tie.Need-returns-4
 returns-4 c =
     let a = c .before .before .before .before .before .before .before .before .before .before .args in
     let q = call-read (a .calls .now) _ _ (sym (c .before .before .call .given .1) ∙ c .before .before .before .before .read .ensures) in
-    stopped Output (next-output (a .allowance) (a .calls .now) (length (a .out .now)) (c .before .before .before .before .before .before .if1 .left) (c .before .before .before .before .before .if2 .left) (q .made) (q .first) (c .if3 .taken)) refl refl refl
+    stopped Output (next-output (a .allowance) (a .calls .now) (length (a .out .now)) (c .before .before .before .before .before .before .if1 .left) (c .before .before .before .before .before .if2 .left) (q .made) (q .first) (omega (arith, c .if3 .taken))) refl refl refl
 
 sub-make : tie.Need-sub-make
 sub-make c = search needs
