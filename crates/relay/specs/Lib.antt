@@ -1,5 +1,5 @@
--- What a reader must believe of this crate, in the order to read it: Calls and History. Output, Peers and Steps are cited by private
--- functions alone.
+-- What a reader must believe of this crate, in the order to read it: Calls, History and Play. Output, Peers, Steps and PlaySteps are cited by
+-- private functions alone.
 pub mod Output
 pub mod Calls
 pub mod Peers
