@@ -1,0 +1,65 @@
+-- What a call's answer counts lies within the output that it was lent, and what a stored call takes lies within the bytes that it was read from. Assumes
+-- nothing.
+use mathlib.Core.Path.{_≡_, refl, ap, subst, _∙_}
+use mathlib.Core.Bool.{Bool, true, false, cond}
+use mathlib.Core.List.{List}
+use Prim.Native.Nat.{ℕ, _≤_}
+use native.Mathlib.Omega.{arith}
+use lib.Dec.{leb}
+use lib.ListN.{length, drop, length-append}
+use Rattle.refusal.specs.declared.Refusal.the-variants.{OutputTooShort, RoomNotWhole}
+use Rattle.rules.specs.Call.{Call, Answer}
+use Rattle.rules.specs.Outcome.{Outcome, refuse, accept, sentBytes, outcome}
+use Rattle.rules.proofs.RefusedOrAccepted.{RefusedOrAccepted, refusal, acceptance, outcome-made}
+use Rattle.room.specs.View.{viewRoom}
+use Rattle.room.specs.Whole.{roomWhole}
+use Rattle.relay.specs.Calls.{Leaves, leastOutput, tested, withOutput}
+use Rattle.relay.specs.History.{written}
+use Rattle.stored.specs.declared.StoredCall.{StoredCall}
+use Rattle.stored.specs.declared.StoredRead.{StoredRead}
+use Rattle.stored.specs.declared.StoredRead.the-variants as code
+use Rattle.stored.specs.Stored.{First, none, call, firstCall, shownCall, shownFirst, storedBytes}
+use Rattle.stored.proofs.StoredLaws.{first-within}
+
+-- ---- the answer and the output
+
+-- an answer counts the bytes sent
+counts : (o : Outcome) → RefusedOrAccepted o → written (o .answer) ≡ length (sentBytes (o .sent))
+unfolding written refuse accept sentBytes
+counts o (refusal why e) = rw e
+counts o (acceptance seat changes sent e) = rw e
+
+made : (s n : ℕ) (b out : List ℕ) (c : Call) → RefusedOrAccepted (withOutput s n b out c)
+unfolding withOutput tested
+made s n b out c = go (leb leastOutput (length out)) (roomWhole s n b)
+  where
+    go : (long whole : Bool) → RefusedOrAccepted (cond long (cond whole (outcome (viewRoom s n b) c) (refuse RoomNotWhole)) (refuse OutputTooShort))
+    go false whole = refusal OutputTooShort refl
+    go true false = refusal RoomNotWhole refl
+    go true true = outcome-made (viewRoom s n b) c
+
+pub count-within : (s n : ℕ) (b out : List ℕ) (c : Call) (given : Answer) (b′ out′ : List ℕ)
+    → Leaves s n (withOutput s n b out c) b out given b′ out′ → written given ≤ length out′
+count-within s n b out c given b′ out′ l =
+    let o = withOutput s n b out c in
+    let e = ap written (l .answers) ∙ counts o (made s n b out c) in
+    let w = ap length (l .writes) ∙ length-append (sentBytes (o .sent)) (drop (length (sentBytes (o .sent))) out) in
+    omega arith
+
+-- ---- a stored call and the input
+
+same-size : (c d : StoredCall) (m n : ℕ) → code.Call c m ≡ code.Call d n → m ≡ n
+same-size c d m n e = cc
+
+shown-within : (bytes : List ℕ) (f : First) → firstCall bytes ≡ f → (c : StoredCall) (size : ℕ) → code.Call c size ≡ shownFirst f
+    → (4 ≤ size) × (size ≤ length bytes)
+unfolding shownFirst
+shown-within bytes none e c size q = let z : _≡_ {A = ℕ} 0 1 = cc in absurd (omega arith)
+shown-within bytes (call d) e c size q =
+    let w = first-within bytes d e in
+    let l = same-size c (shownCall d) size (length (storedBytes d)) q in
+    (omega arith, omega arith)
+
+pub size-within : (bytes : List ℕ) (r : StoredRead) (c : StoredCall) (size : ℕ) → r ≡ shownFirst (firstCall bytes) → r ≡ code.Call c size
+    → (4 ≤ size) × (size ≤ length bytes)
+size-within bytes r c size e q = shown-within bytes (firstCall bytes) refl c size (cc)
