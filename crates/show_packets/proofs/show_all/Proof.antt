@@ -1,9 +1,7 @@
 -- `show_packets::show_all` is safe and ends: each packet shown takes a byte or more, and no more than are left. Assumes nothing.
 use borrow.Author.Needs.{needs}
 use Prim.Native.Nat.{_-_, _≤_}
-use native.Mathlib.Omega.{arith}
-use lib.ListN.{length, drop, length-drop}
-use lib.Seq.{length-take-le}
+use lib.ListN.{length}
 use Rattle.show_packets.proofs.show_all.Statement.{statement}
 use Rattle.show_packets.proofs.show_all.Tie as tie
 
@@ -26,36 +24,16 @@ part-show-first-end : tie.Need-part-show-first-end Inv-loop μ-loop
 part-show-first-end c = search needs
 
 show-first-requires : tie.Need-show-first-requires Inv-loop μ-loop
-show-first-requires c κs =
-    let l = c .before .before .loop .at in
-    let a = c .before .before .before .before .args .input .now in
-    let d = length-drop l a in
-    let t = length-take-le (length a - l) (drop l a) (omega arith) in
-    omega arith
+show-first-requires c κs = search needs
 
 add-at : tie.Need-add-at Inv-loop μ-loop
-add-at c =
-    let l = c .before .before .before .loop .at in
-    let a = c .before .before .before .before .before .args .input .now in
-    let d = length-drop l a in
-    let t = length-take-le (length a - l) (drop l a) (omega arith) in
-    omega arith
+add-at c = search needs
 
 loop-less : tie.Need-loop-less Inv-loop μ-loop
-loop-less c =
-    let l = c .before .before .before .loop .at in
-    let a = c .before .before .before .before .before .args .input .now in
-    let d = length-drop l a in
-    let t = length-take-le (length a - l) (drop l a) (omega arith) in
-    omega arith
+loop-less c = search needs
 
 loop-again : tie.Need-loop-again Inv-loop μ-loop
-loop-again c =
-    let l = c .before .before .before .loop .at in
-    let a = c .before .before .before .before .before .args .input .now in
-    let d = length-drop l a in
-    let t = length-take-le (length a - l) (drop l a) (omega arith) in
-    omega arith
+loop-again c = search needs
 
 returns : tie.Need-returns Inv-loop μ-loop
 returns c = search needs
