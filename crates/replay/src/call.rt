@@ -5,6 +5,8 @@ ghost use Rattle.relay.specs.Calls.{answerOf};
 ghost use Rattle.relay.specs.History.{written};
 use crate::asked;
 use crate::records;
+use crate::refused;
+use crate::say;
 use crate::who;
 use key::Key;
 use refusal::Refusal;
@@ -12,8 +14,6 @@ use relay::Answer;
 use relay::calls;
 use room::Seat;
 use stored::StoredCall;
-use tell::refused;
-use tell::say;
 
 fn tell_refused(why: Refusal) {
     say::words(b"  ");

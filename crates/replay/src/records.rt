@@ -1,10 +1,10 @@
 // What a call hands out: "a run of records in the lent output: seat (1 byte), length (2), the packet".
 ghost use Prim.Native.Nat.{_<_, _≤_};
 ghost use lib.ListN.{length};
+use crate::from_relay;
+use crate::say;
 use crate::who;
 use room::Seat;
-use tell::from_relay;
-use tell::say;
 
 // The seat and the length.
 const HEAD: usize = 3;

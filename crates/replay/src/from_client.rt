@@ -1,16 +1,14 @@
 // What a client sends, as the relay reads it.
-use crate::refused;
 use crate::say;
-use packet::relay;
+use packet::relay as relay_end;
 use packet::relay::ClientPacket;
-use packet::relay::RelayRead;
 
 // A packet that was read: `bytes` are those it was read from.
-pub fn packet(shown: ClientPacket, bytes: &[u8]) {
+pub(crate) fn packet(shown: ClientPacket, bytes: &[u8]) {
     match shown {
         ClientPacket::RoutingRequest { key: _ } => {
             say::words(b"routing request for ");
-            say::key(relay::key(bytes));
+            say::key(relay_end::key(bytes));
         }
         ClientPacket::DropRoute(number) => {
             say::words(b"drop of ");
@@ -26,23 +24,15 @@ pub fn packet(shown: ClientPacket, bytes: &[u8]) {
         }
         ClientPacket::OobSend { key: _, payload: _ } => {
             say::words(b"out-of-band send to ");
-            say::key(relay::key(bytes));
+            say::key(relay_end::key(bytes));
             say::words(b" with ");
-            say::bytes(relay::payload(bytes).len());
+            say::bytes(relay_end::payload(bytes).len());
         }
         ClientPacket::Data(number, _) => {
             say::words(b"data on ");
             say::connection(number);
             say::words(b" with ");
-            say::bytes(relay::payload(bytes).len());
+            say::bytes(relay_end::payload(bytes).len());
         }
-    }
-}
-
-// A packet, or why the relay's reader refuses it.
-pub fn tell(bytes: &[u8]) {
-    match relay::read(bytes) {
-        RelayRead::Refused(why) => refused::tell(why),
-        RelayRead::Packet(shown) => packet(shown, bytes),
     }
 }

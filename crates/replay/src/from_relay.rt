@@ -6,7 +6,7 @@ use packet::client::ClientRead;
 use packet::client::RelayPacket;
 
 // A packet that was read: `bytes` are those it was read from.
-pub fn packet(shown: RelayPacket, bytes: &[u8]) {
+pub(crate) fn packet(shown: RelayPacket, bytes: &[u8]) {
     match shown {
         RelayPacket::RoutingResponse { number, key: _ } => {
             say::words(b"routing response: ");
@@ -46,7 +46,7 @@ pub fn packet(shown: RelayPacket, bytes: &[u8]) {
 }
 
 // A packet, or why the client's reader refuses it.
-pub fn tell(bytes: &[u8]) {
+pub(crate) fn tell(bytes: &[u8]) {
     match client::read(bytes) {
         ClientRead::Refused(why) => refused::tell(why),
         ClientRead::Packet(shown) => packet(shown, bytes),

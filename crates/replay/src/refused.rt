@@ -30,7 +30,7 @@ fn reason(why: Refusal) {
     }
 }
 
-pub fn tell(why: Refusal) {
+pub(crate) fn tell(why: Refusal) {
     say::words(b"refused with ");
     say::number(why.number() as u64);
     say::words(b": ");

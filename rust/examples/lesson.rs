@@ -1,0 +1,185 @@
+//! A lesson on the relay: a teacher, two pupils, and a guest who takes a seat
+//! that was left. It prints what each asks for and what the relay answers, and
+//! at the end what each client was handed.
+//!
+//! `tools/demo` builds the library and runs it.
+
+use banavoge::{ConnectionNumber, FromClient, FromRelay, Key, Records, Refusal, Room, Seat};
+use banavoge::{LEAST_OUTPUT, LONGEST_PACKET};
+
+const TEACHER: usize = 0;
+const ANA: usize = 1;
+const BEN: usize = 2;
+const GUEST: usize = 3;
+
+struct Client {
+    name: &'static str,
+    key: Key,
+    seat: Option<Seat>,
+    handed: Vec<String>,
+}
+
+impl Client {
+    fn new(name: &'static str, byte: u8) -> Client {
+        let (key, seat, handed) = (Key([byte; 32]), None, Vec::new());
+        Client {
+            name,
+            key,
+            seat,
+            handed,
+        }
+    }
+}
+
+/// The host's part: it knows who sits where, and would seal and send each
+/// record over that client's connection.
+struct Lesson {
+    room: Room,
+    clients: [Client; 4],
+}
+
+impl Lesson {
+    fn new() -> Lesson {
+        Lesson {
+            room: Room::empty(),
+            clients: [
+                Client::new("Teacher", 0x11),
+                Client::new("Ana", 0x22),
+                Client::new("Ben", 0x33),
+                Client::new("Guest", 0x44),
+            ],
+        }
+    }
+
+    fn arrive(&mut self, who: usize) {
+        let answer = self.room.arrive(&self.clients[who].key);
+        match answer {
+            Ok(seat) => say(
+                self.clients[who].name,
+                "arrives",
+                &format!("seat {}", seat.0),
+            ),
+            Err(why) => say(self.clients[who].name, "arrives", &refused(why)),
+        }
+        self.clients[who].seat = answer.ok();
+    }
+
+    fn leave(&mut self, who: usize) {
+        let mut out = [0; LEAST_OUTPUT];
+        let seat = self.clients[who].seat.expect("only who is seated leaves");
+        let answer = self.room.leave(seat, &mut out);
+        self.clients[who].seat = None;
+        self.answered(who, "leaves", answer);
+    }
+
+    fn ask_for(&mut self, who: usize, wanted: usize) {
+        let asks = format!("asks for {}", self.clients[wanted].name);
+        let key = self.clients[wanted].key;
+        self.send(who, &asks, FromClient::RoutingRequest { key });
+    }
+
+    fn send_data(&mut self, who: usize, number: u8, what: &str) {
+        let sends = format!("sends \"{what}\" on {number}");
+        let (number, payload) = (ConnectionNumber(number), what.as_bytes());
+        self.send(who, &sends, FromClient::Data { number, payload });
+    }
+
+    fn send(&mut self, who: usize, what: &str, packet: FromClient<'_>) {
+        let mut bytes = [0; LONGEST_PACKET];
+        let mut out = [0; LEAST_OUTPUT];
+        let count = packet
+            .write(&mut bytes)
+            .expect("the lesson's packets are sound");
+        let seat = self.clients[who].seat.expect("only who is seated sends");
+        let answer = self.room.packet(seat, &bytes[..count], &mut out);
+        self.answered(who, what, answer);
+    }
+
+    /// Prints the answer, and hands each record to the client in its seat.
+    fn answered(&mut self, who: usize, what: &str, answer: Result<Records<'_>, Refusal>) {
+        let name = self.clients[who].name;
+        match answer {
+            Ok(records) => {
+                say(name, what, "accepted");
+                for record in records {
+                    self.hand_over(record.seat, record.packet);
+                }
+            }
+            Err(why) => say(name, what, &refused(why)),
+        }
+    }
+
+    fn hand_over(&mut self, seat: Seat, packet: &[u8]) {
+        let packet = FromRelay::read(packet).expect("the relay's packets are sound");
+        let words = self.words(packet);
+        let seated = |client: &&mut Client| client.seat == Some(seat);
+        let client = self.clients.iter_mut().find(seated);
+        client
+            .expect("records go to who is seated")
+            .handed
+            .push(words);
+    }
+
+    fn words(&self, packet: FromRelay<'_>) -> String {
+        match packet {
+            FromRelay::RoutingResponse { number, key } => {
+                format!("your number for {} is {}", self.name(&key), number.0)
+            }
+            FromRelay::ConnectNotification(number) => format!("{} is connected", number.0),
+            FromRelay::DisconnectNotification(number) => format!("{} is disconnected", number.0),
+            FromRelay::Data { number, payload } => {
+                format!("on {}: \"{}\"", number.0, String::from_utf8_lossy(payload))
+            }
+            other => format!("{other:?}"),
+        }
+    }
+
+    fn name(&self, key: &Key) -> &'static str {
+        let named = self.clients.iter().find(|client| client.key == *key);
+        named.map_or("nobody", |client| client.name)
+    }
+}
+
+fn say(name: &str, what: &str, answer: &str) {
+    println!("{:<46} {answer}", format!("{name} {what}"));
+}
+
+fn refused(why: Refusal) -> String {
+    format!("refused with {}: {why}", why.number())
+}
+
+fn main() {
+    let mut lesson = Lesson::new();
+    for who in [TEACHER, ANA, BEN] {
+        lesson.arrive(who);
+    }
+
+    // Numbers are each client's own: Ben's 16 is Ana, his teacher is 17.
+    lesson.ask_for(TEACHER, ANA);
+    lesson.ask_for(TEACHER, BEN);
+    lesson.ask_for(ANA, TEACHER);
+    lesson.ask_for(BEN, ANA);
+    lesson.ask_for(BEN, TEACHER);
+    lesson.send_data(TEACHER, 16, "slide 1");
+    lesson.send_data(TEACHER, 17, "slide 1");
+
+    // A guest sits down where Ana left. The teacher's request is for Ana's key, so the picture does not go to the guest.
+    lesson.leave(ANA);
+    lesson.arrive(GUEST);
+    lesson.send_data(TEACHER, 16, "a picture");
+    lesson.ask_for(GUEST, TEACHER);
+    lesson.send_data(GUEST, 16, "a picture");
+
+    // Ana comes back to another seat. The teacher's request still stands, so both are told that they are connected.
+    lesson.arrive(ANA);
+    lesson.ask_for(ANA, TEACHER);
+    lesson.send_data(TEACHER, 16, "a picture");
+
+    println!("\nWhat each was handed:");
+    for client in &lesson.clients {
+        println!("{}", client.name);
+        for words in &client.handed {
+            println!("    {words}");
+        }
+    }
+}
