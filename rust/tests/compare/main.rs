@@ -16,5 +16,6 @@ mod owned_rooms;
 mod packets;
 mod readers;
 mod relay;
+mod runs;
 mod tally;
 mod writers;

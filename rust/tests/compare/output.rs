@@ -25,6 +25,11 @@ impl Output {
         &mut self.bytes[MARGIN..end]
     }
 
+    /// The bytes that surround the first `length` lent ones.
+    pub fn around(&self, length: usize) -> [&[u8]; 2] {
+        [&self.bytes[..MARGIN], &self.bytes[MARGIN + length..]]
+    }
+
     /// The first place, counted from the front of the lent bytes, where two
     /// outputs that differ do so.
     pub fn first_difference(&self, other: &Output) -> isize {

@@ -16,7 +16,7 @@ use reference::record;
 use reference::refusal::Refusal;
 use reference::room::{Accepted, BASE, LEAST_OUTPUT};
 
-const ROOM_BYTES: usize = 43_923;
+pub const ROOM_BYTES: usize = 43_923;
 const HISTORIES: u64 = 40;
 const CALLS: usize = 8_000;
 /// The memory is decoded after so many calls.
@@ -29,7 +29,8 @@ const SEATS_ORDER: usize = 3;
 /// Outputs that are long enough, the shortest more often than the others.
 const OUTPUTS: [usize; 4] = [LEAST_OUTPUT, LEAST_OUTPUT, 2_049, 3_000];
 
-fn make(call: &Call, memory: &mut [u8], out: &mut [u8]) -> i32 {
+/// Makes a call in the library, and answers what it answers.
+pub fn make(call: &Call, memory: &mut [u8], out: &mut [u8]) -> i32 {
     match call {
         Call::Arrive { key } => raw::relay::arrive(memory, key),
         Call::Leave { seat } => raw::relay::leave(memory, *seat, out),
@@ -47,7 +48,7 @@ fn code(call: &Call, answer: &Result<Accepted, Refusal>) -> i32 {
 }
 
 /// A new empty room, in memory filled with a pattern.
-fn empty_room(salt: u8) -> Output {
+pub fn empty_room(salt: u8) -> Output {
     let mut room = Output::new(ROOM_BYTES + usize::from(salt % 3), salt);
     assert_eq!(raw::room::empty(room.lent()), 0);
     room
