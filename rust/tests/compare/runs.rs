@@ -12,6 +12,8 @@ mod allowances;
 mod both;
 mod counts;
 mod course;
+mod cuts;
+mod damaged_calls;
 mod early;
 mod every_form;
 mod history;
