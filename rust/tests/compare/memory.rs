@@ -94,7 +94,7 @@ fn fill_what_is_not_read(memory: &mut [u8], random: &mut Generator) {
 /// The ways to damage a room. Those on a table are tried on the table of seats
 /// and on a table of routes.
 #[derive(Debug, Clone, Copy)]
-enum Damage {
+pub enum Damage {
     Sound,
     FirstHeaderByte,
     SecondHeaderByte,
@@ -115,7 +115,7 @@ enum Damage {
 }
 
 #[derive(Debug, Clone, Copy)]
-enum Of {
+pub enum Of {
     Seats,
     Routes,
 }
@@ -123,7 +123,7 @@ enum Of {
 use Damage::*;
 use Of::*;
 
-const DAMAGES: [Damage; 26] = [
+pub const DAMAGES: [Damage; 26] = [
     Sound,
     FirstHeaderByte,
     SecondHeaderByte,
@@ -172,7 +172,7 @@ fn table(of: Of, memory: &[u8], random: &mut Generator) -> Option<Table> {
 }
 
 /// Does the damage; false where this room does not have what it takes.
-fn damage(kind: Damage, memory: &mut Vec<u8>, random: &mut Generator) -> bool {
+pub fn damage(kind: Damage, memory: &mut Vec<u8>, random: &mut Generator) -> bool {
     match kind {
         Sound => true,
         FirstHeaderByte => change(&mut memory[0], random),
@@ -327,7 +327,7 @@ fn change(byte: &mut u8, random: &mut Generator) -> bool {
 
 /// A room of a made-up history, in memory that is at least long enough, with
 /// random bytes in all that is no part of the room.
-fn memory_of(room: &Room, random: &mut Generator) -> Vec<u8> {
+pub fn memory_of(room: &Room, random: &mut Generator) -> Vec<u8> {
     let mut memory = memory::encode(room);
     assert_eq!(memory.len(), ROOM_BYTES);
     memory.resize(ROOM_BYTES + random.pick(&[0, 0, 1, 7, 300]), 0);

@@ -19,6 +19,13 @@ impl Output {
         Output { bytes }
     }
 
+    /// These bytes, with a margin of the pattern.
+    pub fn holding(bytes: &[u8], salt: u8) -> Output {
+        let mut output = Output::new(bytes.len(), salt);
+        output.lent().copy_from_slice(bytes);
+        output
+    }
+
     /// The bytes to lend.
     pub fn lent(&mut self) -> &mut [u8] {
         let end = self.bytes.len() - MARGIN;
