@@ -18,9 +18,9 @@ unfoldable pub countCode : rules.Answer → ℤ
 countCode (rules.accepted seat bytes) = pos bytes
 countCode (rules.refused why) = refusalCode why
 
--- a count that a call can have: 32 records at most, each of a seat, a length of two bytes and that many bytes
+-- a count that a call can have: no call writes more than document 01 asks of lent output, "under 2,048 for packet and leave"
 unfoldable pub CallCounted : rules.Answer → Type 0
-CallCounted (rules.accepted seat bytes) = bytes ≤ 2097216
+CallCounted (rules.accepted seat bytes) = bytes ≤ 2048
 CallCounted (rules.refused why) = Unit {0}
 
 -- "takes the lowest empty seat and answers with it. It writes nothing."

@@ -13,6 +13,7 @@ use Rattle.wire.proofs.Numbers.{length-bytesOf}
 use Rattle.wire.proofs.Copy.{written-part, length-lent}
 use Rattle.rules.specs.Call.{Sent}
 use Rattle.rules.specs.Outcome.{to, recordBytes, sentBytes}
+use Rattle.rules.proofs.SentLaws.{count-one}
 use Rattle.packet.specs.Read.{Read, packet}
 use Rattle.packet.specs.FromRelay.{FromRelay, relayBytes}
 use Rattle.packet.specs.Written.{Writes, RelayWrites, relayJudged, writtenOutput}
@@ -74,16 +75,6 @@ unfolding sentBytes
 sent-append [] m = refl
 sent-append (s ∷ l) m = ap (λ (x : List ℕ). recordBytes s ++ x) (sent-append l m) ∙ sym (append-assoc (recordBytes s) (sentBytes l) (sentBytes m))
 
-pub length-record : (s : Sent) → length (recordBytes s) ≡ 3 + length (s .bytes)
-unfolding recordBytes
-length-record s =
-    let e = length-append (bytesOf 2 (length (s .bytes))) (s .bytes) in
-    let f = length-bytesOf 2 (length (s .bytes)) in
-    omega arith
-
-pub length-sent-one : (s : Sent) → length (sentBytes (s ∷ [])) ≡ 3 + length (s .bytes)
-length-sent-one s = ap length (sent-one s) ∙ length-record s
-
 -- no record
 pub appends-none : (out : List ℕ) (at : ℕ) → Appends [] out at at out
 unfolding sentBytes
@@ -106,7 +97,7 @@ appends-more l m out at mid next left last h p q = record {
 
 -- where the next goes, behind one record
 pub appends-one-next : (s : Sent) (out : List ℕ) (at next : ℕ) (left : List ℕ) → Appends (s ∷ []) out at next left → next ≡ at + (3 + length (s .bytes))
-appends-one-next s out at next left p = p .answers ∙ ap (λ (n : ℕ). at + n) (length-sent-one s)
+appends-one-next s out at next left p = p .answers ∙ ap (λ (n : ℕ). at + n) (count-one s)
 
 -- records keep the length of an output that has room for them
 pub appends-length : (l : List Sent) (out : List ℕ) (at next : ℕ) (left : List ℕ) → Appends l out at next left → next ≤ length out → length left ≡ length out
@@ -161,7 +152,7 @@ module _ (p q : FromRelay) (seat at n : ℕ) (out begun new : List ℕ) (answer 
       ap (λ (m : ℕ). length (take m (drop (at + 3) begun))) k ∙ length-lent begun (at + 3) n (omega arith) in
       let full : new ≡ relayBytes p = filled (relayJudged p) (relayBytes p) _ new answer q taken (lp ∙ sym size) w in
       let b : sentBytes (to seat p ∷ []) ≡ (seat ∷ bytesOf 2 n) ++ relayBytes p = sent-one (to seat p) ∙ ap (λ (m : ℕ). (seat ∷ bytesOf 2 m) ++ relayBytes p) size in
-      let lr = length-sent-one (to seat p) in
+      let lr = count-one (to seat p) in
       record {
         answers = omega arith;
         leaves =

@@ -6,6 +6,7 @@ use mathlib.Core.Path.{_≡_, refl, sym, ap, ap₂, subst, _∙_}
 use mathlib.Core.Bool.{Bool, true, cond}
 use mathlib.Core.List.{List, [], _∷_, _++_}
 use Prim.Native.Nat.{ℕ, _≤_}
+use native.Mathlib.Omega.{arith}
 use lib.ListN.{length, drop}
 use borrow.Author.Tests.{le-leb}
 use Rattle.rules.specs.Room.{baseSizes, Room, emptyRoom}
@@ -19,11 +20,10 @@ use Rattle.room.specs.Whole.{roomWhole}
 use Rattle.room.specs.Store.{emptied, MakesEmpty}
 use Rattle.room_laws.proofs.TablesLaws.{sizesOf}
 use Rattle.room_laws.proofs.EmptyLaws.{empty-whole, empty-view}
-use Rattle.room_laws.proofs.OutcomeLaws.{KeyOf32, outcome-stored}
+use Rattle.room_laws.proofs.OutcomeLaws.{KeyOf32, outcome-stored, outcome-within}
 use Rattle.relay.specs.Calls.{Leaves, leastOutput, tested, withOutput}
 use Rattle.relay.specs.History.{written, recordsRead, seen, Step, arrives, leaves, sends, Chain, none, next, History, callsOf}
-use Rattle.relay.proofs.ReadBack.{written-read}
-use Rattle.relay.proofs.ShortRecords.{all-short}
+use Rattle.relay.proofs.ReadBack.{all-short, written-read}
 
 -- an answer counts the bytes sent
 pub made-written : (o : Outcome) → RefusedOrAccepted o → written (o .answer) ≡ length (sentBytes (o .sent))
@@ -53,7 +53,7 @@ module _ (s n : ℕ) (b : List ℕ) (whole : roomWhole s n b ≡ true) where
     read-right =
         let o = outcome (viewRoom s n b) call in
         ap (recordsRead given) (l .writes)
-        ∙ written-read (o .sent) (all-short s n b call) given (ap written (l .answers) ∙ made-written o (outcome-made (viewRoom s n b) call))
+        ∙ written-read (o .sent) (all-short (o .sent) (omega (arith, outcome-within s n b whole call))) given (ap written (l .answers) ∙ made-written o (outcome-made (viewRoom s n b) call))
         (drop (length (sentBytes (o .sent))) out)
 
     seen-right : seen call given out′ ≡ event (viewRoom s n b) call

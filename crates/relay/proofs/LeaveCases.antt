@@ -9,14 +9,15 @@ use lib.ListN.{length, take, drop, getD}
 use lib.Seq.{take-suc, take-all}
 use borrow.Author.Tests.{lt-ltb}
 use Rattle.refusal.specs.declared.Refusal.the-variants.{NotSeated}
-use Rattle.packet.specs.FromRelay.{relayBytes, disconnectNotice}
+use Rattle.packet.specs.FromRelay.{disconnectNotice}
 use Rattle.packet.specs.declared.parts.ConnectionNumber.{ConnectionNumber}
 use Rattle.table.specs.Table.{keyOfPlace}
 use Rattle.table.proofs.KeyOrder.{both}
 use Rattle.table.proofs.TableLaws.{key-record}
-use Rattle.rules.specs.Room.{Key, Route, free, wants, Seat, vacant, holds, Room, isVacant, seatAt, firstNumber, numberOfPlace, Peer, alone, joined}
+use Rattle.rules.specs.Room.{Key, Route, free, wants, Seat, vacant, holds, Room, isVacant, seatAt, firstNumber, numberOfPlace, Peer}
 use Rattle.rules.specs.Call.{Sent, leave, accepted, refused}
 use Rattle.rules.specs.Outcome.{peer, to, toPeer, tellPeer, tellPeers, sentBytes, outcome, leaveFrom, accept, refuse, seatEmptied}
+use Rattle.rules.proofs.WithinOutput.{tell-within}
 use Rattle.room.specs.declared.layout.Seat as seats
 use Rattle.room.specs.declared.lookup.Wanted.{Wanted}
 use Rattle.room.specs.Layout.{keyBytes, seatBytes, seatTable, seatStart, routesTable}
@@ -25,7 +26,7 @@ use Rattle.room.specs.Whole.{roomWhole}
 use Rattle.room.specs.Store.{store, storeAll}
 use Rattle.room.specs.Lookup.{hasSeat, taken, keyIn}
 use Rattle.room.specs.Numbers.{routeNumbered, wantedOf}
-use Rattle.room.proofs.LayoutLaws.{few-numbers, seats-fit}
+use Rattle.room.proofs.LayoutLaws.{seats-fit}
 use Rattle.room.proofs.LookupSteps.{has-seat-facts, key-in-seat}
 use Rattle.room_laws.proofs.LookupLaws.{taken-is, taken-holds}
 use Rattle.room_laws.proofs.TablesLaws.{seat-key-stands}
@@ -37,7 +38,7 @@ use Rattle.relay.specs.Calls.{Leaves}
 use Rattle.relay.specs.Steps.{Sits}
 use Rattle.relay.proofs.SeatedClient.{wanted-free, wanted-wants, sits-numbered, route-of-number}
 use Rattle.relay.proofs.PeersFound.{found-joined, found-alone}
-use Rattle.relay.proofs.AppendLaws.{length-sent-one, appends-none, appends-more, appends-front, appends-front-answer}
+use Rattle.relay.proofs.AppendLaws.{appends-none, appends-more, appends-front, appends-front-answer}
 
 -- ---- one peer told
 
@@ -98,9 +99,6 @@ module _ (s n : ℕ) (b : List ℕ) (whole : roomWhole s n b ≡ true) (i : ℕ)
 
 -- ---- every peer told
 
-pub whole-few : (s n : ℕ) (b : List ℕ) → roomWhole s n b ≡ true → n ≤ 240
-whole-few s n b whole = few-numbers s n b (whole-fits s n b whole)
-
 module _ (room : Room) (seat : ℕ) (key : Key) where
   tells-one : (route : Route) → tellPeers room seat key (route ∷ []) ≡ tellPeer room seat key route
   unfolding tellPeers
@@ -146,18 +144,8 @@ module _ (room : Room) (seat : ℕ) (key : Key) where
       (ap (tellPeers room seat key) (sym (take-all place routes h))) a
 
   -- a record of 5 bytes at most
-  peer-short : (p : Peer) → length (sentBytes (toPeer disconnectNotice p)) ≤ 5
-  unfolding toPeer to relayBytes sentBytes
-  peer-short alone = omega arith
-  peer-short (joined other place) = let e = length-sent-one (to other (disconnectNotice (numberOfPlace place))) in omega arith
-
-  tell-short : (route : Route) → length (sentBytes (tellPeer room seat key route)) ≤ 5
-  unfolding tellPeer sentBytes
-  tell-short free = omega arith
-  tell-short (wants wanted) = peer-short (peer room seat key wanted)
-
   pub tell-next : (route : Route) (out : List ℕ) (at next : ℕ) (left : List ℕ) → Appends (tellPeer room seat key route) out at next left → next ≤ at + 5
-  tell-next route out at next left a = let e = a .answers in let s = tell-short route in omega arith
+  tell-next route out at next left a = omega (arith, a .answers, tell-within room seat key route)
 
 -- ---- the seat
 

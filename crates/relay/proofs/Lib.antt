@@ -9,11 +9,9 @@ pub mod CarryCases
 pub mod LeaveCases
 pub mod DropCases
 pub mod RequestCases
-pub mod ReadBounds
 pub mod PacketCases
 pub mod CallsLaws
 pub mod ReadBack
-pub mod ShortRecords
 pub mod Histories
 pub mod EntryLaws
 pub mod PlayLaws

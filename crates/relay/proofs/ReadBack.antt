@@ -22,6 +22,11 @@ abbrev pub Short : List Sent → Type 0
 Short [] = Unit {0}
 Short (s ∷ rest) = (length (s .bytes) < tooLong) × Short rest
 
+-- so they are where all records together are
+pub all-short : (sent : List Sent) → length (sentBytes sent) < tooLong → Short sent
+all-short [] h = tt
+all-short (s ∷ rest) h = let c = count-more s rest in (omega arith, all-short rest (omega arith))
+
 -- the two bytes of a length, and what stands behind them
 two-first : (w x y : List ℕ) → length w ≡ 2 → take 2 ((w ++ x) ++ y) ≡ w
 two-first [] x y l = absurd (omega arith)

@@ -1,25 +1,30 @@
 -- What a call makes of a whole room fits it. So a call's changes stored in the bytes of a whole room are the room that the rules leave, and the
--- bytes stay whole. The key of one who arrives has 32 bytes; that of a routing request has, by the packet's length.
-use mathlib.Core.Path.{_≡_, refl}
+-- bytes stay whole. The key of one who arrives has 32 bytes; that of a routing request has, by the packet's length. And what a call sends is within document
+-- 01's bound for lent output, 2,048 bytes. Assumes nothing.
+use mathlib.Core.Path.{_≡_, refl, ap}
 use mathlib.Core.Bool.{true, false≢true}
 use mathlib.Core.List.{List}
-use Prim.Native.Nat.{ℕ, _<_}
+use Prim.Native.Nat.{ℕ, _≤_, _<_}
 use native.Mathlib.Omega.{arith}
-use lib.ListN.{length, getD}
+use lib.ListN.{length, getD, length-take}
 use Rattle.packet.specs.Read.{Read}
 use Rattle.packet.specs.Read as read
 use Rattle.packet.specs.FromClient as client
+use Rattle.packet.proofs.ReadBounds.{request-key-long}
 use Rattle.rules.specs.Room.{Key, Route, free, wants, Seat, vacant, holds, Room, Found, none, at, find, seatOf, isVacant, routeTo, isFree, seatAt, routeAt, Peer, alone, joined}
 use Rattle.rules.specs.Whole.{Whole}
 use Rattle.rules.specs.Call.{Call, arrive, leave, packetCall}
-use Rattle.rules.specs.Outcome.{refuse, accept, roomAfter, peer, arriveAt, leaveFrom, requestAt, dropAt, oobTo, carryTo, dataAt, act, actOn, packetFrom, outcome}
+use Rattle.rules.specs.Outcome.{refuse, accept, sentBytes, roomAfter, peer, arriveAt, leaveFrom, requestAt, dropAt, oobTo, carryTo, dataAt, act, actOn, packetFrom, outcome}
 use Rattle.rules.proofs.FindLaws.{find-hit, find-within, wanted-place}
-use Rattle.rules.proofs.AnswerLaws.{request-key-long}
+use Rattle.rules.proofs.WithinOutput.{ShortKeys, sent-within}
+use Rattle.table.specs.Table.{recordAt}
+use Rattle.room.specs.Layout.{keyBytes, seatBytes, seatTable}
 use Rattle.room.specs.View.{viewRoom}
 use Rattle.room.specs.Whole.{roomWhole}
 use Rattle.room.specs.Store.{storeAll}
 use Rattle.room_laws.proofs.TablesLaws.{sizesOf}
-use Rattle.room_laws.proofs.WholeLaws.{whole-view}
+use Rattle.room_laws.proofs.ViewLaws.{seat-holds}
+use Rattle.room_laws.proofs.WholeLaws.{whole-few, whole-view}
 use Rattle.room_laws.proofs.StoreLaws.{takes, empties, gives, frees, FitAll, store-all-is-apply-all}
 
 -- a key that arrives has 32 bytes
@@ -122,3 +127,14 @@ pub outcome-stored : (s n : ℕ) (b : List ℕ) → roomWhole s n b ≡ true →
 unfolding roomAfter
 outcome-stored s n b o call l =
     store-all-is-apply-all s n b o (outcome (viewRoom s n b) call .changes) (outcome-fits s n (viewRoom s n b) (whole-view s n b o) call l)
+
+-- ---- what is sent
+
+-- a key in lent bytes has 32 at most
+pub view-keys : (s n : ℕ) (b : List ℕ) → ShortKeys (viewRoom s n b)
+view-keys s n b seat key routes e =
+    let kept = recordAt s (seatBytes n) (seatTable s n b) seat in
+    omega (arith, ap length (seat-holds s n b seat key routes e .2), length-take keyBytes kept)
+
+pub outcome-within : (s n : ℕ) (b : List ℕ) → roomWhole s n b ≡ true → (call : Call) → length (sentBytes (outcome (viewRoom s n b) call .sent)) ≤ 2048
+outcome-within s n b o = sent-within (sizesOf s n) (whole-few s n b o) (viewRoom s n b) (whole-view s n b o) (view-keys s n b)

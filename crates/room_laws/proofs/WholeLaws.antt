@@ -3,7 +3,7 @@
 use mathlib.Core.Path.{_≡_, refl, sym, ap, _∙_}
 use mathlib.Core.Bool.{Bool, true, false, _||_, or-true}
 use mathlib.Core.List.{List, [], _∷_}
-use Prim.Native.Nat.{ℕ, _-_, _<_}
+use Prim.Native.Nat.{ℕ, _-_, _≤_, _<_}
 use native.Mathlib.Omega.{arith}
 use lib.ListN.{length, take, drop, getD}
 use lib.Dec.{eqb}
@@ -19,7 +19,7 @@ use Rattle.rules.proofs.FindLaws.{wanted-high, wanted-place}
 use Rattle.room.specs.Layout.{keyBytes, routesInSeat, seatBytes, fitsRoom, seatTable, routesTable}
 use Rattle.room.specs.View.{viewRoutes, viewRoom}
 use Rattle.room.specs.Whole.{headerRight, routesWhole, roomWhole}
-use Rattle.room.proofs.LayoutLaws.{seats-table, routes-table}
+use Rattle.room.proofs.LayoutLaws.{few-numbers, seats-table, routes-table}
 use Rattle.room_laws.proofs.TablesLaws.{sizesOf, routes-in-record}
 use Rattle.room_laws.proofs.ViewLaws.{view-routes-length, route-wants, view-room-length, seat-holds}
 
@@ -63,6 +63,10 @@ module _ (s n : ℕ) (b : List ℕ) (o : roomWhole s n b ≡ true) where
 
   pub whole-fits : fitsRoom s n b ≡ true
   whole-fits = parts .0
+
+  -- a room has 240 numbers at most
+  pub whole-few : n ≤ 240
+  whole-few = few-numbers s n b whole-fits
 
   pub whole-header : headerRight s n b ≡ true
   whole-header = parts .1

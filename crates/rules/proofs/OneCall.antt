@@ -14,6 +14,7 @@ use Rattle.packet.specs.Read.{Read}
 use Rattle.packet.specs.Read as read
 use Rattle.packet.specs.FromClient as client
 use Rattle.packet.specs.FromRelay as relay
+use Rattle.packet.proofs.ReadBounds.{request-key-long}
 use Rattle.rules.specs.Room.{Sizes, Key, Route, free, wants, Seat, vacant, holds, Room, Found, none, at, orLater, find, seatOf, isVacant, routeTo, isFree, seatAt, routeAt, firstNumber, numberOfPlace, Peer, alone, joined}
 use Rattle.rules.specs.Whole.{Whole}
 use Rattle.rules.specs.Call.{Call, arrive, leave, packetCall, Answer, accepted, refused, Sent}
@@ -24,7 +25,7 @@ use Rattle.rules.specs.After.{clientIn, Tied}
 use Rattle.rules.specs.Record.{Entry, arrived, departed, own, toC, droppedC, dataForC, when, byKey, otherPacket, otherCall, ifAccepted, madeBy, entriesBy, entries, isClient, handedIf, handed, answerIf, asksFor, turnsAway}
 use Rattle.rules.proofs.FindLaws.{Once, find-hit, find-replicate, find-set-same, once-tail, once-first, find-clear, free-not-to, wanted-place}
 use Rattle.rules.proofs.Whole.{wanted-once, key-found}
-use Rattle.rules.proofs.AnswerLaws.{request-key-long, zero-answered}
+use Rattle.rules.proofs.AnswerLaws.{zero-answered}
 use Rattle.rules.proofs.Tied.{tied-here}
 use Rattle.rules.proofs.SentLaws.{count-same}
 use Rattle.rules.proofs.View.{openSeat, ownSeat, otherSeat, View, isFound, viewSeatIf, viewSeat, project, namesC, placeOf, Observed, observed, packetAt, only, toOne, toBoth, counted, ownArrival, ownLeave, ownRequest, ownDrop, ownOob, ownCarry, ownData, ownAct, ownPacket, ownCall, otherArrived, otherDeparted, otherDropped, otherAsked, otherToC, arrivedIf, departedIf, observe, observedThen, observeAll}

@@ -18,6 +18,11 @@ pub count-more : (s : Sent) (rest : List Sent) → length (sentBytes (s ∷ rest
 unfolding sentBytes
 count-more s rest = length-append (recordBytes s) (sentBytes rest) ∙ ap (λ (n : ℕ). n + length (sentBytes rest)) (count-record s)
 
+-- one record
+pub count-one : (s : Sent) → length (sentBytes (s ∷ [])) ≡ 3 + length (s .bytes)
+unfolding sentBytes
+count-one s = count-more s [] ∙ omega arith
+
 -- lists of records as long as each other
 pub count-same : (s s′ : Sent) (rest rest′ : List Sent) → length (s .bytes) ≡ length (s′ .bytes) → length (sentBytes rest) ≡ length (sentBytes rest′)
     → length (sentBytes (s ∷ rest)) ≡ length (sentBytes (s′ ∷ rest′))

@@ -15,6 +15,7 @@ use Rattle.key.proofs.Same.{same-refl, same-sound}
 use Rattle.packet.specs.Read.{Read}
 use Rattle.packet.specs.Read as read
 use Rattle.packet.specs.FromClient as client
+use Rattle.packet.proofs.ReadBounds.{request-key-long}
 use Rattle.rules.specs.Room.{Sizes, Key, Route, free, wants, Seat, vacant, holds, Room, emptyRoom, Found, none, at, find, seatOf, isVacant, routeTo, isFree, routesOf, seatAt, routeAt, firstNumber, numberOfPlace, Peer, alone, joined}
 use Rattle.rules.specs.Whole.{Whole}
 use Rattle.rules.specs.Call.{Call, arrive, leave, packetCall}
@@ -24,7 +25,7 @@ use Rattle.rules.specs.Transcript.{Past, nobody, clientOf, Start, fromEm
 use Rattle.rules.specs.After.{roomAfterAll, pastAfter, clientIn, routesIn, routesBy, Tied, startOf}
 use Rattle.rules.proofs.FindLaws.{clash, route-to-wants, find-hit, find-within, find-replicate, getD-all, find-set-same, find-clear, vacant-no-key, seat-set, seat-set-other, held-within, free-not-to, route-none, route-at-place, wanted-high, route-set-other, route-set, route-freed, route-all-free}
 use Rattle.rules.proofs.Whole.{key-once, key-found, whole-after, whole-empty}
-use Rattle.rules.proofs.AnswerLaws.{request-key-long, zero-answered, place-answered}
+use Rattle.rules.proofs.AnswerLaws.{zero-answered, place-answered}
 
 -- ---- tests
 

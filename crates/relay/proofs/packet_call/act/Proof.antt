@@ -6,12 +6,12 @@ use mathlib.Core.List.{_∷_, []}
 use Rattle.packet.specs.FromClient.{relayRead}
 use Rattle.packet.specs.FromRelay as relay
 use Rattle.packet.specs.declared.relay.RelayRead.the-variants.{Packet}
+use Rattle.packet.proofs.ReadBounds.{Within, read-within}
 use Rattle.rules.specs.Outcome.{act, to}
 use Rattle.room.specs.Layout.{routesTable}
 use Rattle.room.specs.View.{viewRoom, viewRoutes}
 use Rattle.relay.specs.Calls.{answerOf}
 use Rattle.relay.proofs.OutcomeLeaves.{leaves-none, leaves-sent}
-use Rattle.relay.proofs.ReadBounds.{Within, read-within}
 use Rattle.relay.proofs.PacketCases.{acted, shows-request, shows-drop, shows-ping, shows-pong, shows-oob, shows-data}
 use Rattle.relay.proofs.packet_call.act.Statement.{statement}
 use Rattle.relay.proofs.packet_call.act.Tie as tie

@@ -1,24 +1,25 @@
--- What the relay's reader takes has payloads within document 01's bounds, and ping numbers that are not 0.
+-- What the relay's reader takes is within document 01's bounds: a requested key of 32 bytes, payloads of 1 to 1,024 and of 1 to 2,031 bytes, and ping numbers
+-- that are not 0. Assumes nothing.
 use mathlib.Core.Path.{_≡_, refl, subst}
-use mathlib.Core.Bool.{Bool, true, false, not}
+use mathlib.Core.Bool.{Bool, true, false, not, false≢true}
 use mathlib.Core.List.{List}
 use Prim.Native.Nat.{ℕ, _≤_, _<_}
 use native.Mathlib.Omega.{arith}
 use lib.Dec.{eqb}
 use lib.ListN.{length, take, length-drop}
+use lib.Seq.{length-take-le}
 use borrow.Author.Tests.{eqb-false}
-use Rattle.table.proofs.KeyOrder.{no}
 use Rattle.wire.specs.Numbers.{numberOf}
 use Rattle.packet.specs.Read.{packet}
 use Rattle.packet.specs.Table.{kindOf, bodyOf, relayTakes, pingRight}
 use Rattle.packet.specs.FromClient.{FromClient, routingRequest, dropRoute, ping, pong, oobSend, routedData, fromClient, relayRead}
-use Rattle.packet.proofs.KindLaws.{from-client-data, size-bounds, length-oob-send, length-two}
+use Rattle.packet.proofs.KindLaws.{from-client-data, size-bounds, length-request, length-oob-send, length-two}
 use Rattle.packet.proofs.CheckLaws.{Passes, Checks, pass, fail, checks, never-both}
 use Rattle.packet.proofs.PartLaws.{length-body}
 use Rattle.packet.proofs.RelayLaws.{RelayKind, is-request, is-drop, is-ping, is-pong, is-oob, is-data, relay-kind, relay-takes}
 
 unfoldable pub Within : FromClient → Type 0
-Within (routingRequest key) = Unit {0}
+Within (routingRequest key) = length key ≡ 32
 Within (dropRoute number) = Unit {0}
 Within (ping n) = 0 < n
 Within (pong n) = Unit {0}
@@ -29,13 +30,16 @@ not-zero : (n : ℕ) → not (eqb n 0) ≡ true → 0 < n
 not-zero n e = go (eqb n 0) refl e
   where
     go : (t : Bool) → eqb n 0 ≡ t → not t ≡ true → 0 < n
-    go true h q = absurd (no q)
+    go true h q = absurd (false≢true q)
     go false h q = let d = eqb-false n 0 h in omega (arith, d)
 
 module _ (bytes : List ℕ) (taken : Passes relayTakes bytes) where
   within : RelayKind (kindOf bytes) → Within (fromClient (kindOf bytes) (bodyOf bytes))
   unfolding fromClient Within pingRight
-  within (is-request e) = rw e tt
+  within (is-request e) =
+      let h = length-request (kindOf bytes) (length bytes) (taken .long) e in
+      let l = length-body bytes in
+      rw e (length-take-le 32 (bodyOf bytes) (omega arith))
   within (is-drop e) = rw e tt
   within (is-ping e) = rw e (not-zero (numberOf (take 8 (bodyOf bytes))) (rw e at (taken .ping)))
   within (is-pong e) = rw e tt
@@ -59,3 +63,8 @@ read-within bytes p e = go (checks relayTakes bytes (packet (fromClient (kindOf 
         let q : fromClient (kindOf bytes) (bodyOf bytes) ≡ p = cc in
         subst Within q (within bytes t (relay-kind (kindOf bytes) (t .kind)))
     go (fail why r) = absurd (never-both (relayRead bytes) p why e r)
+
+-- so a request that the relay takes names a key of 32 bytes
+pub request-key-long : (bytes key : List ℕ) → relayRead bytes ≡ packet (routingRequest key) → length key ≡ 32
+unfolding Within
+request-key-long bytes key e = read-within bytes (routingRequest key) e
