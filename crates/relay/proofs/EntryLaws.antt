@@ -1,17 +1,15 @@
 -- What is written for a call: its head before the records, and both in one output. Assumes nothing.
-use mathlib.Core.Path.{_≡_, refl, sym, ap, _∙_}
-use mathlib.Core.List.{List, [], _∷_, _++_, append-assoc}
-use Prim.Native.Nat.{ℕ, _+_, _-_, _≤_}
+use mathlib.Core.Path.{_≡_, refl, ap, _∙_}
+use mathlib.Core.List.{List, [], _∷_, _++_}
+use Prim.Native.Nat.{ℕ, _-_, _≤_}
 use native.Mathlib.Omega.{arith}
-use lib.ListN.{length, take, drop, set, length-set, length-append}
-use Rattle.refusal.specs.declared.Refusal.{Refusal}
+use lib.ListN.{length, take, drop, set, length-set}
 use Rattle.wire.specs.Numbers.{bytesOf}
 use Rattle.wire.proofs.Numbers.{length-bytesOf}
 use Rattle.rules.specs.Call.{Answer, accepted, refused}
 use Rattle.room.specs.declared.layout.Seat.{Seat}
 use Rattle.relay.specs.declared.answer.Answer as code
-use Rattle.relay.specs.Calls.{answerOf}
-use Rattle.relay.specs.History.{written}
+use Rattle.relay.specs.Calls.{answerOf, written}
 use Rattle.relay.specs.Output.{appended}
 use Rattle.relay.specs.Play.{entryHead}
 use Rattle.relay.proofs.AppendLaws.{appended-more, appended-front, byte-appended, head-written}

@@ -11,14 +11,9 @@ pub mod DropCases
 pub mod RequestCases
 pub mod PacketCases
 pub mod CallsLaws
-pub mod ReadBack
-pub mod Histories
 pub mod EntryLaws
 pub mod PlayLaws
 pub mod MakeCases
 pub mod NextCases
 pub mod RunCases
 pub mod TurnCases
-pub mod DataInHistories
-pub mod IsolationInHistories
-pub mod EverySequence

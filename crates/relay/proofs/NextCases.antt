@@ -1,6 +1,6 @@
 -- The next stored call, played: the records behind the head are the call's, and the two together are what a run writes for it. Assumes nothing.
-use mathlib.Core.Path.{_≡_, refl, sym, ap, _∙_}
-use mathlib.Core.List.{List, [], _++_, append-assoc, append-nil}
+use mathlib.Core.Path.{_≡_, sym, ap, _∙_}
+use mathlib.Core.List.{List, _++_, append-assoc, append-nil}
 use Prim.Native.Nat.{ℕ, _+_, _-_, _≤_}
 use native.Mathlib.Omega.{arith}
 use lib.ListN.{length, take, drop, length-append, length-drop, drop-of-length-le}
@@ -10,11 +10,10 @@ use Rattle.rules.specs.Outcome.{outcome, sentBytes}
 use Rattle.rules.specs.History.{event}
 use Rattle.rules.proofs.RefusedOrAccepted.{outcome-made}
 use Rattle.room.specs.View.{viewRoom}
-use Rattle.relay.specs.Calls.{Leaves}
-use Rattle.relay.specs.History.{written}
+use Rattle.relay.specs.Calls.{written, Leaves}
 use Rattle.relay.specs.Play.{entryHead, entryBytes}
+use Rattle.relay.proofs.OutcomeLeaves.{made-written}
 use Rattle.relay.proofs.EntryLaws.{length-entry-head}
-use Rattle.relay.proofs.Histories.{made-written}
 
 -- the output behind a head, as it is lent
 abbrev pub behindHead : List ℕ → List ℕ

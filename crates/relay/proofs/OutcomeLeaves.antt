@@ -1,13 +1,16 @@
--- What outcomes leave: one that is refused leaves all, and one that changes nothing leaves the room and writes its records.
-use mathlib.Core.Path.{refl, ap}
+-- What outcomes leave: one that is refused leaves all, and one that changes nothing leaves the room and writes its records. And an answer counts what its
+-- outcome writes. Assumes nothing.
+use mathlib.Core.Path.{_≡_, refl, ap}
 use mathlib.Core.List.{List, []}
-use Prim.Native.Nat.{ℕ, _-_}
+use Prim.Native.Nat.{ℕ}
+use lib.ListN.{length}
 use Rattle.refusal.specs.declared.Refusal.{Refusal}
 use Rattle.rules.specs.Call.{Sent, accepted, refused}
-use Rattle.rules.specs.Outcome.{accept, refuse, sentBytes}
+use Rattle.rules.specs.Outcome.{Outcome, accept, refuse, sentBytes}
+use Rattle.rules.proofs.RefusedOrAccepted.{RefusedOrAccepted, refusal, acceptance}
 use Rattle.room.specs.Store.{storeAll}
 use Rattle.relay.specs.Output.{Appends}
-use Rattle.relay.specs.Calls.{Leaves}
+use Rattle.relay.specs.Calls.{written, Leaves}
 use Rattle.relay.proofs.AppendLaws.{appends-front, appends-front-answer}
 
 module _ (s n : ℕ) (b out : List ℕ) where
@@ -23,3 +26,9 @@ module _ (s n : ℕ) (b out : List ℕ) where
   unfolding accept storeAll
   leaves-sent seat sent bytes left w =
       record { answers = ap (accepted seat) (appends-front-answer sent out bytes left w); stores = refl; writes = appends-front sent out bytes left w }
+
+-- an answer counts the bytes sent
+pub made-written : (o : Outcome) → RefusedOrAccepted o → written (o .answer) ≡ length (sentBytes (o .sent))
+unfolding written refuse accept sentBytes
+made-written o (refusal why e) = rw e
+made-written o (acceptance seat changes sent e) = rw e

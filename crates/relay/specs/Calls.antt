@@ -1,6 +1,6 @@
 -- What each public call does: one relation between what it is given (the bytes of the room, the call, the output) and what it leaves (its answer, the
 -- bytes of the room, the output).
-use mathlib.Core.Bool.{Bool, true, cond}
+use mathlib.Core.Bool.{cond}
 use mathlib.Core.List.{List, _++_}
 use mathlib.Core.Path.{_≡_}
 use Prim.Native.Nat.{ℕ}
@@ -19,6 +19,11 @@ use Rattle.relay.specs.declared.answer.Answer.the-variants as answer
 unfoldable pub answerOf : Answer → rules.Answer
 answerOf (answer.Accepted seat bytes) = rules.accepted (seat .0) bytes
 answerOf (answer.Refused why) = rules.refused why
+
+-- "An accepted call answers how many bytes it wrote", "A refusal answers its number with 0 bytes written"
+unfoldable pub written : rules.Answer → ℕ
+written (rules.accepted seat count) = count
+written (rules.refused why) = 0
 
 -- what an outcome leaves: the answer, the room with the changes stored, the output with the records and what stood behind them
 pub record Leaves (s n : ℕ) (o : Outcome) (b out : List ℕ) (given : rules.Answer) (b′ out′ : List ℕ) : Type 0 where

@@ -6,8 +6,8 @@ use Prim.Native.Nat.{ℕ}
 use Rattle.rules.specs.Room.{baseSizes, emptyRoom}
 use Rattle.rules.specs.Call.{Call}
 use Rattle.rules.specs.History.{Event, transcript}
-use Rattle.relay.specs.History.{History, callsOf}
-use Rattle.relay.proofs.Histories.{base-history-runs}
+use Rattle.histories.specs.History.{History, callsOf}
+use Rattle.histories.proofs.Histories.{base-history-runs}
 use Rattle.vectors.specs.Examples.{Given, roomRow, examples, EndsWith, rowEvents, Says, In}
 use Rattle.vectors.proofs.Holds.{examples-hold}
 

@@ -7,8 +7,7 @@ use native.Mathlib.Omega.{arith}
 use lib.ListN.{drop}
 use Rattle.wire.specs.Numbers.{bytesOf}
 use Rattle.relay.specs.declared.answer.Answer.{Answer}
-use Rattle.relay.specs.Calls.{answerOf}
-use Rattle.relay.specs.History.{written}
+use Rattle.relay.specs.Calls.{answerOf, written}
 use Rattle.relay.specs.Play.{entryHead}
 use Rattle.relay.proofs.EntryLaws.{count-given}
 use Rattle.relay.proofs.entry.write.Statement.{statement}

@@ -11,7 +11,8 @@ use Rattle.wire.proofs.Numbers.{length-bytesOf, number-bytesOf}
 use Rattle.rules.specs.Call.{Answer, Sent}
 use Rattle.rules.specs.Outcome.{recordBytes, sentBytes}
 use Rattle.rules.proofs.SentLaws.{count-more}
-use Rattle.relay.specs.History.{written, recordsIn, recordsRead}
+use Rattle.relay.specs.Calls.{written}
+use Rattle.histories.specs.History.{recordsIn, recordsRead}
 
 -- lengths from here on do not fit the two bytes of a record's length
 abbrev pub tooLong : ℕ

@@ -16,8 +16,8 @@ use Rattle.room.specs.View.{viewRoom}
 use Rattle.room.specs.Whole.{roomWhole}
 use Rattle.room.specs.Store.{storeAll, emptied}
 use Rattle.room_laws.proofs.OutcomeLaws.{KeyOf32}
 use Rattle.relay.specs.Calls.{leastOutput, tested, withOutput}
-use Rattle.relay.specs.History.{seen, Step, arrives, leaves, sends, Chain, none, next, History, callsOf}
+use Rattle.histories.specs.History.{seen, Step, arrives, leaves, sends, Chain, none, next, History, callsOf}
 
 -- each arrival is by a key of 32 bytes
 abbrev pub KeysOf32 : List Call → Type 0

@@ -9,18 +9,13 @@ use Prim.Native.Nat.{ℕ, zero, suc, _≤_}
 use lib.ListN.{length, take, drop}
 use Rattle.wire.specs.Numbers.{numberOf}
 use Rattle.rules.specs.Room.{Key}
-use Rattle.rules.specs.Call.{Call, arrive, leave, packetCall, Answer, accepted, refused, Sent}
+use Rattle.rules.specs.Call.{Call, arrive, leave, packetCall, Answer, Sent}
 use Rattle.rules.specs.History.{Event}
 use Rattle.room.specs.Layout.{fitsRoom}
 use Rattle.room.specs.Store.{emptied}
-use Rattle.relay.specs.Calls.{Leaves, leastOutput, tested, withOutput}
+use Rattle.relay.specs.Calls.{written, Leaves, leastOutput, tested, withOutput}
 
 -- ---- what the host sees of a call
-
--- "An accepted call answers how many bytes it wrote", "A refusal answers its number with 0 bytes written"
-unfoldable pub written : Answer → ℕ
-written (accepted seat count) = count
-written (refused why) = 0
 
 -- the records in a run of bytes, up to `most` of them: "What is sent is a run of records in the lent output: seat (1 byte), length (2), the packet."
 unfoldable pub recordsIn : ℕ → List ℕ → List Sent

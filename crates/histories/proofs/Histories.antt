@@ -11,25 +11,20 @@ use lib.ListN.{length, drop}
 use borrow.Author.Tests.{le-leb}
 use Rattle.rules.specs.Room.{baseSizes, Room, emptyRoom}
 use Rattle.rules.specs.Call.{Call, arrive, leave, packetCall, Answer}
-use Rattle.rules.specs.Outcome.{Outcome, refuse, accept, sentBytes, outcome, roomAfter}
+use Rattle.rules.specs.Outcome.{Outcome, sentBytes, outcome, roomAfter}
 use Rattle.rules.specs.History.{Event, event, transcript}
 use Rattle.rules.specs.After.{roomAfterAll}
-use Rattle.rules.proofs.RefusedOrAccepted.{RefusedOrAccepted, refusal, acceptance, outcome-made}
+use Rattle.rules.proofs.RefusedOrAccepted.{outcome-made}
 use Rattle.room.specs.View.{viewRoom}
 use Rattle.room.specs.Whole.{roomWhole}
 use Rattle.room.specs.Store.{emptied, MakesEmpty}
 use Rattle.room_laws.proofs.TablesLaws.{sizesOf}
 use Rattle.room_laws.proofs.EmptyLaws.{empty-whole, empty-view}
 use Rattle.room_laws.proofs.OutcomeLaws.{KeyOf32, outcome-stored, outcome-within}
-use Rattle.relay.specs.Calls.{Leaves, leastOutput, tested, withOutput}
-use Rattle.relay.specs.History.{written, recordsRead, seen, Step, arrives, leaves, sends, Chain, none, next, History, callsOf}
-use Rattle.relay.proofs.ReadBack.{all-short, written-read}
-
--- an answer counts the bytes sent
-pub made-written : (o : Outcome) → RefusedOrAccepted o → written (o .answer) ≡ length (sentBytes (o .sent))
-unfolding written refuse accept sentBytes
-made-written o (refusal why e) = rw e
-made-written o (acceptance seat changes sent e) = rw e
+use Rattle.relay.specs.Calls.{written, Leaves, leastOutput, tested, withOutput}
+use Rattle.relay.proofs.OutcomeLeaves.{made-written}
+use Rattle.histories.specs.History.{recordsRead, seen, Step, arrives, leaves, sends, Chain, none, next, History, callsOf}
+use Rattle.histories.proofs.ReadBack.{all-short, written-read}
 
 -- ---- one step
 

@@ -14,8 +14,8 @@ use Rattle.rules.specs.After.{pastAfter}
 use Rattle.rules.specs.GoesOn.{DataGoesOn}
 use Rattle.rules.proofs.DataGoesOn.{data-goes-on-from-empty}
 use Rattle.room_laws.proofs.TablesLaws.{sizesOf}
-use Rattle.relay.specs.History.{History, callsOf}
-use Rattle.relay.proofs.Histories.{history-event}
+use Rattle.histories.specs.History.{History, callsOf}
+use Rattle.histories.proofs.Histories.{history-event}
 
 pub data-in-histories : (s n : ℕ) (events : List Event) (b′ : List ℕ) → History s n events b′
     → (before : List Event) (e : Event) (later : List Event) → events ≡ before ++ (e ∷ later)

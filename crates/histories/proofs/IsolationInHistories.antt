@@ -13,8 +13,8 @@ use Rattle.rules.specs.Transcript.{fromEmpty}
 use Rattle.rules.specs.Record.{recordFor, packetsFor, answersFor, zeroForC}
 use Rattle.rules.proofs.Isolation.{two-histories}
 use Rattle.room_laws.proofs.TablesLaws.{sizesOf}
-use Rattle.relay.specs.History.{History, callsOf}
-use Rattle.relay.proofs.Histories.{history-runs}
+use Rattle.histories.specs.History.{History, callsOf}
+use Rattle.histories.proofs.Histories.{history-runs}
 
 -- of events that are transcripts
 of-events : (sizes : Sizes) (c : Key) (events₁ events₂ : List Event) (h₁ h₂ : List Call)

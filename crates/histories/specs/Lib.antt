@@ -1,0 +1,2 @@
+-- Histories as the host makes them and sees them.
+pub mod History
