@@ -9,12 +9,12 @@ use lib.Dec.{leb}
 use lib.ListN.{length, drop, length-append}
 use Rattle.refusal.specs.declared.Refusal.the-variants.{OutputTooShort, RoomNotWhole}
 use Rattle.rules.specs.Call.{Call, Answer}
-use Rattle.rules.specs.Outcome.{Outcome, refuse, accept, sentBytes, outcome}
+use Rattle.rules.specs.Outcome.{refuse, sentBytes, outcome}
 use Rattle.rules.proofs.RefusedOrAccepted.{RefusedOrAccepted, refusal, acceptance, outcome-made}
 use Rattle.room.specs.View.{viewRoom}
 use Rattle.room.specs.Whole.{roomWhole}
-use Rattle.relay.specs.Calls.{Leaves, leastOutput, tested, withOutput}
-use Rattle.relay.specs.History.{written}
+use Rattle.relay.specs.Calls.{Leaves, leastOutput, tested, withOutput, written}
+use Rattle.relay.proofs.OutcomeLeaves.{made-written}
 use Rattle.stored.specs.declared.StoredCall.{StoredCall}
 use Rattle.stored.specs.declared.StoredRead.{StoredRead}
 use Rattle.stored.specs.declared.StoredRead.the-variants as code
@@ -22,12 +22,6 @@ use Rattle.stored.specs.Stored.{First, none, call, firstCall, shownCall, shownF
 use Rattle.stored.proofs.StoredLaws.{first-within}
 
 -- ---- the answer and the output
-
--- an answer counts the bytes sent
-counts : (o : Outcome) → RefusedOrAccepted o → written (o .answer) ≡ length (sentBytes (o .sent))
-unfolding written refuse accept sentBytes
-counts o (refusal why e) = rw e
-counts o (acceptance seat changes sent e) = rw e
 
 made : (s n : ℕ) (b out : List ℕ) (c : Call) → RefusedOrAccepted (withOutput s n b out c)
 unfolding withOutput tested
@@ -42,7 +36,7 @@ pub count-within : (s n : ℕ) (b out : List ℕ) (c : Call) (given : Answer) (b
     → Leaves s n (withOutput s n b out c) b out given b′ out′ → written given ≤ length out′
 count-within s n b out c given b′ out′ l =
     let o = withOutput s n b out c in
-    let e = ap written (l .answers) ∙ counts o (made s n b out c) in
+    let e = ap written (l .answers) ∙ made-written o (made s n b out c) in
     let w = ap length (l .writes) ∙ length-append (sentBytes (o .sent)) (drop (length (sentBytes (o .sent))) out) in
     omega arith
 

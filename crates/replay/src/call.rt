@@ -1,8 +1,7 @@
 // One call, played with the relay's single calls: who asks what, what is answered, and who is handed what.
 ghost use Prim.Native.Nat.{_≤_};
 ghost use lib.ListN.{length};
-ghost use Rattle.relay.specs.Calls.{answerOf};
-ghost use Rattle.relay.specs.History.{written};
+ghost use Rattle.relay.specs.Calls.{answerOf, written};
 use crate::asked;
 use crate::records;
 use crate::refused;
