@@ -44,6 +44,13 @@ record Steps (s n : ℕ) (b : List ℕ) (call : Call) : Type 0 where
   pub step : Step s n b seen-as left
   pub is : seen-as .call ≡ call
 
+-- a chain with these calls
+pub record ChainOf (s n : ℕ) (b : List ℕ) (calls : List Call) : Type 0 where
+  pub events : List Event
+  pub left : List ℕ
+  pub chain : Chain s n b events left
+  pub are : callsOf events ≡ calls
+
 module _ (s n : ℕ) (out : List ℕ) (long : leastOutput ≤ length out) where
   every-call : (b : List ℕ) (call : Call) → KeyOf32 call → Steps s n b call
   unfolding seen
@@ -74,13 +81,7 @@ module _ (s n : ℕ) (out : List ℕ) (long : leastOutput ≤ length out) where
         is = refl;
       }
 
-  record Chained (b : List ℕ) (calls : List Call) : Type 0 where
-    pub events : List Event
-    pub left : List ℕ
-    pub chain : Chain s n b events left
-    pub are : callsOf events ≡ calls
-
-  every-chain : (b : List ℕ) (calls : List Call) → KeysOf32 calls → Chained b calls
+  pub every-chain : (b : List ℕ) (calls : List Call) → KeysOf32 calls → ChainOf s n b calls
   unfolding callsOf
   every-chain b [] k = record { events = []; left = b; chain = none; are = refl }
   every-chain b (call ∷ calls) k =

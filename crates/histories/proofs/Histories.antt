@@ -17,7 +17,7 @@ use Rattle.rules.specs.After.{roomAfterAll}
 use Rattle.rules.proofs.RefusedOrAccepted.{outcome-made}
 use Rattle.room.specs.View.{viewRoom}
 use Rattle.room.specs.Whole.{roomWhole}
-use Rattle.room.specs.Store.{emptied, MakesEmpty}
+use Rattle.room.specs.Store.{storeAll, emptied, MakesEmpty}
 use Rattle.room_laws.proofs.TablesLaws.{sizesOf}
 use Rattle.room_laws.proofs.EmptyLaws.{empty-whole, empty-view}
 use Rattle.room_laws.proofs.OutcomeLaws.{KeyOf32, outcome-stored, outcome-within}
@@ -28,9 +28,10 @@ use Rattle.histories.proofs.ReadBack.{all-short, written-read}
 
 -- ---- one step
 
--- what the host sees is the rules' event, and the bytes left are whole and the rules' room
-record Right (s n : ℕ) (b : List ℕ) (e : Event) (b′ : List ℕ) : Type 0 where
+-- what the host sees is the rules' event, and the bytes left are those given with the call's changes stored: whole, and the rules' room
+pub record Right (s n : ℕ) (b : List ℕ) (e : Event) (b′ : List ℕ) : Type 0 where
   pub sees : e ≡ event (viewRoom s n b) (e .call)
+  pub stores : b′ ≡ storeAll s n b (outcome (viewRoom s n b) (e .call) .changes)
   pub room : viewRoom s n b′ ≡ roomAfter (sizesOf s n) (viewRoom s n b) (outcome (viewRoom s n b) (e .call))
   pub whole : roomWhole s n b′ ≡ true
 
@@ -61,6 +62,7 @@ module _ (s n : ℕ) (b : List ℕ) (whole : roomWhole s n b ≡ true) where
         let q = outcome-stored s n b whole call key in
         record {
           sees = refl;
+          stores = l .stores;
           room = ap (viewRoom s n) (l .stores) ∙ q .0;
           whole = ap (roomWhole s n) (l .stores) ∙ q .1;
         }
@@ -68,7 +70,7 @@ module _ (s n : ℕ) (b : List ℕ) (whole : roomWhole s n b ≡ true) where
     leaves-right : (e : Event) → e ≡ seen call given out′ → Right s n b e b′
     leaves-right e q = subst (λ (x : Event). Right s n b x b′) (sym (q ∙ seen-right)) call-right
 
-  step-right : (e : Event) (b′ : List ℕ) → Step s n b e b′ → Right s n b e b′
+  pub step-right : (e : Event) (b′ : List ℕ) → Step s n b e b′ → Right s n b e b′
   step-right e b′ (arrives key given k l q) =
       let call = arrive key in
       leaves-right call k given [] b′ [] (subst (λ (o : Outcome). Leaves s n o b [] given b′ []) (tested-whole call) l) e q

@@ -63,7 +63,7 @@ rests-all s n r b out given b′ out′ w =
 -- ---- a call, and then the rest
 
 -- an arrival that was stored has a key of 32 bytes
-stored-key : (stored : List ℕ) (c : Call) → firstCall stored ≡ call c → KeyOf32 c
+pub stored-key : (stored : List ℕ) (c : Call) → firstCall stored ≡ call c → KeyOf32 c
 stored-key stored c e = go c (first-is stored c e .form)
   where
     go : (c : Call) → Formed (getD stored 0 0) (getD stored 1 0) (givenIn stored) c → KeyOf32 c

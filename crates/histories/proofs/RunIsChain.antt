@@ -1,0 +1,146 @@
+-- A run of stored calls is a chain of the public single calls. From whole bytes, whatever the allowance, the stored bytes and the output:
+--
+--   - the calls that a run plays, made one by one, each on the bytes that the last returned and with an output of 2,048 bytes, leave the bytes that the run
+--     leaves, and their events are the rules' transcript of the calls played (`run-is-chain`);
+--   - the other way, any single calls that are those of the run, whatever outputs are lent to them, are seen as the same events and leave the same bytes, and
+--     what the run writes is these events, entry by entry, and then what stood behind them (`chain-is-run`);
+--   - chains join, so runs and single calls may stand in one history in any order (`chain-append`, `run-behind`);
+--   - and what a run plays are the calls that are stored, in order, with none skipped (`run-in-front`).
+--
+-- So a host learns from a run what it would learn from the single calls, to the byte. Assumes nothing.
+use mathlib.Core.Path.{_≡_, refl, sym, ap, ap₂, _∙_}
+use mathlib.Core.Bool.{true}
+use mathlib.Core.List.{List, [], _∷_, _++_}
+use Prim.Native.Nat.{ℕ, zero, suc, _-_, _≤_}
+use native.Mathlib.Omega.{arith}
+use lib.ListN.{length, drop, replicate, length-replicate}
+use Rattle.rules.specs.Room.{Sizes, Room}
+use Rattle.rules.specs.Call.{Call}
+use Rattle.rules.specs.Outcome.{outcome, roomAfter}
+use Rattle.rules.specs.History.{Event, event, transcript}
+use Rattle.room.specs.View.{viewRoom}
+use Rattle.room.specs.Whole.{roomWhole}
+use Rattle.room.specs.Store.{storeAll}
+use Rattle.room_laws.proofs.TablesLaws.{sizesOf}
+use Rattle.stored.specs.Stored.{storedBytes, storedAll, call, firstCall}
+use Rattle.relay.specs.declared.play.Run as code
+use Rattle.relay.specs.Calls.{leastOutput}
+use Rattle.relay.specs.Play.{entryBytes, entriesBytes, Next, stops, plays, Run, goOn, run, changesAll, played, playing, Plays}
+use Rattle.relay.specs.Play as play
+use Rattle.relay.proofs.PlayLaws.{next-is, restOf, store-all-append}
+use Rattle.relay.proofs.RunCases.{stored-key}
+use Rattle.histories.specs.History.{Chain, none, next, callsOf}
+use Rattle.histories.proofs.Histories.{step-right, chain-runs}
+use Rattle.histories.proofs.EverySequence.{KeysOf32, every-chain}
+
+-- ---- chains
+
+pub chain-append : {s n : ℕ} {b b₁ b₂ : List ℕ} {events later : List Event} → Chain s n b events b₁ → Chain s n b₁ later b₂ → Chain s n b (events ++ later) b₂
+chain-append none d = d
+chain-append (next step c) d = next step (chain-append c d)
+
+-- an event for each call
+length-calls : (events : List Event) → length (callsOf events) ≡ length events
+unfolding callsOf
+length-calls [] = refl
+length-calls (e ∷ events) = ap suc (length-calls events)
+
+-- what any chain leaves of whole bytes: the changes of all its calls are stored
+pub chain-leaves : (s n : ℕ) (b : List ℕ) (events : List Event) (b′ : List ℕ) → Chain s n b events b′ → roomWhole s n b ≡ true
+    → b′ ≡ storeAll s n b (changesAll (sizesOf s n) (viewRoom s n b) (callsOf events))
+unfolding storeAll changesAll callsOf
+chain-leaves s n b es b′ none w = refl
+chain-leaves s n b es b′ (next {b₁ = b₁} {e = e} {events = events} step chain) w =
+    let r = step-right s n b w e b₁ step in
+    let o = outcome (viewRoom s n b) (e .call) in
+    chain-leaves s n b₁ events b′ chain (r .whole)
+    ∙ ap₂ (λ (x : List ℕ) (y : Room). storeAll s n x (changesAll (sizesOf s n) y (callsOf events))) (r .stores) (r .room)
+    ∙ sym (store-all-append s n b (o .changes) (changesAll (sizesOf s n) (roomAfter (sizesOf s n) (viewRoom s n b) o) (callsOf events)))
+
+-- ---- the calls of a run
+
+-- calls that stand at the front of stored bytes, one behind the other
+abbrev pub InFront : List ℕ → List Call → Type 0
+InFront stored [] = Unit {0}
+InFront stored (c ∷ calls) = (firstCall stored ≡ call c) × InFront (drop (length (storedBytes c)) stored) calls
+
+-- a run plays the calls that are stored, in order, and skips none
+pub run-in-front : (sizes : Sizes) (allowance : ℕ) (room : Room) (stored : List ℕ) (space : ℕ) → InFront stored (run sizes allowance room stored space .calls)
+unfolding run goOn
+run-in-front sizes zero room stored space = tt
+run-in-front sizes (suc more) room stored space =
+    go (play.next (suc more) stored space) refl
+    (λ c. run-in-front sizes more (roomAfter sizes room (outcome room c)) (drop (length (storedBytes c)) stored) (space - length (entryBytes (event room c))))
+  where
+    later : Call → Run
+    later = restOf sizes room stored space more
+
+    go : (x : Next) → play.next (suc more) stored space ≡ x → ((c : Call) → InFront (drop (length (storedBytes c)) stored) (later c .calls))
+        → InFront stored (goOn x later .calls)
+    go (stops why) e k = tt
+    go (plays c) e k = (next-is (suc more) stored space c e .first, k c)
+
+-- so each arrival is by a key of 32 bytes: no other is a stored call
+keys-in-front : (stored : List ℕ) (calls : List Call) → InFront stored calls → KeysOf32 calls
+keys-in-front stored [] f = tt
+keys-in-front stored (c ∷ calls) f = (stored-key stored c (f .0), keys-in-front (drop (length (storedBytes c)) stored) calls (f .1))
+
+-- the run on the bytes of a room, and its events
+abbrev pub runOn : ℕ → ℕ → ℕ → List ℕ → List ℕ → List ℕ → Run
+runOn s n allowance stored b out = run (sizesOf s n) allowance (viewRoom s n b) stored (length out)
+
+abbrev pub runEvents : ℕ → ℕ → ℕ → List ℕ → List ℕ → List ℕ → List Event
+runEvents s n allowance stored b out = transcript (sizesOf s n) (viewRoom s n b) (runOn s n allowance stored b out .calls)
+
+-- ---- the theorem
+
+-- some output that is long enough
+some-output : List ℕ
+some-output = replicate leastOutput 0
+
+long-output : leastOutput ≤ length some-output
+unfolding some-output
+long-output = omega (arith, length-replicate {A = ℕ} leastOutput 0)
+
+-- a run that answered `given` and left b′ and out′, and single calls from the same bytes that left `left`: the same events, the same bytes, and in the output
+-- of the run what it writes for these events, counted in its answer
+pub record SameAsRun (s n allowance : ℕ) (stored b out : List ℕ) (given : code.Run) (b′ out′ : List ℕ) (events : List Event) (left : List ℕ) : Type 0 where
+  pub events-are : events ≡ runEvents s n allowance stored b out
+  pub leaves : left ≡ b′
+  pub writes : out′ ≡ entriesBytes events ++ drop (length (entriesBytes events)) out
+  pub answers : given ≡ code.the-variants.Stopped (runOn s n allowance stored b out .why) (length events) (length (storedAll (callsOf events))) (length (entriesBytes events))
+
+module _ (s n allowance : ℕ) (stored b out : List ℕ) (given : code.Run) (b′ out′ : List ℕ) (whole : roomWhole s n b ≡ true)
+    (p : Plays s n (playing s n allowance stored b out) b out given b′ out′) where
+  -- the room is whole, so nothing is refused
+  pub run-played : Plays s n (played (sizesOf s n) (viewRoom s n b) (runOn s n allowance stored b out)) b out given b′ out′
+  unfolding playing
+  run-played = rw whole at p
+
+  pub chain-is-run : (events : List Event) (left : List ℕ) → Chain s n b events left → callsOf events ≡ runOn s n allowance stored b out .calls
+      → SameAsRun s n allowance stored b out given b′ out′ events left
+  unfolding played
+  chain-is-run events left chain same =
+      let e = chain-runs s n b events left chain whole .events-are ∙ ap (transcript (sizesOf s n) (viewRoom s n b)) same in
+      let l = chain-leaves s n b events left chain whole ∙ ap (λ (calls : List Call). storeAll s n b (changesAll (sizesOf s n) (viewRoom s n b) calls)) same in
+      record {
+        events-are = e;
+        leaves = l ∙ sym (run-played .stores);
+        writes = rw e (run-played .writes);
+        answers = rw (← length-calls events, same, e) (run-played .answers);
+      }
+
+  pub run-is-chain : Chain s n b (runEvents s n allowance stored b out) b′
+  run-is-chain =
+      let calls = runOn s n allowance stored b out .calls in
+      let keys = keys-in-front stored calls (run-in-front (sizesOf s n) allowance (viewRoom s n b) stored (length out)) in
+      let c = every-chain s n some-output long-output b calls keys in
+      let r = chain-is-run (c .events) (c .left) (c .chain) (c .are) in
+      rw (← r .events-are, ← r .leaves) (c .chain)
+
+-- a run behind any chain
+pub run-behind : (s n allowance : ℕ) (stored b₀ b out : List ℕ) (given : code.Run) (b′ out′ : List ℕ) (events : List Event) → Chain s n b₀ events b
+    → roomWhole s n b₀ ≡ true → Plays s n (playing s n allowance stored b out) b out given b′ out′
+    → Chain s n b₀ (events ++ runEvents s n allowance stored b out) b′
+run-behind s n allowance stored b₀ b out given b′ out′ events chain w p =
+    chain-append chain (run-is-chain s n allowance stored b out given b′ out′ (chain-runs s n b₀ events b chain w .whole) p)
