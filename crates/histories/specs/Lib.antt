@@ -1,2 +1,3 @@
--- Histories as the host makes them and sees them.
+-- `History`, histories as the host makes them and sees them; `RunSeen`, what it sees of a run of stored calls.
 pub mod History
+pub mod RunSeen

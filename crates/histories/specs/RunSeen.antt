@@ -1,0 +1,68 @@
+-- What the host sees of a run of stored calls: the calls that the run played, read at the front of the stored ones, and for each the event in the output. A run
+-- writes for each call refusal (1 byte, 0 for none), seat (1), length (2) and the records. The stored bytes, the run's answer and the output are all that is
+-- read: nothing here can see a room.
+use mathlib.Core.Bool.{cond}
+use mathlib.Core.List.{List, [], _∷_}
+use Prim.Native.Nat.{ℕ, zero, suc, _-_}
+use lib.Dec.{eqb}
+use lib.ListN.{length, getD, take, drop}
+use Rattle.refusal.specs.declared.Refusal.{Refusal}
+use Rattle.refusal.specs.declared.Refusal.the-variants.{RoomFull, AlreadySeated, NotSeated, PacketSize, UnexpectedKind, WrongLength, ZeroPing, NoSuchRoute, NotConnected, OutputTooShort, RoomNotWhole, ListSize, KeyNotHeld, ListNotWhole, UnknownFamily, NodeCutShort, BytesAfterNodes}
+use Rattle.wire.specs.Numbers.{numberOf}
+use Rattle.rules.specs.Call.{Call, Answer, accepted, refused}
+use Rattle.rules.specs.History.{Event}
+use Rattle.stored.specs.Stored.{storedBytes, First, none, call, firstCall}
+use Rattle.relay.specs.declared.play.Run as code
+use Rattle.relay.specs.Calls.{written}
+use Rattle.histories.specs.History.{seen}
+
+-- ---- the calls that were played
+
+unfoldable pub callsFrom : First → (Call → List Call) → List Call
+callsFrom none later = []
+callsFrom (call c) later = c ∷ later c
+
+-- the first so many of the stored calls
+unfoldable pub callsIn : ℕ → List ℕ → List Call
+callsIn zero stored = []
+callsIn (suc more) stored = callsFrom (firstCall stored) (λ c. callsIn more (drop (length (storedBytes c)) stored))
+
+-- ---- their events
+
+-- the refusals in the order of their numbers, which begin at 1
+unfoldable pub refusals : List Refusal
+refusals =
+    RoomFull
+    ∷ AlreadySeated
+    ∷ NotSeated
+    ∷ PacketSize
+    ∷ UnexpectedKind
+    ∷ WrongLength
+    ∷ ZeroPing
+    ∷ NoSuchRoute
+    ∷ NotConnected
+    ∷ OutputTooShort
+    ∷ RoomNotWhole
+    ∷ ListSize
+    ∷ KeyNotHeld
+    ∷ ListNotWhole
+    ∷ UnknownFamily
+    ∷ NodeCutShort
+    ∷ BytesAfterNodes
+    ∷ []
+
+-- the answer that a head tells: refusal, seat and length
+unfoldable pub answerTold : ℕ → ℕ → ℕ → Answer
+answerTold refusal seat size = cond (eqb refusal 0) (accepted seat size) (refused (getD refusals (refusal - 1) RoomFull))
+
+unfoldable pub answerIn : List ℕ → Answer
+answerIn out = answerTold (getD out 0 0) (getD out 1 0) (numberOf (take 2 (drop 2 out)))
+
+-- each entry is seen as the output of a single call is: its answer, and the records behind its head
+unfoldable pub eventsIn : List Call → List ℕ → List Event
+eventsIn [] out = []
+eventsIn (c ∷ calls) out = seen c (answerIn out) (drop 4 out) ∷ eventsIn calls (drop (written (answerIn out)) (drop 4 out))
+
+unfoldable pub runSeen : List ℕ → code.Run → List ℕ → List Event
+runSeen stored (code.the-variants.Stopped why played read wrote) out = eventsIn (callsIn played stored) out
+runSeen stored (code.the-variants.Refused why) out = []
