@@ -1,0 +1,93 @@
+//! What the library is to reach, and whether it does.
+
+use crate::room_tests::PASS;
+use crate::rooms::{Filling, FULL, THIN};
+use crate::runs;
+use crate::table::{nanoseconds, thousands, Row, Table};
+use crate::tables::Tables;
+
+pub const WORDS: &str =
+    "Times are medians. Inside play: in the longest run, where the test of the \
+                         room counts least.";
+
+pub const SLOWER_WORDS: &str =
+    "The rows in which the library takes longer than the second program \
+                                with the same tests.";
+
+/// The head, and a line for each aim: what was measured, and whether it is met.
+pub fn lines(tables: &Tables) -> Vec<Vec<String>> {
+    vec![
+        ["aim", "measured", "met"].map(String::from).to_vec(),
+        single_call(&tables.packet_calls, &THIN, 1_000.0),
+        single_call(&tables.packet_calls, &FULL, 6_000.0),
+        played(&tables.runs, &THIN, 100.0),
+        played(&tables.runs, &FULL, 100.0),
+        nothing_slower(tables),
+        full_test(&tables.room_tests, 4.0),
+    ]
+}
+
+/// The head, and a line for each row in which the library is slower.
+pub fn slower_lines(tables: &Tables) -> Vec<Vec<String>> {
+    let head = ["row", "ratio"].map(String::from).to_vec();
+    let lines = slower(tables).into_iter().map(|(table, row)| {
+        let name = format!("{}: {}", table.title, row.name);
+        vec![name, format!("{:.2}", row.ratio(table.same_tests))]
+    });
+    std::iter::once(head).chain(lines).collect()
+}
+
+/// The slowest of the packets on a room.
+fn single_call(table: &Table, filling: &Filling, limit: f64) -> Vec<String> {
+    let room = format!("{}: ", filling.name);
+    let rows = table.rows.iter().filter(|row| row.name.starts_with(&room));
+    let aim = format!("a single packet call on a {} room", filling.name);
+    under(aim, most(rows.map(Row::library)), limit)
+}
+
+fn played(table: &Table, filling: &Filling, limit: f64) -> Vec<String> {
+    let name = runs::name(filling, 100, 512);
+    let rows = table.rows.iter().filter(|row| row.name == name);
+    let aim = format!("data of 100 bytes inside play on a {} room", filling.name);
+    under(aim, most(rows.map(Row::library)), limit)
+}
+
+fn nothing_slower(tables: &Tables) -> Vec<String> {
+    let slower = slower(tables).len();
+    let rows: usize = tables.all().iter().map(|table| table.rows.len()).sum();
+    let aim = "nothing slower than the second program with the same tests";
+    let measured = format!("{slower} of {rows} rows are slower");
+    line(aim.into(), measured, slower == 0)
+}
+
+fn full_test(table: &Table, limit: f64) -> Vec<String> {
+    let ratio = most(table.rows.iter().map(|row| row.ratio(PASS)));
+    let aim = format!("the full test at most {limit} times one pass, on every room");
+    line(aim, format!("{ratio:.2} times"), ratio <= limit)
+}
+
+/// The rows in which the library takes longer than the second program with the
+/// same tests, each with its table.
+fn slower(tables: &Tables) -> Vec<(&Table, &Row)> {
+    let mut slower = Vec::new();
+    for table in tables.all() {
+        let rows = table.rows.iter();
+        let rows = rows.filter(|row| row.ratio(table.same_tests) > 1.0);
+        slower.extend(rows.map(|row| (table, row)));
+    }
+    slower
+}
+
+fn under(aim: String, time: f64, limit: f64) -> Vec<String> {
+    let aim = format!("{aim}: under {} ns", thousands(limit as usize));
+    line(aim, format!("{} ns", nanoseconds(time)), time < limit)
+}
+
+fn line(aim: String, measured: String, met: bool) -> Vec<String> {
+    let met = if met { "yes" } else { "no" };
+    vec![aim, measured, met.into()]
+}
+
+fn most(figures: impl Iterator<Item = f64>) -> f64 {
+    figures.reduce(f64::max).expect("a row for this aim")
+}

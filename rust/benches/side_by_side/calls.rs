@@ -1,0 +1,89 @@
+//! Single calls on a room, made by the library and by the second program.
+
+use crate::harness::{Harness, Side, Time};
+use crate::pass::pass;
+use crate::rooms::Rooms;
+use banavoge::raw;
+use reference::call::Call;
+use reference::memory;
+use reference::record;
+use reference::room::{Room, LEAST_OUTPUT};
+use std::hint::black_box;
+
+/// The sides of such a table.
+pub const SIDES: [&str; 4] = [
+    "library",
+    "second program alone",
+    "with one pass",
+    "with its own test",
+];
+
+/// The side with the library's tests.
+pub const SAME_TESTS: usize = 3;
+
+/// What the second program tests before each call: nothing, for its room is a
+/// value of its own that nobody else writes; the least that a test of lent
+/// memory does; or all that document 01 asks of lent memory, as it tests it.
+const TESTS: [fn(&[u8]) -> bool; 3] = [|_| true, pass, memory::whole];
+
+/// What each of `count` groups takes, where `calls` are all their calls.
+pub fn measure(harness: &mut Harness, rooms: &Rooms, calls: &[Call], count: usize) -> Vec<Time> {
+    agree(rooms, calls);
+
+    let mut memory = rooms.memory.clone();
+    let mut out = [0; LEAST_OUTPUT];
+    let mut library = || {
+        for call in calls {
+            black_box(by_library(&mut memory, black_box(call), &mut out));
+        }
+    };
+    let mut second = TESTS.map(|test| {
+        let mut room = rooms.plain.clone();
+        move || {
+            for call in calls {
+                assert!(test(black_box(&rooms.memory)));
+                let _ = black_box(by_second(&mut room, black_box(call)));
+            }
+        }
+    });
+    let mut sides: Vec<Side> = vec![&mut library];
+    sides.extend(second.iter_mut().map(|side| side as Side));
+    harness.measure(count, &mut sides)
+}
+
+/// A call of the library on lent memory.
+pub fn by_library(memory: &mut [u8], call: &Call, out: &mut [u8]) -> i32 {
+    match call {
+        Call::Arrive { key } => raw::relay::arrive(memory, key),
+        Call::Leave { seat } => raw::relay::leave(memory, *seat, out),
+        Call::Packet { seat, bytes } => raw::relay::packet(memory, *seat, bytes, out),
+    }
+}
+
+/// The same call of the second program. What it sends is made bytes, as the
+/// library's output is.
+fn by_second(room: &mut Room, call: &Call) -> Result<(usize, Vec<u8>), u8> {
+    let accepted = call.make(room, LEAST_OUTPUT)?;
+    Ok((accepted.seat, record::bytes(&accepted.records)))
+}
+
+/// The two answer and write the same, and leave the room as it was: a turn may
+/// follow another.
+fn agree(rooms: &Rooms, calls: &[Call]) {
+    let mut after = rooms.clone();
+    let mut out = [0; LEAST_OUTPUT];
+    for call in calls {
+        let found = by_library(&mut after.memory, call, &mut out);
+        match by_second(&mut after.plain, call) {
+            Ok((seat, sent)) => {
+                let arrival = matches!(call, Call::Arrive { .. });
+                let expected = if arrival { seat } else { sent.len() };
+                assert_eq!(usize::try_from(found), Ok(expected));
+                assert!(out.starts_with(&sent));
+            }
+            Err(number) => assert_eq!(found, -i32::from(number)),
+        }
+    }
+    assert!(after.plain == rooms.plain);
+    assert!(memory::decode(&after.memory).as_ref() == Some(&rooms.plain));
+}

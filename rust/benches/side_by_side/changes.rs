@@ -1,0 +1,51 @@
+//! Calls that change a room, in groups after which it is as before, so that
+//! each group meets the same room.
+
+use crate::calls;
+use crate::harness::Harness;
+use crate::rooms::{Filling, Rooms, FULL, THIN};
+use crate::table::{Row, Table};
+use crate::traffic;
+use reference::call::Call;
+
+pub fn table(harness: &mut Harness) -> Table {
+    let mut rows = Vec::new();
+    for filling in [&THIN, &FULL] {
+        let rooms = Rooms::filled(filling);
+        let pairs = traffic::drops_and_requests(&rooms, filling);
+        rows.push(row(harness, filling, "drop, request", &rooms, &pairs));
+
+        let returns = traffic::returns(&rooms, filling);
+        let name = format!("leave, arrive, {} requests", filling.routes());
+        rows.push(row(harness, filling, &name, &rooms, &returns));
+
+        let rooms = rooms.without_the_last();
+        let pairs = traffic::arrivals_and_leaves();
+        rows.push(row(harness, filling, "arrive, leave", &rooms, &pairs));
+    }
+    Table {
+        title: "Calls that change the room",
+        words: "Calls in groups after which the room is as before; a time is that of all calls of \
+                a group. The columns are those of the single packet calls, so each call of a group \
+                is tested by itself. Drop, request: a connected route is dropped and its key asked \
+                for again, so that both clients are told. Leave, arrive, requests: a client leaves \
+                and all its peers are told; it arrives again and asks for all its keys, and is \
+                connected again. Arrive, leave: a client without routes, in a room where the last \
+                seat is empty.",
+        rows_are: "room and calls",
+        sides: &calls::SIDES,
+        same_tests: calls::SAME_TESTS,
+        rows,
+    }
+}
+
+fn row(
+    harness: &mut Harness,
+    filling: &Filling,
+    name: &str,
+    rooms: &Rooms,
+    groups: &[Vec<Call>],
+) -> Row {
+    let times = calls::measure(harness, rooms, &groups.concat(), groups.len());
+    Row::new(format!("{}: {name}", filling.name), times)
+}
