@@ -3,6 +3,7 @@
 use crate::harness::{Harness, Side, Time};
 use crate::pass::pass;
 use crate::rooms::Rooms;
+use crate::traffic::Traffic;
 use banavoge::raw;
 use reference::call::Call;
 use reference::memory;
@@ -26,24 +27,31 @@ pub const SAME_TESTS: usize = 3;
 /// memory does; or all that document 01 asks of lent memory, as it tests it.
 const TESTS: [fn(&[u8]) -> bool; 3] = [|_| true, pass, memory::whole];
 
-/// What each of `count` groups takes, where `calls` are all their calls.
-pub fn measure(harness: &mut Harness, rooms: &Rooms, calls: &[Call], count: usize) -> Vec<Time> {
-    agree(rooms, calls);
+/// What a call takes, or a group of calls, of which each turn has `count`.
+pub fn measure(
+    harness: &mut Harness,
+    rooms: &Rooms,
+    traffic: &impl Traffic,
+    count: usize,
+) -> Vec<Time> {
+    agree(rooms, traffic);
 
     let mut memory = rooms.memory.clone();
     let mut out = [0; LEAST_OUTPUT];
+    let mut calls = traffic.clone();
     let mut library = || {
-        for call in calls {
+        calls.turn(|call| {
             black_box(by_library(&mut memory, black_box(call), &mut out));
-        }
+        });
     };
     let mut second = TESTS.map(|test| {
         let mut room = rooms.plain.clone();
+        let mut calls = traffic.clone();
         move || {
-            for call in calls {
+            calls.turn(|call| {
                 assert!(test(black_box(&rooms.memory)));
                 let _ = black_box(by_second(&mut room, black_box(call)));
-            }
+            });
         }
     });
     let mut sides: Vec<Side> = vec![&mut library];
@@ -67,23 +75,26 @@ fn by_second(room: &mut Room, call: &Call) -> Result<(usize, Vec<u8>), u8> {
     Ok((accepted.seat, record::bytes(&accepted.records)))
 }
 
-/// The two answer and write the same, and leave the room as it was: a turn may
-/// follow another.
-fn agree(rooms: &Rooms, calls: &[Call]) {
+/// The two answer and write the same, and after each turn the room is as it
+/// was, so that any other turn may follow.
+fn agree(rooms: &Rooms, traffic: &impl Traffic) {
     let mut after = rooms.clone();
     let mut out = [0; LEAST_OUTPUT];
-    for call in calls {
-        let found = by_library(&mut after.memory, call, &mut out);
-        match by_second(&mut after.plain, call) {
-            Ok((seat, sent)) => {
-                let arrival = matches!(call, Call::Arrive { .. });
-                let expected = if arrival { seat } else { sent.len() };
-                assert_eq!(usize::try_from(found), Ok(expected));
-                assert!(out.starts_with(&sent));
+    let mut calls = traffic.clone();
+    for _ in 0..traffic.turns() {
+        calls.turn(|call| {
+            let found = by_library(&mut after.memory, call, &mut out);
+            match by_second(&mut after.plain, call) {
+                Ok((seat, sent)) => {
+                    let arrival = matches!(call, Call::Arrive { .. });
+                    let expected = if arrival { seat } else { sent.len() };
+                    assert_eq!(usize::try_from(found), Ok(expected));
+                    assert!(out.starts_with(&sent));
+                }
+                Err(number) => assert_eq!(found, -i32::from(number)),
             }
-            Err(number) => assert_eq!(found, -i32::from(number)),
-        }
+        });
+        assert!(after.plain == rooms.plain);
+        assert!(memory::decode(&after.memory).as_ref() == Some(&rooms.plain));
     }
-    assert!(after.plain == rooms.plain);
-    assert!(memory::decode(&after.memory).as_ref() == Some(&rooms.plain));
 }

@@ -10,11 +10,10 @@ use crate::clock;
 /// calls long, so that what it costs to go through this pointer does not show.
 pub type Side<'a> = &'a mut dyn FnMut();
 
-/// What one call takes, in nanoseconds.
-#[derive(Debug, Clone, Copy)]
+/// What one call takes, in nanoseconds: a figure for each round, of which there
+/// is one at least.
 pub struct Time {
-    pub least: f64,
-    pub median: f64,
+    rounds: Vec<f64>,
 }
 
 /// How long is measured, and how often it was done.
@@ -28,7 +27,7 @@ pub struct Harness {
 impl Harness {
     /// For figures that can be compared.
     pub fn thorough() -> Harness {
-        Harness::new(15, 6_000_000)
+        Harness::new(5, 5_000_000)
     }
 
     /// One turn of each side, to see that all of them run.
@@ -60,7 +59,7 @@ impl Harness {
             }
         }
         self.made += sides.len();
-        rounds.into_iter().map(Time::of).collect()
+        rounds.into_iter().map(|rounds| Time { rounds }).collect()
     }
 
     /// How many turns of a side make a batch. Finding out warms up too: the
@@ -84,12 +83,18 @@ fn time(side: &mut Side, turns: u32) -> u64 {
 }
 
 impl Time {
-    /// The least and the median of the rounds, of which there is one at least.
-    fn of(mut rounds: Vec<f64>) -> Time {
+    /// Takes in the rounds of another time of the same calls.
+    pub fn add(&mut self, other: Time) {
+        self.rounds.extend(other.rounds);
+    }
+
+    pub fn median(&self) -> f64 {
+        let mut rounds = self.rounds.clone();
         rounds.sort_by(f64::total_cmp);
-        Time {
-            least: rounds[0],
-            median: rounds[rounds.len() / 2],
-        }
+        rounds[rounds.len() / 2]
+    }
+
+    pub fn least(&self) -> f64 {
+        self.rounds.iter().copied().fold(f64::INFINITY, f64::min)
     }
 }

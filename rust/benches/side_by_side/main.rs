@@ -9,6 +9,7 @@ mod calls;
 mod changes;
 mod clock;
 mod grid;
+mod groups;
 mod harness;
 mod keys;
 mod nearest;
@@ -20,6 +21,7 @@ mod readers;
 mod room_tests;
 mod rooms;
 mod runs;
+mod stored;
 mod table;
 mod tables;
 mod traffic;
@@ -33,11 +35,11 @@ fn main() {
     let given = |option: &str| std::env::args().any(|argument| argument == option);
     if given("--quick") {
         let mut harness = Harness::quick();
-        Tables::measured(&mut harness);
+        Tables::measured(&mut harness, 1);
         println!("bench: {} measurements made", harness.made());
         return;
     }
-    let tables = Tables::measured(&mut Harness::thorough());
+    let tables = Tables::measured(&mut Harness::thorough(), 3);
     if given("--markdown") {
         print(&tables, grid::markdown);
     } else {

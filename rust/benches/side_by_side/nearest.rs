@@ -14,8 +14,8 @@ use std::hint::black_box;
 /// The size of the list that is given, and the largest.
 const SIZES: [usize; 2] = [8, 16];
 
-/// Groups in a turn.
-const GROUPS: usize = 64;
+/// Groups in a turn: more than a processor can learn by heart.
+const GROUPS: usize = 4_096;
 
 /// A call on a list.
 #[derive(Clone)]
@@ -78,7 +78,7 @@ struct Nodes {
 }
 
 impl Nodes {
-    /// As many of both as there are groups in a turn.
+    /// Some hundreds of both.
     fn around(list: &List) -> Nodes {
         let mut random = Random::new(10);
         let mut nodes = Nodes {
@@ -86,7 +86,7 @@ impl Nodes {
             further: Vec::new(),
         };
         let furthest = &list.nodes[list.nodes.len() - 1];
-        while nodes.nearer.len().min(nodes.further.len()) < GROUPS {
+        while nodes.nearer.len().min(nodes.further.len()) < 300 {
             let node = node(2, &mut random);
             if nearer(&list.target, &node.key, &furthest.key) {
                 nodes.nearer.push(node);
@@ -108,11 +108,11 @@ fn full(size: usize) -> List {
     list
 }
 
-/// The steps for these nodes, one behind the other and from the front again, as
-/// many as a turn has.
+/// The steps for nodes chosen from these at random, as many as a turn has.
 fn groups(nodes: &[Node], steps: impl Fn(Node) -> Vec<Step>) -> Vec<Step> {
-    let nodes = nodes.iter().cycle().take(GROUPS);
-    nodes.flat_map(|node| steps(node.clone())).collect()
+    let mut random = Random::new(11);
+    let mut group = || steps(nodes[random.below(nodes.len())].clone());
+    (0..GROUPS).flat_map(|_| group()).collect()
 }
 
 fn row(harness: &mut Harness, list: &List, name: &str, steps: &[Step]) -> Row {

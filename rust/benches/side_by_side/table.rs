@@ -45,12 +45,12 @@ impl Row {
 
     /// What a call of the library takes: the median.
     pub fn library(&self) -> f64 {
-        self.times[0].median
+        self.times[0].median()
     }
 
     /// The library's time as a multiple of a side's: of their medians.
     pub fn ratio(&self, side: usize) -> f64 {
-        self.times[0].median / self.times[side].median
+        self.times[0].median() / self.times[side].median()
     }
 
     /// Millions of bytes of data in a second.
@@ -61,6 +61,15 @@ impl Row {
 }
 
 impl Table {
+    /// Takes in the rounds of the same table, measured again.
+    pub fn add(&mut self, other: Table) {
+        for (row, other) in self.rows.iter_mut().zip(other.rows) {
+            for (time, other) in row.times.iter_mut().zip(other.times) {
+                time.add(other);
+            }
+        }
+    }
+
     /// The head and the rows, a string for each column.
     pub fn lines(&self) -> Vec<Vec<String>> {
         let rows = self.rows.iter().map(|row| self.line(row));
@@ -79,13 +88,13 @@ impl Table {
     }
 
     fn line(&self, row: &Row) -> Vec<String> {
-        let mut line = vec![row.name.clone(), time(row.times[0])];
+        let mut line = vec![row.name.clone(), time(&row.times[0])];
         if self.shows_data() {
             line.push(row.megabytes().map(thousands).unwrap_or_default());
         }
         for side in 1..row.times.len() {
             let ratio = format!("{:.2}", row.ratio(side));
-            line.extend([time(row.times[side]), ratio]);
+            line.extend([time(&row.times[side]), ratio]);
         }
         line
     }
@@ -96,8 +105,9 @@ impl Table {
 }
 
 /// The median, and the least in brackets.
-fn time(time: Time) -> String {
-    format!("{} ({})", nanoseconds(time.median), nanoseconds(time.least))
+fn time(time: &Time) -> String {
+    let (median, least) = (nanoseconds(time.median()), nanoseconds(time.least()));
+    format!("{median} ({least})")
 }
 
 /// Nanoseconds, with tenths where they are more than noise.

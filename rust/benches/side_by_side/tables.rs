@@ -17,7 +17,18 @@ pub struct Tables {
 }
 
 impl Tables {
-    pub fn measured(harness: &mut Harness) -> Tables {
+    /// All tables, measured so often. The rounds of a row are so spread over
+    /// the whole run, and some seconds in which the machine is slow hit only a
+    /// part of them.
+    pub fn measured(harness: &mut Harness, times: usize) -> Tables {
+        let mut tables = Tables::once(harness);
+        for _ in 1..times {
+            tables.add(Tables::once(harness));
+        }
+        tables
+    }
+
+    fn once(harness: &mut Harness) -> Tables {
         Tables {
             readers: readers::table(harness),
             writers: writers::table(harness),
@@ -28,6 +39,17 @@ impl Tables {
             runs: runs::table(harness),
             changes: changes::table(harness),
         }
+    }
+
+    fn add(&mut self, other: Tables) {
+        self.readers.add(other.readers);
+        self.writers.add(other.writers);
+        self.nodes.add(other.nodes);
+        self.nearest.add(other.nearest);
+        self.room_tests.add(other.room_tests);
+        self.packet_calls.add(other.packet_calls);
+        self.runs.add(other.runs);
+        self.changes.add(other.changes);
     }
 
     pub fn all(&self) -> [&Table; 8] {

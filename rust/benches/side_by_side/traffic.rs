@@ -1,90 +1,92 @@
-//! Calls that clients make in a room.
+//! Calls that clients make in a room, without end: some in each turn.
+//!
+//! They are many more than a processor can learn by heart. With only some
+//! hundreds, made again and again, it foresees where each search ends, and a
+//! call looks faster than it is.
 
-use crate::keys::key;
-use crate::rooms::{Filling, Rooms};
+use crate::rooms::Filling;
 use reference::call::Call;
 use reference::random::Random;
 use reference::room::BASE;
 use reference::seat::number_at;
 
-/// Packets in a turn. They are from many seats and on many numbers, so that
-/// neither the branches of a search nor its luck are those of a single one.
+/// Calls in turns, the first turn again after the last.
+pub trait Traffic: Clone {
+    /// How many turns there are.
+    fn turns(&self) -> usize;
+
+    /// Makes the calls of the next turn.
+    fn turn(&mut self, make: impl FnMut(&Call));
+}
+
+/// Packets in a turn of a stream.
 pub const PACKETS: usize = 512;
 
-/// Changes in a turn.
-const CHANGES: usize = 128;
+/// Turns of a stream.
+const TURNS: usize = 16;
 
-/// Data of so many bytes, each on a connected route. In a room without routes
-/// it is refused: with 3 where the room is empty.
-pub fn data(filling: &Filling, length: usize) -> Vec<Call> {
-    let mut random = Random::new(4);
-    let mut packet = || {
-        let seat = random.below(BASE.seats);
-        let number = number_at(random.below(filling.routes().max(1)));
-        let bytes = [vec![number], random.bytes(length)].concat();
-        packet(seat, bytes)
-    };
-    (0..PACKETS).map(|_| packet()).collect()
+/// A packet of a stream: who sends it, and its first byte.
+#[derive(Clone)]
+pub struct Sent {
+    pub seat: u8,
+    pub first: u8,
 }
 
-/// Pings.
-pub fn pings() -> Vec<Call> {
-    let mut random = Random::new(5);
-    let mut ping = || {
-        let seat = random.below(BASE.seats);
-        let bytes = [vec![4, 1], random.bytes(7)].concat();
-        packet(seat, bytes)
-    };
-    (0..PACKETS).map(|_| ping()).collect()
+/// Packets that differ in their seat and in their first byte alone, which is
+/// the number of a data packet. The bytes behind are one buffer, and so in the
+/// nearest cache: a host hands over packets that it has just opened.
+#[derive(Clone)]
+pub struct Stream {
+    pub sent: Vec<Sent>,
+    /// The call for one packet, in which seat and first byte are set.
+    pub call: Call,
+    next: usize,
 }
 
-/// Pairs of calls: a route is dropped, and its key asked for again. The number
-/// is then the lowest free one, so the room is as it was.
-pub fn drops_and_requests(rooms: &Rooms, filling: &Filling) -> Vec<Vec<Call>> {
-    let mut random = Random::new(6);
-    let mut pair = || {
-        let seat = random.below(BASE.seats);
-        let route = random.below(filling.routes());
-        vec![
-            packet(seat, vec![3, number_at(route)]),
-            request(rooms, seat, route),
-        ]
-    };
-    (0..CHANGES).map(|_| pair()).collect()
+impl Stream {
+    /// Data of so many bytes, each on a connected route. In an empty room it is
+    /// refused with 3.
+    pub fn data(filling: &Filling, length: usize) -> Stream {
+        let numbers = filling.routes().max(1);
+        let first = |random: &mut Random| number_at(random.below(numbers));
+        Stream::new(first, Random::new(2).bytes(length))
+    }
+
+    /// Pings, all with the same ping number.
+    pub fn pings() -> Stream {
+        Stream::new(|_| 4, vec![1; 8])
+    }
+
+    fn new(first: impl Fn(&mut Random) -> u8, rest: Vec<u8>) -> Stream {
+        let mut random = Random::new(4);
+        let sent = std::iter::repeat_with(|| Sent {
+            seat: random.below(BASE.seats) as u8,
+            first: first(&mut random),
+        });
+        Stream {
+            sent: sent.take(TURNS * PACKETS).collect(),
+            call: Call::Packet {
+                seat: 0,
+                bytes: [vec![0], rest].concat(),
+            },
+            next: 0,
+        }
+    }
 }
 
-/// Pairs of calls: a new client arrives in the last seat, which is empty, and
-/// leaves again.
-pub fn arrivals_and_leaves() -> Vec<Vec<Call>> {
-    let mut random = Random::new(7);
-    let mut pair = || {
-        let key = key(&mut random);
-        let seat = BASE.seats as u8 - 1;
-        vec![Call::Arrive { key }, Call::Leave { seat }]
-    };
-    (0..CHANGES).map(|_| pair()).collect()
-}
+impl Traffic for Stream {
+    fn turns(&self) -> usize {
+        TURNS
+    }
 
-/// Each client leaves, arrives again and asks for all its keys again. Its seat
-/// is the only empty one, so the room is as it was.
-pub fn returns(rooms: &Rooms, filling: &Filling) -> Vec<Vec<Call>> {
-    let one = |seat: usize| {
-        let key = rooms.client(seat).key;
-        let leave = Call::Leave { seat: seat as u8 };
-        let requests = (0..filling.routes()).map(|route| request(rooms, seat, route));
-        let calls = [leave, Call::Arrive { key }].into_iter();
-        calls.chain(requests).collect()
-    };
-    (0..BASE.seats).map(one).collect()
-}
-
-/// The request for the key that a route of a seat names.
-fn request(rooms: &Rooms, seat: usize, route: usize) -> Call {
-    let wanted = rooms.client(seat).routes[route].expect("a held route");
-    packet(seat, [&[0], &wanted[..]].concat())
-}
-
-fn packet(seat: usize, bytes: Vec<u8>) -> Call {
-    let seat = seat as u8;
-    Call::Packet { seat, bytes }
+    fn turn(&mut self, mut make: impl FnMut(&Call)) {
+        for sent in &self.sent[self.next * PACKETS..][..PACKETS] {
+            if let Call::Packet { seat, bytes } = &mut self.call {
+                *seat = sent.seat;
+                bytes[0] = sent.first;
+            }
+            make(&self.call);
+        }
+        self.next = (self.next + 1) % TURNS;
+    }
 }
