@@ -1,6 +1,6 @@
 //! Single calls on a room, made by the library and by the second program.
 
-use crate::harness::{Harness, Side, Time};
+use crate::harness::{used, Harness, Side, Time};
 use crate::pass::pass;
 use crate::rooms::Rooms;
 use crate::traffic::Traffic;
@@ -41,7 +41,7 @@ pub fn measure(
     let mut calls = traffic.clone();
     let mut library = || {
         calls.turn(|call| {
-            black_box(by_library(&mut memory, black_box(call), &mut out));
+            used(&by_library(&mut memory, black_box(call), &mut out));
         });
     };
     let mut second = TESTS.map(|test| {
@@ -50,7 +50,7 @@ pub fn measure(
         move || {
             calls.turn(|call| {
                 assert!(test(black_box(&rooms.memory)));
-                let _ = black_box(by_second(&mut room, black_box(call)));
+                used(&by_second(&mut room, black_box(call)));
             });
         }
     });

@@ -5,6 +5,7 @@
 //! is taken, and the least is shown beside it.
 
 use crate::clock;
+use std::hint::black_box;
 
 /// A way to make some calls: one turn makes all of them once. A turn is many
 /// calls long, so that what it costs to go through this pointer does not show.
@@ -71,6 +72,13 @@ impl Harness {
         }
         turns
     }
+}
+
+/// Has the compiler take a result as used. It is told by its place: a value
+/// would be copied, and a copy right behind the call that wrote it in smaller
+/// parts has to wait for them, which is no part of the call.
+pub fn used<T>(result: &T) {
+    black_box(result);
 }
 
 /// What so many turns of a side take.

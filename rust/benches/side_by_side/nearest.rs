@@ -1,7 +1,7 @@
 //! Nearest lists: offers and removals, in groups after which the list is as
 //! before, so that each group meets the same list.
 
-use crate::harness::Harness;
+use crate::harness::{used, Harness};
 use crate::nodes::{node, parts};
 use crate::table::{Row, Table};
 use banavoge::raw::{self, node::Parts};
@@ -121,12 +121,12 @@ fn row(harness: &mut Harness, list: &List, name: &str, steps: &[Step]) -> Row {
     let mut value = list.clone();
     let mut by_library = || {
         for step in steps {
-            black_box(library_step(&mut memory, black_box(step)));
+            used(&library_step(&mut memory, black_box(step)));
         }
     };
     let mut by_second = || {
         for step in steps {
-            let _ = black_box(second_step(&mut value, black_box(step)));
+            used(&second_step(&mut value, black_box(step)));
         }
     };
     let times = harness.measure(GROUPS, &mut [&mut by_library, &mut by_second]);

@@ -1,6 +1,6 @@
 //! Packed nodes, read and written, and lists of them, walked.
 
-use crate::harness::Harness;
+use crate::harness::{used, Harness};
 use crate::keys::key;
 use crate::table::{Row, Table};
 use banavoge::raw::node::{self as library, Parts};
@@ -39,16 +39,16 @@ pub fn table(harness: &mut Harness) -> Table {
 
 fn read(harness: &mut Harness, name: &str, node: &Node) -> Row {
     let bytes = &packed(node)[..];
+    let (mut node, mut next) = (Parts::default(), 0);
     let mut by_library = || {
         for _ in 0..COUNT {
-            let (mut node, mut next) = (Parts::default(), 0);
             library::read(black_box(bytes), 0, &mut node, &mut next);
-            black_box((node, next));
+            used(&(&node, next));
         }
     };
     let mut by_second = || {
         for _ in 0..COUNT {
-            let _ = black_box(second::read(black_box(bytes), 0));
+            used(&second::read(black_box(bytes), 0));
         }
     };
     let times = harness.measure(COUNT, &mut [&mut by_library, &mut by_second]);
@@ -60,12 +60,12 @@ fn write(harness: &mut Harness, name: &str, node: &Node) -> Row {
     let (mut out, mut other) = ([0; 51], [0; 51]);
     let mut by_library = || {
         for _ in 0..COUNT {
-            black_box(library::write(black_box(&parts), black_box(&mut out)));
+            used(&library::write(black_box(&parts), black_box(&mut out)));
         }
     };
     let mut by_second = || {
         for _ in 0..COUNT {
-            let _ = black_box(second::write(black_box(node), black_box(&mut other)));
+            used(&second::write(black_box(node), black_box(&mut other)));
         }
     };
     let times = harness.measure(COUNT, &mut [&mut by_library, &mut by_second]);
@@ -79,12 +79,12 @@ fn walk(harness: &mut Harness, nodes: &[Node]) -> Row {
     assert_eq!(second::walk(&list).0, nodes);
     let mut by_library = || {
         for _ in 0..COUNT {
-            black_box(walked(black_box(&list)));
+            used(&walked(black_box(&list)));
         }
     };
     let mut by_second = || {
         for _ in 0..COUNT {
-            let _ = black_box(second::walk(black_box(&list)));
+            used(&second::walk(black_box(&list)));
         }
     };
     let times = harness.measure(COUNT, &mut [&mut by_library, &mut by_second]);
@@ -99,7 +99,7 @@ fn walked(list: &[u8]) -> usize {
         if library::step(list, place, shown, &mut node, &mut next) != 1 {
             return shown;
         }
-        black_box(node);
+        used(&node);
         place = next;
         shown += 1;
     }

@@ -1,6 +1,6 @@
 //! The readers of both ends.
 
-use crate::harness::Harness;
+use crate::harness::{used, Harness};
 use crate::packets::{client_packets, relay_packets, Sample};
 use crate::table::{Row, Table};
 use banavoge::raw::readers::{self, Places};
@@ -64,21 +64,20 @@ where
     assert_eq!(kind, sample.kind());
     assert!(second(packet).as_ref() == Ok(&sample.packet));
 
+    let (mut places, mut key) = (Places::default(), [0; 32]);
     let mut by_library = || {
         for _ in 0..READS {
-            let mut places = Places::default();
             (library.read)(black_box(packet), &mut places);
-            black_box(places);
+            used(&places);
             if sample.has_key() {
-                let mut key = [0; 32];
                 (library.key)(black_box(packet), &mut key);
-                black_box(key);
+                used(&key);
             }
         }
     };
     let mut by_second = || {
         for _ in 0..READS {
-            let _ = black_box(second(black_box(packet)));
+            used(&second(black_box(packet)));
         }
     };
     let times = harness.measure(READS, &mut [&mut by_library, &mut by_second]);

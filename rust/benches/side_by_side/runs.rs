@@ -1,7 +1,7 @@
 //! Data packets played in runs.
 
 use crate::calls::by_library;
-use crate::harness::{Harness, Side};
+use crate::harness::{used, Harness, Side};
 use crate::packets::DATA;
 use crate::rooms::{Filling, Rooms, EMPTY, FULL, THIN};
 use crate::stored::Stored;
@@ -62,27 +62,27 @@ fn row(
         calls.turn(|calls| {
             let mut counts = Counts::default();
             play(&mut memory, black_box(calls), run, &mut out, &mut counts);
-            black_box(counts);
+            used(&counts);
         });
     };
     let (mut memory, mut calls, mut out) =
         (rooms.memory.clone(), stream.clone(), [0; LEAST_OUTPUT]);
     let mut single = || {
         calls.turn(|call| {
-            black_box(by_library(&mut memory, black_box(call), &mut out));
+            used(&by_library(&mut memory, black_box(call), &mut out));
         });
     };
     let (mut room, mut calls) = (rooms.plain.clone(), stored.clone());
     let mut alone = || {
         calls.turn(|calls| {
-            black_box(second::play(&mut room, black_box(calls), run, output));
+            used(&second::play(&mut room, black_box(calls), run, output));
         });
     };
     let (mut room, mut calls) = (rooms.plain.clone(), stored.clone());
     let mut with_test = || {
         calls.turn(|calls| {
             assert!(memory::whole(black_box(&rooms.memory)));
-            black_box(second::play(&mut room, black_box(calls), run, output));
+            used(&second::play(&mut room, black_box(calls), run, output));
         });
     };
     let mut sides: [Side; 4] = [&mut library, &mut single, &mut alone, &mut with_test];

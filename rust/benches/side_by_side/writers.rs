@@ -1,6 +1,6 @@
 //! The writers of both ends.
 
-use crate::harness::Harness;
+use crate::harness::{used, Harness};
 use crate::packets::{client_packets, relay_packets, Sample};
 use crate::table::{Row, Table};
 use banavoge::raw::writers;
@@ -48,12 +48,12 @@ fn row<P>(
     let mut other = out;
     let mut by_library = || {
         for _ in 0..WRITES {
-            black_box(library(black_box(&sample.packet), black_box(&mut out)));
+            used(&library(black_box(&sample.packet), black_box(&mut out)));
         }
     };
     let mut by_second = || {
         for _ in 0..WRITES {
-            let _ = black_box(second(black_box(&sample.packet), black_box(&mut other)));
+            used(&second(black_box(&sample.packet), black_box(&mut other)));
         }
     };
     let times = harness.measure(WRITES, &mut [&mut by_library, &mut by_second]);
