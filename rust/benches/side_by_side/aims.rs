@@ -6,13 +6,23 @@ use crate::runs;
 use crate::table::{nanoseconds, thousands, Row, Table};
 use crate::tables::Tables;
 
-pub const WORDS: &str =
-    "Times are medians. Inside play: in the longest run, where the test of the \
-                         room counts least.";
-
 pub const SLOWER_WORDS: &str =
-    "The rows in which the library takes longer than the second program \
-                                with the same tests.";
+    "The rows in which the library takes longer than the second program with the same tests.";
+
+/// What the figures are, and how far they can be trusted.
+pub fn words(tables: &Tables) -> String {
+    let spreads: Vec<f64> = tables
+        .all()
+        .iter()
+        .flat_map(|table| table.spreads())
+        .collect();
+    let mean = spreads.iter().sum::<f64>() / spreads.len() as f64;
+    format!(
+        "Times are medians. Inside play: in the longest run, where the test of the room counts \
+         least. In this run a median was {mean:.2} times the least on average: the nearer to 1, \
+         the quieter was the machine."
+    )
+}
 
 /// The head, and a line for each aim: what was measured, and whether it is met.
 pub fn lines(tables: &Tables) -> Vec<Vec<String>> {

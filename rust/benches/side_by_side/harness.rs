@@ -1,7 +1,7 @@
 //! How time is taken.
 //!
 //! What is compared takes turns: in each round every side runs for a batch, so
-//! that what else the machine does hits all of them. Of the rounds the median
+//! that what else the machine does affects all of them. Of the rounds the median
 //! is taken, and the least is shown beside it.
 
 use crate::clock;

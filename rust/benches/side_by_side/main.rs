@@ -49,7 +49,8 @@ fn main() {
 
 /// What matters most comes first: the aims, and what stands against one.
 fn print(tables: &Tables, format: Format) {
-    println!("{}", format("Aims", aims::WORDS, &aims::lines(tables)));
+    let words = aims::words(tables);
+    println!("{}", format("Aims", &words, &aims::lines(tables)));
     let slower = aims::slower_lines(tables);
     if slower.len() > 1 {
         println!("{}", format("What is slower", aims::SLOWER_WORDS, &slower));

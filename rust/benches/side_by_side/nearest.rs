@@ -14,7 +14,7 @@ use std::hint::black_box;
 /// The size of the list that is given, and the largest.
 const SIZES: [usize; 2] = [8, 16];
 
-/// Groups in a turn: more than a processor can learn by heart.
+/// Groups in a turn: so many that the processor does not come to predict them.
 const GROUPS: usize = 4_096;
 
 /// A call on a list.

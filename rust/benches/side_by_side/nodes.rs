@@ -39,7 +39,11 @@ pub fn table(harness: &mut Harness) -> Table {
 
 fn read(harness: &mut Harness, name: &str, node: &Node) -> Row {
     let bytes = &packed(node)[..];
+    let expected = (parts(node), bytes.len());
     let (mut node, mut next) = (Parts::default(), 0);
+    assert_eq!(library::read(bytes, 0, &mut node, &mut next), 0);
+    assert_eq!((node, next), expected);
+
     let mut by_library = || {
         for _ in 0..COUNT {
             library::read(black_box(bytes), 0, &mut node, &mut next);

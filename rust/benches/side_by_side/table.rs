@@ -70,6 +70,12 @@ impl Table {
         }
     }
 
+    /// How far the median is from the least, in each figure of the table.
+    pub fn spreads(&self) -> Vec<f64> {
+        let times = self.rows.iter().flat_map(|row| &row.times);
+        times.map(|time| time.median() / time.least()).collect()
+    }
+
     /// The head and the rows, a string for each column.
     pub fn lines(&self) -> Vec<Vec<String>> {
         let rows = self.rows.iter().map(|row| self.line(row));

@@ -17,9 +17,9 @@ pub struct Tables {
 }
 
 impl Tables {
-    /// All tables, measured so often. The rounds of a row are so spread over
-    /// the whole run, and some seconds in which the machine is slow hit only a
-    /// part of them.
+    /// All tables, measured so often. The rounds of a row are thus spread over
+    /// the whole run, and some seconds in which the machine is slow affect only
+    /// a part of them.
     pub fn measured(harness: &mut Harness, times: usize) -> Tables {
         let mut tables = Tables::once(harness);
         for _ in 1..times {

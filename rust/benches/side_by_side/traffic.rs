@@ -1,8 +1,8 @@
 //! Calls that clients make in a room, without end: some in each turn.
 //!
-//! They are many more than a processor can learn by heart. With only some
-//! hundreds, made again and again, it foresees where each search ends, and a
-//! call looks faster than it is.
+//! They are thousands. With only some hundreds, made again and again, the
+//! processor comes to predict where each search ends, and a call is measured
+//! faster than it is in a room where nobody repeats the same packets.
 
 use crate::rooms::Filling;
 use reference::call::Call;
