@@ -1,6 +1,6 @@
 -- What the bytes of a table list, and where the keys stand.
 use mathlib.Core.Path.{_≡_, _∙_, refl, sym, ap, ap₂}
-use mathlib.Core.Bool.{Bool, true, false, _&&_, cond}
+use mathlib.Core.Bool.{Bool, true, false, _&&_, _||_, cond}
 use mathlib.Core.List.{List}
 use Prim.Native.Nat.{ℕ, suc, _+_, _*_, _-_, _<_, _≤_}
 use native.Mathlib.Nat.{suc-mul, le-trans, le-of-eq, mul-le-mul-right, add-sub-cancel-left}
@@ -10,7 +10,7 @@ use lib.ListN.{length, getD, take, drop, length-drop, drop-of-length-le}
 use lib.Seq.{drop-cons, length-take-le, getD-take, getD-drop, drop-drop, take-all}
 use lib.Dec.{eqb, ltb, leb}
 use borrow.Author.Tests.{eq-eqb, ne-eqb, leb-true, leb-false, lt-leb, le-leb, lt-ltb, le-ltb}
-use Rattle.table.specs.Bytes.{keyBefore, indexOf}
+use Rattle.table.specs.Bytes.{keyBefore, member, indexOf}
 use Rattle.table.specs.Table.{Table, Spot, count, order, listed, keyAt, rising, risingAfter, tableWhole, placeOf}
 use Rattle.table.proofs.KeyOrder.{both, key-before-differ, rising-step, rising-end, position-le}
 
@@ -122,6 +122,23 @@ module _ (n : ℕ) (ns : List ℕ) (i : ℕ) (h : i < length ns) where
 pub index-end : (n : ℕ) (ns : List ℕ) (i : ℕ) → length ns ≤ i → indexOf n (drop i ns) ≡ 0
 unfolding indexOf
 index-end n ns i h = rw (drop-of-length-le ns h)
+
+-- ---- the loop that looks whether a place is listed
+
+module _ (n : ℕ) (ns : List ℕ) (i : ℕ) (h : i < length ns) where
+  member-step : member n (drop i ns) ≡ (eqb (getD ns i 0) n || member n (drop (i + 1) ns))
+  unfolding member
+  member-step = rw (add-one, drop-cons ns i 0 h)
+
+  pub member-here : getD ns i 0 ≡ n → member n (drop i ns) ≡ true
+  member-here e = rw (member-step, eq-eqb _ _ e)
+
+  pub member-next : (getD ns i 0 ≡ n → ⊥) → member n (drop i ns) ≡ member n (drop (i + 1) ns)
+  member-next e = rw (member-step, ne-eqb _ _ e)
+
+pub member-end : (n : ℕ) (ns : List ℕ) (i : ℕ) → length ns ≤ i → member n (drop i ns) ≡ false
+unfolding member
+member-end n ns i h = rw (drop-of-length-le ns h)
 
 -- ---- the loop that tests a table
 

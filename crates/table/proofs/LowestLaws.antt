@@ -7,19 +7,12 @@ use native.Mathlib.Omega.{arith}
 use mathlib.Core.List.{List, [], _∷_, _++_}
 use lib.ListN.{length, take, getD, set, replicate, getD-replicate}
 use lib.Seq.{take-suc, getD-set-same, getD-set-other}
-use lib.Dec.{eqb, ltb}
-use borrow.Author.Tests.{eqb-true, eqb-false, lt-ltb, le-ltb}
-use Rattle.table.specs.Bytes.{member, indexOf}
+use lib.Dec.{eqb}
+use borrow.Author.Tests.{eqb-true, eqb-false}
+use Rattle.table.specs.Bytes.{member}
 use Rattle.table.specs.Table.{listed, lowest}
 use Rattle.table.specs.Marks.{Marked}
-use Rattle.table.proofs.Places.{or-swap, index-member, index-none}
-
-pub used-is : (n : ℕ) (ns : List ℕ) (i c : ℕ) → i ≡ indexOf n ns → c ≡ length ns → ltb i c ≡ member n ns
-used-is n ns i c e d = go (member n ns) refl
-  where
-    go : (t : Bool) → member n ns ≡ t → ltb i c ≡ t
-    go true h = lt-ltb i c (let q = index-member n ns h in omega arith)
-    go false h = le-ltb i c (let q = index-none n ns h in omega arith)
+use Rattle.table.proofs.Places.{or-swap}
 
 pub mark-none : Marked (replicate 256 0) []
 unfolding member

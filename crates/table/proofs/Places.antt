@@ -140,12 +140,3 @@ index-member n (m ∷ ns) h = go (eqb m n) h (index-member n ns)
     go : (t : Bool) → (t || member n ns) ≡ true → (member n ns ≡ true → indexOf n ns < length ns) → cond t 0 (suc (indexOf n ns)) < suc (length ns)
     go true h ih = omega arith
     go false h ih = let q = ih h in omega arith
-
-pub index-none : (n : ℕ) (ns : List ℕ) → member n ns ≡ false → length ns ≤ indexOf n ns
-unfolding member indexOf
-index-none n [] h = omega arith
-index-none n (m ∷ ns) h = go (eqb m n) h (index-none n ns)
-  where
-    go : (t : Bool) → (t || member n ns) ≡ false → (member n ns ≡ false → length ns ≤ indexOf n ns) → suc (length ns) ≤ cond t 0 (suc (indexOf n ns))
-    go true h ih = absurd (no (sym h))
-    go false h ih = let q = ih h in omega arith

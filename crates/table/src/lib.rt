@@ -74,7 +74,7 @@ pub fn is_used(table: &[u8], places: usize, place: usize) -> bool
     if table.len() <= places {
         return false;
     }
-    order::index_of(table, places, place) < order::length(table, places)
+    order::lists(table, places, place)
 }
 
 // The lowest place that is not used, or `places` where all are.

@@ -2,7 +2,7 @@
 ghost use mathlib.Core.Path.{_≡_};
 ghost use Prim.Native.Nat.{_<_, _≤_};
 ghost use lib.ListN.{length};
-ghost use Rattle.table.specs.Bytes.{indexOf};
+ghost use Rattle.table.specs.Bytes.{indexOf, member};
 ghost use mathlib.Core.List.{[]};
 ghost use Rattle.table.specs.Table.{count, listed, lowest, entered, closed, freed};
 ghost use Rattle.table.specs.Marks.{Marked};
@@ -33,6 +33,23 @@ pub(crate) fn index_of(table: &[u8], places: usize, place: usize) -> usize
         i += 1;
     }
     i
+}
+
+// Whether a place is listed. The order is searched to its end, so that there is no end to predict and many places are compared at a time.
+pub(crate) fn lists(table: &[u8], places: usize, place: usize) -> bool
+    requires { ⌜ places < length (now table) ⌝ }
+    ensures { λ r. ⌜ r ≡ member place (listed places (now (table .entry))) ⌝ }
+{
+    let count = length(table, places);
+    let mut used = false;
+    let mut i = 0;
+    while i < count {
+        if table[1 + i] as usize == place {
+            used = true;
+        }
+        i += 1;
+    }
+    used
 }
 
 // A place is put in at `at`; those from there on, `count` in all, move up.

@@ -23,19 +23,20 @@ fn key_before(a: &[u8], b: &[u8]) -> bool
     false
 }
 
-// Whether two keys are the same.
+// Whether two keys are the same. Every byte is compared, with no way out before the last, so that the compiler can compare many at a time.
 fn same_key(a: &[u8], b: &[u8]) -> bool
     requires { ⌜ length (now a) ≡ length (now b) ⌝ }
     ensures { λ r. ⌜ r ≡ sameKey (now (a .entry)) (now (b .entry)) ⌝ }
 {
+    let mut same = true;
     let mut i = 0;
     while i < a.len() {
         if a[i] != b[i] {
-            return false;
+            same = false;
         }
         i += 1;
     }
-    true
+    same
 }
 
 // Where the record of a place stands: all arithmetic of places and widths is here.

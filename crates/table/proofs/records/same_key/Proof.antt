@@ -1,6 +1,8 @@
--- `records::same_key` meets its contract. Assumes nothing.
-use mathlib.Core.Path.{_≡_, refl, sym, _∙_}
-use Prim.Native.Nat.{_≤_, _-_}
+-- `records::same_key` meets its contract. The invariant: the keys are the same if the bytes passed are, and those to come. Assumes nothing.
+use mathlib.Core.Path.{_≡_, refl, sym, ap, _∙_}
+use mathlib.Core.Bool.{Bool, true, false, _&&_}
+use mathlib.Core.Logic.{⊎-elim}
+use Prim.Native.Nat.{_+_, _≤_, _-_}
 use native.Mathlib.Omega.{arith}
 use lib.ListN.{length, drop}
 use Rattle.key.specs.Keys.{sameKey}
@@ -8,11 +10,19 @@ use Rattle.key.proofs.Same.{same-differ, same-agree, same-end}
 use Rattle.table.proofs.records.same_key.Statement.{statement}
 use Rattle.table.proofs.records.same_key.Tie as tie
 
+and-false : (t : Bool) → (t && false) ≡ false
+and-false true = refl
+and-false false = refl
+
+and-true : (t : Bool) → (t && true) ≡ t
+and-true true = refl
+and-true false = refl
+
 abbrev Inv-loop : tie.InvT-loop
-Inv-loop a b i₀ i = (i ≤ length a) × (length a ≡ length b) × (sameKey a b ≡ sameKey (drop i a) (drop i b))
+Inv-loop a b same₀ i₀ same i = (i ≤ length a) × (length a ≡ length b) × (sameKey a b ≡ (same && sameKey (drop i a) (drop i b)))
 
 abbrev μ-loop : tie.MeasureT-loop
-μ-loop a b i₀ i = length a - i
+μ-loop a b same₀ i₀ same i = length a - i
 
 loop-holds : tie.Need-loop-holds Inv-loop μ-loop
 loop-holds c = (omega arith, omega arith, refl)
@@ -23,12 +33,6 @@ shared-slice-read-if1 c = omega arith
 shared-slice-read-if1-2 : tie.Need-shared-slice-read-if1-2 Inv-loop μ-loop
 shared-slice-read-if1-2 c = omega arith
 
-returns : tie.Need-returns Inv-loop μ-loop
-returns c =
-    let l = c .before .before .before .before in
-    let a = l .before .args in
-    sym (l .loop .inv .2 ∙ same-differ (a .a .now) (a .b .now) (l .loop .i) (omega arith) (omega arith) (c .if1 .taken))
-
 add-i : tie.Need-add-i Inv-loop μ-loop
 add-i c = omega arith
 
@@ -37,15 +41,28 @@ loop-less c = omega arith
 
 loop-again : tie.Need-loop-again Inv-loop μ-loop
 loop-again c =
-    let l = c .before .before .before .before in
-    let a = l .before .args in
-    (omega arith, omega arith, l .loop .inv .2 ∙ same-agree (a .a .now) (a .b .now) (l .loop .i) (omega arith) (omega arith) (c .if1 .left))
+    let l = c .before .before .before .before .loop in
+    let s = c .before .before .before .before .before in
+    let a = s .args .a .now in
+    let b = s .args .b .now in
+    let long = l .inv .1 in
+    let more : Bool = sameKey (drop (l .i + 1) a) (drop (l .i + 1) b) in (
+      omega arith,
+      long,
+      ⊎-elim
+          (λ w. l .inv .2 ∙ ap (λ (t : Bool). l .same && t) (same-differ a b (l .i) (omega arith) (omega arith) (w .0 .taken)) ∙ and-false (l .same)
+          ∙ sym (ap (λ (t : Bool). t && more) (w .1)))
+          (λ w. l .inv .2 ∙ ap (λ (t : Bool). l .same && t) (same-agree a b (l .i) (omega arith) (omega arith) (w .0 .left))
+          ∙ sym (ap (λ (t : Bool). t && more) (w .1)))
+          (c .if1 .came),
+    )
 
-returns-2 : tie.Need-returns-2 Inv-loop μ-loop
-returns-2 c =
-    let l = c .before in
-    let a = l .before .args in
-    sym (l .loop .inv .2 ∙ same-end (a .a .now) (a .b .now) (l .loop .i) (omega arith) (omega arith))
+returns : tie.Need-returns Inv-loop μ-loop
+returns c =
+    let l = c .before .loop in
+    let a = c .before .before .args .a .now in
+    let b = c .before .before .args .b .now in
+    sym (l .inv .2 ∙ ap (λ (t : Bool). l .same && t) (same-end a b (l .i) (omega arith) (omega arith)) ∙ and-true (l .same))
 
 pub same-key-spec : {M : Type 1} → statement M
 same-key-spec =
@@ -56,8 +73,7 @@ same-key-spec =
     loop-holds
     shared-slice-read-if1
     shared-slice-read-if1-2
-    returns
     add-i
     loop-less
     loop-again
-    returns-2)
+    returns)
