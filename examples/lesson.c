@@ -1,7 +1,7 @@
 /*
- * One relay in a classroom, driven by single calls: what a host gives the library, what it gets
- * back, and what it does with it. Each step prints a line and checks the answer and every byte of
- * the output.
+ * One relay in a classroom, driven by single calls and at the end by stored ones: what a host
+ * gives the library, what it gets back, and what it does with it. Each step prints a line and
+ * checks the answer and every byte of the output.
  *
  * A real host has a socket for each seat. It opens what comes in on it and gives the packet to
  * banavoge_packet; it seals the packet of each record and sends it on the socket of the record's
@@ -549,6 +549,31 @@ static void errors_of_the_host(struct host *host)
     CHECK(refused(host, answer, BANAVOGE_REFUSAL_ROOM_NOT_WHOLE));
 }
 
+/* A host may hand over the calls of one poll together, stored one behind the other: the room is
+   then tested once. For each the output gets its refusal, its seat, a length and its records. */
+static void stored_calls(struct host *host)
+{
+    const uint8_t calls[] = {
+        2, CAROL_SEAT, 0, 9, BANAVOGE_KIND_PING, 0, 0, 0, 0, 0, 0, 0, 7, /* Carol pings */
+        2, 39, 0, 2, 16, 'x',                                            /* seat 39 is empty */
+    };
+    const uint8_t answers[] = {
+        0, CAROL_SEAT, 0, 12, CAROL_SEAT, 0, 9, BANAVOGE_KIND_PONG, 0, 0, 0, 0, 0, 0, 0, 7,
+        BANAVOGE_REFUSAL_NOT_SEATED, 0, 0, 0,
+    };
+    uint8_t out[2 * (BANAVOGE_PLAYED_HEAD + BANAVOGE_LEAST_OUTPUT)];
+    size_t played;
+    size_t read;
+    size_t written;
+    int32_t answer = banavoge_play(host->room, host->room_length, calls, sizeof calls, 2, out,
+                                   sizeof out, &played, &read, &written);
+
+    CHECK(answer == BANAVOGE_STOP_END);
+    CHECK(played == 2 && read == sizeof calls);
+    CHECK(written == sizeof answers && memcmp(out, answers, sizeof answers) == 0);
+    printf("two stored calls: played to the end, %zu bytes written\n", written);
+}
+
 int main(void)
 {
     struct host host;
@@ -567,6 +592,7 @@ int main(void)
     back_in_another_seat(&host);
     dropped(&host);
     errors_of_the_host(&host);
+    stored_calls(&host);
     close_room(&host);
     return 0;
 }

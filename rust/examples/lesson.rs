@@ -52,23 +52,23 @@ impl Lesson {
     }
 
     fn arrive(&mut self, who: usize) {
-        let answer = self.room.arrive(&self.clients[who].key);
-        match answer {
-            Ok(seat) => say(
-                self.clients[who].name,
-                "arrives",
-                &format!("seat {}", seat.0),
-            ),
-            Err(why) => say(self.clients[who].name, "arrives", &refused(why)),
+        let client = &mut self.clients[who];
+        match self.room.arrive(&client.key) {
+            Ok(seat) => {
+                client.seat = Some(seat);
+                say(client.name, "arrives", &format!("seat {}", seat.0));
+            }
+            Err(why) => say(client.name, "arrives", &refused(why)),
         }
-        self.clients[who].seat = answer.ok();
     }
 
     fn leave(&mut self, who: usize) {
         let mut out = [0; LEAST_OUTPUT];
         let seat = self.clients[who].seat.expect("only who is seated leaves");
         let answer = self.room.leave(seat, &mut out);
-        self.clients[who].seat = None;
+        if answer.is_ok() {
+            self.clients[who].seat = None;
+        }
         self.answered(who, "leaves", answer);
     }
 

@@ -5,6 +5,7 @@ use std::iter::FusedIterator;
 
 /// What [`Room::play`](crate::Room::play) came to.
 #[derive(Debug, Clone, PartialEq, Eq)]
+#[must_use = "packets that are not sent are lost"]
 pub struct Played<'a> {
     /// How many calls were played, refused ones included.
     pub calls: usize,
@@ -38,13 +39,14 @@ impl Stop {
             1 => Stop::NoCall,
             2 => Stop::Allowance,
             3 => Stop::Output,
-            _ => unreachable!("{answer} from a replay that was accepted"),
+            _ => unreachable!("{answer} is no reason to stop"),
         }
     }
 }
 
 /// An accepted call that was played.
 #[derive(Debug, Clone, PartialEq, Eq)]
+#[must_use = "packets that are not sent are lost"]
 pub struct Accepted<'a> {
     /// The seat answered to an arrival, or else the seat that made the call.
     pub seat: Seat,

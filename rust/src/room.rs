@@ -19,8 +19,7 @@ pub const LEAST_OUTPUT: usize = 2_048;
 /// they were.
 ///
 /// A room owns its memory, which only the library's calls change, so it is
-/// always whole: 11 is refused where a room is made from bytes, and nowhere
-/// else.
+/// always whole: 11 is given only where a room is made from bytes.
 #[derive(Clone)]
 pub struct Room {
     memory: Box<[u8]>,
@@ -143,7 +142,8 @@ impl Room {
     /// and not for each call.
     ///
     /// What is no stored call, an allowance used up and too little output only
-    /// stop it: the rest may be played by a further call.
+    /// stop it: the rest may be played by a further call. Never refused: 11 is
+    /// the only refusal of a run, and a `Room` is always whole.
     ///
     /// ```
     /// use banavoge::{Call, Key, Refusal, Room, Seat, Stop};

@@ -1,5 +1,5 @@
 // The public calls: each tests the lent output and the lent room in full, and then takes the step. Document 01's sizes, 40 seats and 32 numbers, are
-// fixed here and nowhere below.
+// fixed here and in `play`, and nowhere below.
 ghost use mathlib.Core.Path.{_≡_};
 ghost use mathlib.Core.List.{[]};
 ghost use Rattle.rules.specs.Call as rules;

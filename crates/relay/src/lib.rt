@@ -1,7 +1,7 @@
 // The relay: what arrivals, leaves and packets do to a room in lent memory, and what they send. Document 01's section "The room".
 //
-// Each call takes opened packets from the host and writes records for other seats into an output that the host lends; sockets and sealing stay with
-// the host.
+// A call, or a run of stored calls, is made on a room in lent memory, and writes records, each for a seat, into an output that the host lends; sockets,
+// sealing and opening stay with the host.
 mod answer;
 mod arrive;
 pub mod calls;

@@ -1,4 +1,5 @@
-// Records in the lent output: seat (1 byte), length (2, the higher byte first), the packet. Only this file writes an output.
+// Records in the lent output: seat (1 byte), length (2, the higher byte first), the packet. Only this file writes records;
+// `entry.rt` writes what a run puts before them.
 ghost use mathlib.Core.Path.{_≡_};
 ghost use mathlib.Core.List.{[], _∷_, _++_};
 ghost use Prim.Native.Nat.{_+_, _<_, _≤_};

@@ -35,7 +35,8 @@ pub(crate) fn index_of(table: &[u8], places: usize, place: usize) -> usize
     i
 }
 
-// Whether a place is listed. The order is searched to its end, so that there is no end to predict and many places are compared at a time.
+// Whether a place is listed. The loop does not stop where it finds the place: how often it runs depends on the count alone, which the processor
+// predicts well, and many places can be compared at a time.
 pub(crate) fn lists(table: &[u8], places: usize, place: usize) -> bool
     requires { ⌜ places < length (now table) ⌝ }
     ensures { λ r. ⌜ r ≡ member place (listed places (now (table .entry))) ⌝ }
