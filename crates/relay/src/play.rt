@@ -9,6 +9,7 @@ ghost use Rattle.relay.specs.Play.{Plays, playing};
 ghost use Rattle.relay.specs.PlaySteps.{Reads, Makes, Takes, RunsOn};
 use crate::answer::Answer;
 use crate::arrive;
+use crate::calls;
 use crate::entry;
 use crate::leave;
 use crate::packet_call;
@@ -20,10 +21,10 @@ use stored::StoredCall;
 use stored::StoredRead;
 
 // Output for the head of a call and for what any call may write.
-const LEAST_SPACE: usize = 2052;
+const LEAST_SPACE: usize = entry::HEAD + calls::LEAST_OUTPUT;
 
 // Where the key of a stored arrival ends.
-const KEY_END: usize = 36;
+const KEY_END: usize = stored::HEAD + Key::BYTES;
 
 // Why a run of stored calls stopped.
 pub enum Stop {
