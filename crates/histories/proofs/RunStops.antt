@@ -1,0 +1,240 @@
+-- What a stop of a run of stored calls means, and how a second run goes on. A run stops where the rule of what comes next stops, at the allowance, the stored
+-- bytes and the output that are left then (`run-stopped`). So, in the counts that the host gets (`stop-means`):
+--
+--   - stopped at the end: all stored bytes were read;
+--   - stopped for no call: bytes are left, and no stored call is at their front;
+--   - stopped for the allowance: as many calls were played as the allowance says, and bytes are left;
+--   - stopped for the output: a stored call is next, and less than 2,052 bytes of the output are left.
+--
+-- And a second run, on the bytes that are left and the room that the first returned, goes on where the first stopped, whatever its allowance and output: the
+-- calls of both are the stored ones, in order, with none skipped, and their events are one transcript (`goes-on`). Assumes nothing.
+use mathlib.Core.Path.{_≡_, refl, sym, ap, ap₂, subst, _∙_}
+use mathlib.Core.Bool.{Bool, true, false, false≢true, cond}
+use mathlib.Core.List.{List, [], _∷_, _++_}
+use Prim.Native.Nat.{ℕ, zero, suc, _+_, _-_, _≤_, _<_}
+use native.Mathlib.Omega.{arith}
+use lib.Dec.{eqb, leb}
+use lib.ListN.{length, drop, length-append, length-drop}
+use lib.Seq.{drop-drop}
+use borrow.Author.Tests.{leb-false, eqb-true, eqb-false}
+use Rattle.rules.specs.Room.{Sizes, Room}
+use Rattle.rules.specs.Call.{Call}
+use Rattle.rules.specs.Outcome.{outcome, roomAfter}
+use Rattle.rules.specs.History.{Event, event, transcript}
+use Rattle.rules.specs.After.{roomAfterAll}
+use Rattle.room.specs.View.{viewRoom}
+use Rattle.room.specs.Whole.{roomWhole}
+use Rattle.room_laws.proofs.TablesLaws.{sizesOf}
+use Rattle.stored.specs.Stored.{storedBytes, storedAll, First, none, call, firstCall}
+use Rattle.stored.proofs.StoredLaws.{first-within}
+use Rattle.relay.specs.declared.play.Run as code
+use Rattle.relay.specs.declared.play.Stop.{Stop}
+use Rattle.relay.specs.declared.play.Stop.the-variants.{End, NoCall, Allowance, Output}
+use Rattle.relay.specs.Play.{entryBytes, entriesBytes, Next, stops, plays, leastSpace, nextCall, next, Run, goOn, run, played, playing, Plays}
+use Rattle.relay.proofs.PlayLaws.{next-is, ended, firstThen, restOf}
+use Rattle.histories.proofs.RunIsChain.{InFront, run-in-front, runOn, run-played}
+
+-- ---- where a run stops
+
+-- how many stored bytes the calls are, and how many are written for them
+abbrev pub readBy : List Call → ℕ
+readBy calls = length (storedAll calls)
+
+abbrev pub writtenFor : Sizes → Room → List Call → ℕ
+writtenFor sizes room calls = length (entriesBytes (transcript sizes room calls))
+
+-- a run within its allowance and the stored bytes, and what comes next where it stopped
+pub record StoppedThere (sizes : Sizes) (allowance : ℕ) (room : Room) (stored : List ℕ) (space : ℕ) (r : Run) : Type 0 where
+  pub allowed : length (r .calls) ≤ allowance
+  pub there : readBy (r .calls) ≤ length stored
+  pub stopped : next (allowance - length (r .calls)) (drop (readBy (r .calls)) stored) (space - writtenFor sizes room (r .calls)) ≡ stops (r .why)
+
+module _ (sizes : Sizes) (room : Room) (stored : List ℕ) (space : ℕ) where
+  at-once : (allowance : ℕ) (why : Stop) → next allowance stored space ≡ stops why → StoppedThere sizes allowance room stored space (ended why)
+  unfolding storedAll entriesBytes transcript
+  at-once allowance why e =
+      let a : allowance - 0 ≡ allowance = omega arith in
+      let s : space - 0 ≡ space = omega arith in
+      record { allowed = omega arith; there = omega arith; stopped = ap₂ (λ (x y : ℕ). next x stored y) a s ∙ e }
+
+  behind-call : (more : ℕ) (c : Call) (r : Run) → firstCall stored ≡ call c
+      → StoppedThere sizes more (roomAfter sizes room (outcome room c)) (drop (length (storedBytes c)) stored) (space - length (entryBytes (event room c))) r
+      → StoppedThere sizes (suc more) room stored space (firstThen c r)
+  unfolding storedAll entriesBytes transcript
+  behind-call more c r first q =
+      let after = roomAfter sizes room (outcome room c) in
+      let taken = length (storedBytes c) in
+      let calls = r .calls in
+      let within = first-within stored c first in
+      let left = length-drop taken stored in
+      let read = length-append (storedBytes c) (storedAll calls) in
+      let wrote = length-append (entryBytes (event room c)) (entriesBytes (transcript sizes after calls)) in
+      let h = q .allowed in
+      let t = q .there in
+      let a : suc more - suc (length calls) ≡ more - length calls = omega arith in
+      let l : drop (length (storedBytes c ++ storedAll calls)) stored ≡ drop (readBy calls) (drop taken stored) =
+      ap (λ (k : ℕ). drop k stored) read ∙ sym (drop-drop (readBy calls) taken stored) in
+      let s : space - length (entryBytes (event room c) ++ entriesBytes (transcript sizes after calls))
+      ≡ space - length (entryBytes (event room c)) - writtenFor sizes after calls = omega arith in
+      record {
+        allowed = omega arith;
+        there = omega arith;
+        stopped =
+            ap₂ (λ (x y : ℕ). next x (drop (length (storedBytes c ++ storedAll calls)) stored) y) a s
+            ∙ ap (λ (x : List ℕ). next (more - length calls) x (space - length (entryBytes (event room c)) - writtenFor sizes after calls)) l
+            ∙ q .stopped;
+      }
+
+pub run-stopped : (sizes : Sizes) (allowance : ℕ) (room : Room) (stored : List ℕ) (space : ℕ)
+    → StoppedThere sizes allowance room stored space (run sizes allowance room stored space)
+unfolding run goOn next
+run-stopped sizes zero room stored space = at-once sizes room stored space 0 (cond (eqb (length stored) 0) End Allowance) (go (eqb (length stored) 0))
+  where
+    go : (t : Bool) → cond t (stops End) (stops Allowance) ≡ stops (cond t End Allowance)
+    go true = refl
+    go false = refl
+run-stopped sizes (suc more) room stored space =
+    go (next (suc more) stored space) refl
+    (λ c. run-stopped sizes more (roomAfter sizes room (outcome room c)) (drop (length (storedBytes c)) stored) (space - length (entryBytes (event room c))))
+  where
+    later : Call → Run
+    later = restOf sizes room stored space more
+
+    go : (x : Next) → next (suc more) stored space ≡ x
+        → ((c : Call)
+          → StoppedThere sizes more (roomAfter sizes room (outcome room c)) (drop (length (storedBytes c)) stored) (space - length (entryBytes (event room c))) (later c))
+        → StoppedThere sizes (suc more) room stored space (goOn x later)
+    go (stops why) e k = at-once sizes room stored space (suc more) why e
+    go (plays c) e k = behind-call sizes room stored space more c (later c) (next-is (suc more) stored space c e .first) (k c)
+
+-- ---- what a stop says
+
+-- some stored call is at the front
+pub record CallNext (stored : List ℕ) : Type 0 where
+  pub which : Call
+  pub first : firstCall stored ≡ call which
+
+-- the ground of a stop
+abbrev pub Ground : ℕ → List ℕ → ℕ → Stop → Type 0
+Ground allowance stored space End = length stored ≡ 0
+Ground allowance stored space NoCall = (length stored ≡ 0 → ⊥) × (firstCall stored ≡ none)
+Ground allowance stored space Allowance = (length stored ≡ 0 → ⊥) × (allowance ≡ 0)
+Ground allowance stored space Output = CallNext stored × (space < leastSpace)
+
+pub next-ground : (allowance : ℕ) (stored : List ℕ) (space : ℕ) (why : Stop) → next allowance stored space ≡ stops why → Ground allowance stored space why
+unfolding next nextCall
+next-ground allowance stored space why e = at-end (eqb (length stored) 0) refl e
+  where
+    is : (given : Stop) → stops given ≡ stops why → Ground allowance stored space given → Ground allowance stored space why
+    is given e g = let q : given ≡ why = cc in subst (Ground allowance stored space) q g
+
+    with-call : (f : First) → firstCall stored ≡ f → (length stored ≡ 0 → ⊥) → nextCall f space ≡ stops why → Ground allowance stored space why
+    with-call none q more e = is NoCall e (more, q)
+    with-call (call d) q more e = with-space (leb leastSpace space) refl e
+      where
+        with-space : (t : Bool) → leb leastSpace space ≡ t → cond t (plays d) (stops Output) ≡ stops why → Ground allowance stored space why
+        with-space true l e = let z : plays d ≡ stops why = e in absurd (false≢true (cc))
+        with-space false l e = is Output e (record { which = d; first = q }, leb-false leastSpace space l)
+
+    at-allowance : (t : Bool) → eqb allowance 0 ≡ t → (length stored ≡ 0 → ⊥) → cond t (stops Allowance) (nextCall (firstCall stored) space) ≡ stops why
+        → Ground allowance stored space why
+    at-allowance true q more e = is Allowance e (more, eqb-true allowance 0 q)
+    at-allowance false q more e = with-call (firstCall stored) refl more e
+
+    at-end : (t : Bool) → eqb (length stored) 0 ≡ t → cond t (stops End) (cond (eqb allowance 0) (stops Allowance) (nextCall (firstCall stored) space)) ≡ stops why
+        → Ground allowance stored space why
+    at-end true q e = is End e (eqb-true (length stored) 0 q)
+    at-end false q e = at-allowance (eqb allowance 0) refl (eqb-false (length stored) 0 q) e
+
+-- ---- in the counts of the answer
+
+-- a run with this allowance, these stored bytes and `space` bytes of output stopped for `why`, after `calls` calls, `read` stored bytes and `written` bytes
+pub record StopMeans (allowance : ℕ) (stored : List ℕ) (space : ℕ) (why : Stop) (calls read written : ℕ) : Type 0 where
+  pub all-read : why ≡ End → read ≡ length stored
+  pub no-call : why ≡ NoCall → (read < length stored) × (firstCall (drop read stored) ≡ none)
+  pub all-allowed : why ≡ Allowance → (read < length stored) × (calls ≡ allowance)
+  pub output-short : why ≡ Output → CallNext (drop read stored) × (space < written + leastSpace)
+
+pub run-stop-means : (sizes : Sizes) (allowance : ℕ) (room : Room) (stored : List ℕ) (space : ℕ)
+    → let r = run sizes allowance room stored space in
+    StopMeans allowance stored space (r .why) (length (r .calls)) (readBy (r .calls)) (writtenFor sizes room (r .calls))
+run-stop-means sizes allowance room stored space =
+    let r = run sizes allowance room stored space in
+    let t = run-stopped sizes allowance room stored space in
+    let read = readBy (r .calls) in
+    let wrote = writtenFor sizes room (r .calls) in
+    let G = Ground (allowance - length (r .calls)) (drop read stored) (space - wrote) in
+    let g : G (r .why) = next-ground (allowance - length (r .calls)) (drop read stored) (space - wrote) (r .why) (t .stopped) in
+    let left = length-drop read stored in
+    let there = t .there in
+    let allowed = t .allowed in
+    let more : (length (drop read stored) ≡ 0 → ⊥) → read < length stored = λ f. some-left read stored there f in
+    record {
+      all-read = λ e. (let q = subst G e g in omega arith);
+      no-call = λ e. (let q = subst G e g in (more (q .0), q .1));
+      all-allowed = λ e. (let q = subst G e g in let z = q .1 in (more (q .0), omega arith));
+      output-short = λ e. (let q = subst G e g in let z = q .1 in (q .0, omega arith));
+    }
+  where
+    some-left : (read : ℕ) (stored : List ℕ) → read ≤ length stored → (length (drop read stored) ≡ 0 → ⊥) → read < length stored
+    some-left read stored h f = go (length (drop read stored)) refl
+      where
+        go : (k : ℕ) → length (drop read stored) ≡ k → read < length stored
+        go zero e = absurd (f e)
+        go (suc k) e = let left = length-drop read stored in omega arith
+
+-- of the contract, from whole bytes
+pub stop-means : (s n allowance : ℕ) (stored b out : List ℕ) (given : code.Run) (b′ out′ : List ℕ) → roomWhole s n b ≡ true
+    → Plays s n (playing s n allowance stored b out) b out given b′ out′ → (why : Stop) (calls read written : ℕ)
+    → given ≡ code.the-variants.Stopped why calls read written → StopMeans allowance stored (length out) why calls read written
+unfolding played
+stop-means s n allowance stored b out given b′ out′ whole p why calls read written e =
+    let r = runOn s n allowance stored b out in
+    let room = viewRoom s n b in
+    let same : code.the-variants.Stopped (r .why) (length (r .calls)) (readBy (r .calls)) (writtenFor (sizesOf s n) room (r .calls))
+    ≡ code.the-variants.Stopped why calls read written = sym (run-played s n allowance stored b out given b′ out′ whole p .answers) ∙ e in
+    let w : r .why ≡ why = cc in
+    let c : length (r .calls) ≡ calls = cc in
+    let x : readBy (r .calls) ≡ read = cc in
+    let y : writtenFor (sizesOf s n) room (r .calls) ≡ written = cc in
+    rw (← w, ← c, ← x, ← y) (run-stop-means (sizesOf s n) allowance room stored (length out))
+
+-- ---- a second run
+
+in-front-append : (stored : List ℕ) (calls later : List Call) → InFront stored calls → InFront (drop (readBy calls) stored) later → InFront stored (calls ++ later)
+unfolding storedAll
+in-front-append stored [] later f g = g
+in-front-append stored (c ∷ calls) later f g =
+    let taken = length (storedBytes c) in
+    let l : drop (length (storedBytes c ++ storedAll calls)) stored ≡ drop (readBy calls) (drop taken stored) =
+    ap (λ (k : ℕ). drop k stored) (length-append (storedBytes c) (storedAll calls)) ∙ sym (drop-drop (readBy calls) taken stored) in
+    (f .0, in-front-append (drop taken stored) calls later (f .1) (subst (λ (x : List ℕ). InFront x later) l g))
+
+pub transcript-append : (sizes : Sizes) (room : Room) (calls later : List Call)
+    → transcript sizes room (calls ++ later) ≡ transcript sizes room calls ++ transcript sizes (roomAfterAll sizes room calls) later
+unfolding transcript roomAfterAll
+transcript-append sizes room [] later = refl
+transcript-append sizes room (c ∷ calls) later =
+    ap (λ (l : List Event). event room c ∷ l) (transcript-append sizes (roomAfter sizes room (outcome room c)) calls later)
+
+module _ (sizes : Sizes) (allowance₁ allowance₂ : ℕ) (room : Room) (stored : List ℕ) (space₁ space₂ : ℕ) where
+  -- the first run, the room and the bytes that it leaves, and the second on these
+  abbrev pub firstRun : Run
+  firstRun = run sizes allowance₁ room stored space₁
+
+  abbrev pub roomThen : Room
+  roomThen = roomAfterAll sizes room (firstRun .calls)
+
+  abbrev pub storedThen : List ℕ
+  storedThen = drop (readBy (firstRun .calls)) stored
+
+  abbrev pub secondRun : Run
+  secondRun = run sizes allowance₂ roomThen storedThen space₂
+
+  pub goes-on : InFront stored (firstRun .calls ++ secondRun .calls)
+      × (transcript sizes room (firstRun .calls ++ secondRun .calls) ≡ transcript sizes room (firstRun .calls) ++ transcript sizes roomThen (secondRun .calls))
+  goes-on = (
+      in-front-append stored (firstRun .calls) (secondRun .calls) (run-in-front sizes allowance₁ room stored space₁)
+      (run-in-front sizes allowance₂ roomThen storedThen space₂),
+      transcript-append sizes room (firstRun .calls) (secondRun .calls),
+    )
