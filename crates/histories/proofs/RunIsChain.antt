@@ -1,9 +1,9 @@
 -- A run of stored calls is a chain of the public single calls. From whole bytes, whatever the allowance, the stored bytes and the output:
 --
---   - the calls that a run plays, made one by one, each on the bytes that the last returned and with an output of 2,048 bytes, leave the bytes that the run
---     leaves, and their events are the rules' transcript of the calls played (`run-is-chain`);
---   - the other way, any single calls that are those of the run, whatever outputs are lent to them, are seen as the same events and leave the same bytes, and
---     what the run writes is these events, entry by entry, and then what stood behind them (`chain-is-run`);
+--   - the calls that a run plays, made one by one, each on the bytes that the last returned and with some output that is long enough, leave the bytes that the
+--     run leaves, and their events are the rules' transcript of the calls played (`run-is-chain`);
+--   - the other way, any single calls that are those of the run, whatever outputs of 2,048 bytes or more are lent to them, are seen as the same events and leave
+--     the same bytes, and what the run writes is these events, entry by entry, and then what stood behind them (`chain-is-run`);
 --   - chains join, so runs and single calls may stand in one history in any order (`chain-append`, `run-behind`);
 --   - and what a run plays are the calls that are stored, in order, with none skipped (`run-in-front`).
 --
