@@ -33,25 +33,15 @@ use Rattle.relay.specs.Calls.{leastOutput}
 use Rattle.relay.specs.Play.{entryHead, entryBytes, entriesBytes, leastSpace, run, played, playing, Plays}
 use Rattle.relay.proofs.EntryLaws.{length-entry-head}
 use Rattle.relay.proofs.PlayLaws.{next-end, next-plays, firstThen, run-stops, run-plays}
-use Rattle.histories.specs.History.{Chain}
-use Rattle.histories.proofs.RunIsChain.{runOn, run-played, run-is-chain}
-use Rattle.histories.proofs.RunStops.{writtenFor, transcript-append}
-
--- each of the calls can be stored
-abbrev pub AllStorable : List Call → Type 0
-AllStorable [] = Unit {0}
-AllStorable (c ∷ calls) = Storable c × AllStorable calls
+use Rattle.histories.specs.Runs.{AllStorable, runOn, writtenFor, LeftForEach, AllPlayed}
+use Rattle.histories.proofs.RunIsChain.{run-played, run-is-chain}
+use Rattle.histories.proofs.RunStops.{transcript-append}
 
 storable-front : (before later : List Call) → AllStorable (before ++ later) → AllStorable before
 storable-front [] later a = tt
 storable-front (c ∷ before) later a = (a .0, storable-front before later (a .1))
 
 -- ---- where 2,052 bytes are left before each call
-
--- `before` are the calls before one of them
-abbrev pub LeftForEach : Sizes → Room → List Call → ℕ → Type 0
-LeftForEach sizes room calls space =
-    (before : List Call) (c : Call) (behind : List Call) → calls ≡ before ++ (c ∷ behind) → writtenFor sizes room before + leastSpace ≤ space
 
 pub run-ends-left : (sizes : Sizes) (calls : List Call) → AllStorable calls → (room : Room) (allowance space : ℕ) → length calls ≤ allowance
     → LeftForEach sizes room calls space → run sizes allowance room (storedAll calls) space ≡ record { calls = calls; why = End }
@@ -69,9 +59,9 @@ run-ends-left sizes (c ∷ calls) a room allowance space enough left =
     ∙ ap (firstThen c)
     (run-ends-left sizes calls (a .1) after (allowance - 1) (space - entry) (omega arith)
     (λ before d behind e.
-      (let h = left (c ∷ before) d behind (ap (λ (l : List Call). c ∷ l) e) in
-      let n = length-append (entryBytes (event room c)) (entriesBytes (transcript sizes after before)) in
-      omega arith)))
+    (let h = left (c ∷ before) d behind (ap (λ (l : List Call). c ∷ l) e) in
+    let n = length-append (entryBytes (event room c)) (entriesBytes (transcript sizes after before)) in
+    omega arith)))
 
 -- ---- where the output has what is written, and 2,048 bytes more
 
@@ -106,11 +96,11 @@ pub run-ends-written : (sizes : Sizes) (calls : List Call) → AllStorable calls
 run-ends-written sizes calls a room allowance space enough fits =
     run-ends-left sizes calls a room allowance space enough
     (λ before c behind e.
-      (let n = ap length e ∙ length-append before (c ∷ behind) in
-      let h = fits (omega arith) in
-      let w = ap (writtenFor sizes room) e ∙ written-append sizes room before (c ∷ behind) in
-      let k = head-within sizes (roomAfterAll sizes room before) c behind in
-      omega arith))
+    (let n = ap length e ∙ length-append before (c ∷ behind) in
+    let h = fits (omega arith) in
+    let w = ap (writtenFor sizes room) e ∙ written-append sizes room before (c ∷ behind) in
+    let k = head-within sizes (roomAfterAll sizes room before) c behind in
+    omega arith))
 
 -- ---- where the output has 2,052 bytes for each call
 
@@ -157,13 +147,7 @@ module _ (sizes : Sizes) (few : sizes .numbers ≤ 240) where
 module _ (s n allowance : ℕ) (calls : List Call) (b out : List ℕ) (given : code.Run) (b′ out′ : List ℕ) (whole : roomWhole s n b ≡ true)
     (storable : AllStorable calls) (enough : length calls ≤ allowance)
     (p : Plays s n (playing s n allowance (storedAll calls) b out) b out given b′ out′) where
-  -- nothing of the stored calls is left, and the chain is of these calls
-  abbrev pub AllPlayed : Type 0
-  AllPlayed =
-      (given ≡ code.the-variants.Stopped End (length calls) (length (storedAll calls)) (length (entriesBytes (transcript (sizesOf s n) (viewRoom s n b) calls))))
-      × Chain s n b (transcript (sizesOf s n) (viewRoom s n b) calls) b′
-
-  pub plays-all-left : LeftForEach (sizesOf s n) (viewRoom s n b) calls (length out) → AllPlayed
+  pub plays-all-left : LeftForEach (sizesOf s n) (viewRoom s n b) calls (length out) → AllPlayed s n calls b given b′
   unfolding played
   plays-all-left left =
       let all : runOn s n allowance (storedAll calls) b out ≡ record { calls = calls; why = End } =
@@ -172,6 +156,6 @@ module _ (s n allowance : ℕ) (calls : List Call) (b out : List ℕ) (given : c
       let c = run-is-chain s n allowance (storedAll calls) b out given b′ out′ whole p in
       (rw all at (r .answers), rw all at c)
 
-  pub plays-all : length calls * leastSpace ≤ length out → AllPlayed
+  pub plays-all : length calls * leastSpace ≤ length out → AllPlayed s n calls b given b′
   plays-all fits =
       plays-all-left (each-left (sizesOf s n) (whole-few s n b whole) calls storable (viewRoom s n b) (whole-view s n b whole) (view-keys s n b) (length out) fits)

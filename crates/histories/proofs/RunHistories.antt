@@ -5,20 +5,20 @@
 -- equal and neither run answers another client's request for C with 0, then C is handed the same packets, byte for byte and in order, and each of its own calls
 -- gets the same answer. Assumes nothing.
 use mathlib.Core.Path.{_≡_}
-use mathlib.Core.Bool.{true, false}
+use mathlib.Core.Bool.{false}
 use mathlib.Core.List.{List, [], _++_}
 use Prim.Native.Nat.{ℕ}
 use Rattle.rules.specs.Room.{Key}
 use Rattle.rules.specs.History.{Event}
 use Rattle.rules.specs.Transcript.{fromEmpty}
 use Rattle.rules.specs.Record.{recordFor, packetsFor, answersFor, zeroForC}
-use Rattle.room.specs.Layout.{fitsRoom}
 use Rattle.room.specs.Store.{emptied}
 use Rattle.room_laws.proofs.EmptyLaws.{empty-whole}
 use Rattle.relay.specs.declared.play.Run.{Run}
 use Rattle.relay.specs.Play.{playing, Plays}
 use Rattle.histories.specs.History.{none, History}
 use Rattle.histories.specs.RunSeen.{runSeen}
+use Rattle.histories.specs.Runs.{RunFromEmpty}
 use Rattle.histories.proofs.Histories.{chain-runs}
 use Rattle.histories.proofs.IsolationInHistories.{isolation-in-histories}
 use Rattle.histories.proofs.RunIsChain.{run-behind}
@@ -36,14 +36,6 @@ history-then-run s n allowance stored b out given b′ out′ events h p =
       fits = h .fits;
       chain = rw (run-seen s n allowance stored b out given b′ out′ whole p) (run-behind s n allowance stored b₀ b out given b′ out′ events (h .chain) begun p);
     }
-
--- a run of stored calls on what the empty room's constructor leaves: its answer, the bytes of the room and the output at the end
-pub record RunFromEmpty (s n : ℕ) (stored : List ℕ) (given : Run) (b′ out′ : List ℕ) : Type 0 where
-  pub memory : List ℕ
-  pub allowance : ℕ
-  pub out : List ℕ
-  pub fits : fitsRoom s n memory ≡ true
-  pub plays : Plays s n (playing s n allowance stored (emptied s n memory) out) (emptied s n memory) out given b′ out′
 
 pub run-history : (s n : ℕ) (stored : List ℕ) (given : Run) (b′ out′ : List ℕ) → RunFromEmpty s n stored given b′ out′ → History s n (runSeen stored given out′) b′
 run-history s n stored given b′ out′ r =

@@ -22,14 +22,15 @@ use Rattle.room.specs.View.{viewRoom}
 use Rattle.room.specs.Whole.{roomWhole}
 use Rattle.room.specs.Store.{storeAll}
 use Rattle.room_laws.proofs.TablesLaws.{sizesOf}
-use Rattle.stored.specs.Stored.{storedBytes, storedAll, call, firstCall}
+use Rattle.stored.specs.Stored.{storedBytes}
 use Rattle.relay.specs.declared.play.Run as code
 use Rattle.relay.specs.Calls.{leastOutput}
-use Rattle.relay.specs.Play.{entryBytes, entriesBytes, Next, stops, plays, Run, goOn, run, changesAll, played, playing, Plays}
+use Rattle.relay.specs.Play.{entryBytes, Next, stops, plays, Run, goOn, run, changesAll, played, playing, Plays}
 use Rattle.relay.specs.Play as play
 use Rattle.relay.proofs.PlayLaws.{next-is, restOf, store-all-append}
 use Rattle.relay.proofs.RunCases.{stored-key}
 use Rattle.histories.specs.History.{Chain, none, next, callsOf}
+use Rattle.histories.specs.Runs.{InFront, runOn, runEvents, SameAsRun}
 use Rattle.histories.proofs.Histories.{step-right, chain-runs}
 use Rattle.histories.proofs.EverySequence.{KeysOf32, every-chain}
 
@@ -59,11 +60,6 @@ chain-leaves s n b es b′ (next {b₁ = b₁} {e = e} {events = events} step ch
 
 -- ---- the calls of a run
 
--- calls that stand at the front of stored bytes, one behind the other
-abbrev pub InFront : List ℕ → List Call → Type 0
-InFront stored [] = Unit {0}
-InFront stored (c ∷ calls) = (firstCall stored ≡ call c) × InFront (drop (length (storedBytes c)) stored) calls
-
 -- a run plays the calls that are stored, in order, and skips none
 pub run-in-front : (sizes : Sizes) (allowance : ℕ) (room : Room) (stored : List ℕ) (space : ℕ) → InFront stored (run sizes allowance room stored space .calls)
 unfolding run goOn
@@ -85,13 +81,6 @@ keys-in-front : (stored : List ℕ) (calls : List Call) → InFront stored calls
 keys-in-front stored [] f = tt
 keys-in-front stored (c ∷ calls) f = (stored-key stored c (f .0), keys-in-front (drop (length (storedBytes c)) stored) calls (f .1))
 
--- the run on the bytes of a room, and its events
-abbrev pub runOn : ℕ → ℕ → ℕ → List ℕ → List ℕ → List ℕ → Run
-runOn s n allowance stored b out = run (sizesOf s n) allowance (viewRoom s n b) stored (length out)
-
-abbrev pub runEvents : ℕ → ℕ → ℕ → List ℕ → List ℕ → List ℕ → List Event
-runEvents s n allowance stored b out = transcript (sizesOf s n) (viewRoom s n b) (runOn s n allowance stored b out .calls)
-
 -- ---- the theorem
 
 -- some output that is long enough
@@ -101,14 +90,6 @@ some-output = replicate leastOutput 0
 long-output : leastOutput ≤ length some-output
 unfolding some-output
 long-output = omega (arith, length-replicate {A = ℕ} leastOutput 0)
-
--- a run that answered `given` and left b′ and out′, and single calls from the same bytes that left `left`: the same events, the same bytes, and in the output
--- of the run what it writes for these events, counted in its answer
-pub record SameAsRun (s n allowance : ℕ) (stored b out : List ℕ) (given : code.Run) (b′ out′ : List ℕ) (events : List Event) (left : List ℕ) : Type 0 where
-  pub events-are : events ≡ runEvents s n allowance stored b out
-  pub leaves : left ≡ b′
-  pub writes : out′ ≡ entriesBytes events ++ drop (length (entriesBytes events)) out
-  pub answers : given ≡ code.the-variants.Stopped (runOn s n allowance stored b out .why) (length events) (length (storedAll (callsOf events))) (length (entriesBytes events))
 
 module _ (s n allowance : ℕ) (stored b out : List ℕ) (given : code.Run) (b′ out′ : List ℕ) (whole : roomWhole s n b ≡ true)
     (p : Plays s n (playing s n allowance stored b out) b out given b′ out′) where

@@ -30,9 +30,10 @@ use Rattle.relay.proofs.OutcomeLeaves.{made-written}
 use Rattle.relay.proofs.EntryLaws.{length-entry-head}
 use Rattle.histories.specs.History.{seen, Chain, none, next, callsOf}
 use Rattle.histories.specs.RunSeen.{callsFrom, callsIn, refusals, answerTold, answerIn, eventsIn, runSeen}
+use Rattle.histories.specs.Runs.{InFront, runOn, runEvents}
 use Rattle.histories.proofs.ReadBack.{tooLong, all-short, written-read}
 use Rattle.histories.proofs.Histories.{step-right}
-use Rattle.histories.proofs.RunIsChain.{InFront, run-in-front, runOn, runEvents, run-played, run-is-chain}
+use Rattle.histories.proofs.RunIsChain.{run-in-front, run-played, run-is-chain}
 
 -- ---- one head
 

@@ -11,7 +11,7 @@
 use mathlib.Core.Path.{_≡_, refl, sym, ap, ap₂, subst, _∙_}
 use mathlib.Core.Bool.{Bool, true, false, false≢true, cond}
 use mathlib.Core.List.{List, [], _∷_, _++_}
-use Prim.Native.Nat.{ℕ, zero, suc, _+_, _-_, _≤_, _<_}
+use Prim.Native.Nat.{ℕ, zero, suc, _-_, _≤_, _<_}
 use native.Mathlib.Omega.{arith}
 use lib.Dec.{eqb, leb}
 use lib.ListN.{length, drop, length-append, length-drop}
@@ -32,22 +32,10 @@ use Rattle.relay.specs.declared.play.Stop.{Stop}
 use Rattle.relay.specs.declared.play.Stop.the-variants.{End, NoCall, Allowance, Output}
 use Rattle.relay.specs.Play.{entryBytes, entriesBytes, Next, stops, plays, leastSpace, nextCall, next, Run, goOn, run, played, playing, Plays}
 use Rattle.relay.proofs.PlayLaws.{next-is, ended, firstThen, restOf}
-use Rattle.histories.proofs.RunIsChain.{InFront, run-in-front, runOn, run-played}
+use Rattle.histories.specs.Runs.{InFront, runOn, readBy, writtenFor, StoppedThere, CallNext, StopMeans}
+use Rattle.histories.proofs.RunIsChain.{run-in-front, run-played}
 
 -- ---- where a run stops
-
--- how many stored bytes the calls are, and how many are written for them
-abbrev pub readBy : List Call → ℕ
-readBy calls = length (storedAll calls)
-
-abbrev pub writtenFor : Sizes → Room → List Call → ℕ
-writtenFor sizes room calls = length (entriesBytes (transcript sizes room calls))
-
--- a run within its allowance and the stored bytes, and what comes next where it stopped
-pub record StoppedThere (sizes : Sizes) (allowance : ℕ) (room : Room) (stored : List ℕ) (space : ℕ) (r : Run) : Type 0 where
-  pub allowed : length (r .calls) ≤ allowance
-  pub there : readBy (r .calls) ≤ length stored
-  pub stopped : next (allowance - length (r .calls)) (drop (readBy (r .calls)) stored) (space - writtenFor sizes room (r .calls)) ≡ stops (r .why)
 
 module _ (sizes : Sizes) (room : Room) (stored : List ℕ) (space : ℕ) where
   at-once : (allowance : ℕ) (why : Stop) → next allowance stored space ≡ stops why → StoppedThere sizes allowance room stored space (ended why)
@@ -102,17 +90,12 @@ run-stopped sizes (suc more) room stored space =
 
     go : (x : Next) → next (suc more) stored space ≡ x
         → ((c : Call)
-          → StoppedThere sizes more (roomAfter sizes room (outcome room c)) (drop (length (storedBytes c)) stored) (space - length (entryBytes (event room c))) (later c))
+        → StoppedThere sizes more (roomAfter sizes room (outcome room c)) (drop (length (storedBytes c)) stored) (space - length (entryBytes (event room c))) (later c))
         → StoppedThere sizes (suc more) room stored space (goOn x later)
     go (stops why) e k = at-once sizes room stored space (suc more) why e
     go (plays c) e k = behind-call sizes room stored space more c (later c) (next-is (suc more) stored space c e .first) (k c)
 
 -- ---- what a stop says
-
--- some stored call is at the front
-pub record CallNext (stored : List ℕ) : Type 0 where
-  pub which : Call
-  pub first : firstCall stored ≡ call which
 
 -- the ground of a stop
 abbrev pub Ground : ℕ → List ℕ → ℕ → Stop → Type 0
@@ -147,13 +130,6 @@ next-ground allowance stored space why e = at-end (eqb (length stored) 0) refl e
     at-end false q e = at-allowance (eqb allowance 0) refl (eqb-false (length stored) 0 q) e
 
 -- ---- in the counts of the answer
-
--- a run with this allowance, these stored bytes and `space` bytes of output stopped for `why`, after `calls` calls, `read` stored bytes and `written` bytes
-pub record StopMeans (allowance : ℕ) (stored : List ℕ) (space : ℕ) (why : Stop) (calls read written : ℕ) : Type 0 where
-  pub all-read : why ≡ End → read ≡ length stored
-  pub no-call : why ≡ NoCall → (read < length stored) × (firstCall (drop read stored) ≡ none)
-  pub all-allowed : why ≡ Allowance → (read < length stored) × (calls ≡ allowance)
-  pub output-short : why ≡ Output → CallNext (drop read stored) × (space < written + leastSpace)
 
 pub run-stop-means : (sizes : Sizes) (allowance : ℕ) (room : Room) (stored : List ℕ) (space : ℕ)
     → let r = run sizes allowance room stored space in
@@ -234,7 +210,7 @@ module _ (sizes : Sizes) (allowance₁ allowance₂ : ℕ) (room : Room) (stored
   pub goes-on : InFront stored (firstRun .calls ++ secondRun .calls)
       × (transcript sizes room (firstRun .calls ++ secondRun .calls) ≡ transcript sizes room (firstRun .calls) ++ transcript sizes roomThen (secondRun .calls))
   goes-on = (
-      in-front-append stored (firstRun .calls) (secondRun .calls) (run-in-front sizes allowance₁ room stored space₁)
-      (run-in-front sizes allowance₂ roomThen storedThen space₂),
-      transcript-append sizes room (firstRun .calls) (secondRun .calls),
-    )
+    in-front-append stored (firstRun .calls) (secondRun .calls) (run-in-front sizes allowance₁ room stored space₁)
+        (run-in-front sizes allowance₂ roomThen storedThen space₂),
+    transcript-append sizes room (firstRun .calls) (secondRun .calls),
+  )

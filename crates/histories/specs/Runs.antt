@@ -1,0 +1,96 @@
+-- What is said of runs of stored calls: which calls they play, what they are next to the single calls, what a stop means, and when they play every call. The
+-- room is lent bytes, for s seats with n connection numbers each; a run is the contract of `play` on the bytes given and left.
+use mathlib.Core.Bool.{true}
+use mathlib.Core.List.{List, [], _∷_, _++_}
+use mathlib.Core.Path.{_≡_}
+use Prim.Native.Nat.{ℕ, _+_, _-_, _≤_, _<_}
+use lib.ListN.{length, drop}
+use Rattle.rules.specs.Room.{Sizes, Room}
+use Rattle.rules.specs.Call.{Call}
+use Rattle.rules.specs.History.{Event, transcript}
+use Rattle.room.specs.Layout.{fitsRoom}
+use Rattle.room.specs.View.{viewRoom}
+use Rattle.room.specs.Store.{emptied}
+use Rattle.stored.specs.Stored.{storedBytes, storedAll, Storable, none, call, firstCall}
+use Rattle.relay.specs.declared.play.Run as code
+use Rattle.relay.specs.declared.play.Stop.{Stop}
+use Rattle.relay.specs.declared.play.Stop.the-variants.{End, NoCall, Allowance, Output}
+use Rattle.relay.specs.Play.{entriesBytes, stops, leastSpace, next, Run, run, playing, Plays}
+use Rattle.histories.specs.History.{Chain, callsOf}
+
+-- ---- the calls of a run
+
+-- calls that stand at the front of stored bytes, one behind the other
+abbrev pub InFront : List ℕ → List Call → Type 0
+InFront stored [] = Unit {0}
+InFront stored (c ∷ calls) = (firstCall stored ≡ call c) × InFront (drop (length (storedBytes c)) stored) calls
+
+-- each of the calls can be stored
+abbrev pub AllStorable : List Call → Type 0
+AllStorable [] = Unit {0}
+AllStorable (c ∷ calls) = Storable c × AllStorable calls
+
+-- the run on the bytes of a room, and its events
+abbrev pub runOn : ℕ → ℕ → ℕ → List ℕ → List ℕ → List ℕ → Run
+runOn s n allowance stored b out = run (record { seats = s; numbers = n }) allowance (viewRoom s n b) stored (length out)
+
+abbrev pub runEvents : ℕ → ℕ → ℕ → List ℕ → List ℕ → List ℕ → List Event
+runEvents s n allowance stored b out = transcript (record { seats = s; numbers = n }) (viewRoom s n b) (runOn s n allowance stored b out .calls)
+
+-- how many stored bytes calls are, and how many are written for them
+abbrev pub readBy : List Call → ℕ
+readBy calls = length (storedAll calls)
+
+abbrev pub writtenFor : Sizes → Room → List Call → ℕ
+writtenFor sizes room calls = length (entriesBytes (transcript sizes room calls))
+
+-- ---- next to the single calls
+
+-- a run that answered `given` and left b′ and out′, and single calls from the same bytes that left `left`: the same events, the same bytes, and in the output
+-- of the run what it writes for these events, counted in its answer
+pub record SameAsRun (s n allowance : ℕ) (stored b out : List ℕ) (given : code.Run) (b′ out′ : List ℕ) (events : List Event) (left : List ℕ) : Type 0 where
+  pub events-are : events ≡ runEvents s n allowance stored b out
+  pub leaves : left ≡ b′
+  pub writes : out′ ≡ entriesBytes events ++ drop (length (entriesBytes events)) out
+  pub answers : given ≡ code.the-variants.Stopped (runOn s n allowance stored b out .why) (length events) (length (storedAll (callsOf events))) (length (entriesBytes events))
+
+-- a run of stored calls on what the empty room's constructor leaves: its answer, the bytes of the room and the output at the end
+pub record RunFromEmpty (s n : ℕ) (stored : List ℕ) (given : code.Run) (b′ out′ : List ℕ) : Type 0 where
+  pub memory : List ℕ
+  pub allowance : ℕ
+  pub out : List ℕ
+  pub fits : fitsRoom s n memory ≡ true
+  pub plays : Plays s n (playing s n allowance stored (emptied s n memory) out) (emptied s n memory) out given b′ out′
+
+-- ---- what a stop means
+
+-- a run within its allowance and the stored bytes, and what comes next where it stopped
+pub record StoppedThere (sizes : Sizes) (allowance : ℕ) (room : Room) (stored : List ℕ) (space : ℕ) (r : Run) : Type 0 where
+  pub allowed : length (r .calls) ≤ allowance
+  pub there : readBy (r .calls) ≤ length stored
+  pub stopped : next (allowance - length (r .calls)) (drop (readBy (r .calls)) stored) (space - writtenFor sizes room (r .calls)) ≡ stops (r .why)
+
+-- some stored call is at the front
+pub record CallNext (stored : List ℕ) : Type 0 where
+  pub which : Call
+  pub first : firstCall stored ≡ call which
+
+-- a run with this allowance, these stored bytes and `space` bytes of output stopped for `why`, after `calls` calls, `read` stored bytes and `written` bytes
+pub record StopMeans (allowance : ℕ) (stored : List ℕ) (space : ℕ) (why : Stop) (calls read written : ℕ) : Type 0 where
+  pub all-read : why ≡ End → read ≡ length stored
+  pub no-call : why ≡ NoCall → (read < length stored) × (firstCall (drop read stored) ≡ none)
+  pub all-allowed : why ≡ Allowance → (read < length stored) × (calls ≡ allowance)
+  pub output-short : why ≡ Output → CallNext (drop read stored) × (space < written + leastSpace)
+
+-- ---- when every call is played
+
+-- 2,052 bytes of the output are left before each call; `before` are the calls before it
+abbrev pub LeftForEach : Sizes → Room → List Call → ℕ → Type 0
+LeftForEach sizes room calls space =
+    (before : List Call) (c : Call) (behind : List Call) → calls ≡ before ++ (c ∷ behind) → writtenFor sizes room before + leastSpace ≤ space
+
+-- a run from b answered `given` and left b′: none of the stored calls is left, and the run is a chain of exactly these
+abbrev pub AllPlayed : ℕ → ℕ → List Call → List ℕ → code.Run → List ℕ → Type 0
+AllPlayed s n calls b given b′ =
+    let events = transcript (record { seats = s; numbers = n }) (viewRoom s n b) calls in
+    (given ≡ code.the-variants.Stopped End (length calls) (length (storedAll calls)) (length (entriesBytes events))) × Chain s n b events b′
