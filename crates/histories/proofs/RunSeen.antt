@@ -118,7 +118,7 @@ unfolding callsIn callsFrom
 calls-read stored [] f = refl
 calls-read stored (c ∷ calls) f = rw (f .0) (ap (λ (l : List Call). c ∷ l) (calls-read (drop (length (storedBytes c)) stored) calls (f .1)))
 
-calls-of : (sizes : Sizes) (room : Room) (calls : List Call) → callsOf (transcript sizes room calls) ≡ calls
+pub calls-of : (sizes : Sizes) (room : Room) (calls : List Call) → callsOf (transcript sizes room calls) ≡ calls
 unfolding callsOf transcript event
 calls-of sizes room [] = refl
 calls-of sizes room (c ∷ calls) = ap (λ (l : List Call). c ∷ l) (calls-of sizes (roomAfter sizes room (outcome room c)) calls)

@@ -7,7 +7,8 @@
 --   - stopped for the output: a stored call is next, and less than 2,052 bytes of the output are left.
 --
 -- And a second run, on the bytes that are left and the room that the first returned, goes on where the first stopped, whatever its allowance and output: the
--- calls of both are the stored ones, in order, with none skipped, and their events are one transcript (`goes-on`). Assumes nothing.
+-- calls of both are the stored ones, in order, with none skipped, and their events are one transcript (`goes-on`). So two runs of the contract, the
+-- second on what the first left, are one chain of the single calls (`plays-go-on`). Assumes nothing.
 use mathlib.Core.Path.{_≡_, refl, sym, ap, ap₂, subst, _∙_}
 use mathlib.Core.Bool.{Bool, true, false, false≢true, cond}
 use mathlib.Core.List.{List, [], _∷_, _++_}
@@ -32,8 +33,11 @@ use Rattle.relay.specs.declared.play.Stop.{Stop}
 use Rattle.relay.specs.declared.play.Stop.the-variants.{End, NoCall, Allowance, Output}
 use Rattle.relay.specs.Play.{entryBytes, entriesBytes, Next, stops, plays, leastSpace, nextCall, next, Run, goOn, run, played, playing, Plays}
 use Rattle.relay.proofs.PlayLaws.{next-is, ended, firstThen, restOf}
-use Rattle.histories.specs.Runs.{InFront, runOn, readBy, writtenFor, StoppedThere, CallNext, StopMeans}
-use Rattle.histories.proofs.RunIsChain.{run-in-front, run-played}
+use Rattle.histories.specs.History.{Chain}
+use Rattle.histories.specs.Runs.{InFront, runOn, runEvents, readBy, writtenFor, StoppedThere, CallNext, StopMeans}
+use Rattle.histories.proofs.Histories.{chain-runs}
+use Rattle.histories.proofs.RunIsChain.{chain-append, run-in-front, run-played, run-is-chain}
+use Rattle.histories.proofs.RunSeen.{calls-of}
 
 -- ---- where a run stops
 
@@ -214,3 +218,30 @@ module _ (sizes : Sizes) (allowance₁ allowance₂ : ℕ) (room : Room) (stored
         (run-in-front sizes allowance₂ roomThen storedThen space₂),
     transcript-append sizes room (firstRun .calls) (secondRun .calls),
   )
+
+-- of the contract, from whole bytes: the second run is on the room that the first left and on the stored bytes behind those that its answer counts
+pub plays-go-on : (s n allowance₁ allowance₂ : ℕ) (stored b out₁ out₂ : List ℕ) (given₁ given₂ : code.Run) (b₁ out₁′ b₂ out₂′ : List ℕ) → roomWhole s n b ≡ true
+    → Plays s n (playing s n allowance₁ stored b out₁) b out₁ given₁ b₁ out₁′ → (why : Stop) (calls read written : ℕ)
+    → given₁ ≡ code.the-variants.Stopped why calls read written
+    → Plays s n (playing s n allowance₂ (drop read stored) b₁ out₂) b₁ out₂ given₂ b₂ out₂′
+    → let both = runOn s n allowance₁ stored b out₁ .calls ++ runOn s n allowance₂ (drop read stored) b₁ out₂ .calls in
+    InFront stored both × Chain s n b (transcript (sizesOf s n) (viewRoom s n b) both) b₂
+unfolding played
+plays-go-on s n allowance₁ allowance₂ stored b out₁ out₂ given₁ given₂ b₁ out₁′ b₂ out₂′ whole p₁ why calls read written e p₂ =
+    let sizes = sizesOf s n in
+    let room = viewRoom s n b in
+    let r = runOn s n allowance₁ stored b out₁ in
+    let later = runOn s n allowance₂ (drop read stored) b₁ out₂ .calls in
+    let same : code.the-variants.Stopped (r .why) (length (r .calls)) (readBy (r .calls)) (writtenFor sizes room (r .calls))
+    ≡ code.the-variants.Stopped why calls read written = sym (run-played s n allowance₁ stored b out₁ given₁ b₁ out₁′ whole p₁ .answers) ∙ e in
+    let x : readBy (r .calls) ≡ read = cc in
+    let chain = run-is-chain s n allowance₁ stored b out₁ given₁ b₁ out₁′ whole p₁ in
+    let events = runEvents s n allowance₁ stored b out₁ in
+    let c = chain-runs s n b events b₁ chain whole in
+    let room-is : viewRoom s n b₁ ≡ roomAfterAll sizes room (r .calls) = c .room-is ∙ ap (roomAfterAll sizes room) (calls-of sizes room (r .calls)) in
+    let joined = chain-append chain (run-is-chain s n allowance₂ (drop read stored) b₁ out₂ given₂ b₂ out₂′ (c .whole) p₂) in
+    let events-are = ap (λ (y : Room). events ++ transcript sizes y later) room-is ∙ sym (transcript-append sizes room (r .calls) later) in (
+      in-front-append stored (r .calls) later (run-in-front sizes allowance₁ room stored (length out₁))
+          (subst (λ (k : ℕ). InFront (drop k stored) later) (sym x) (run-in-front sizes allowance₂ (viewRoom s n b₁) (drop read stored) (length out₂))),
+      subst (λ (l : List Event). Chain s n b l b₂) events-are joined,
+    )
