@@ -11,6 +11,7 @@ pub mod DropCases
 pub mod RequestCases
 pub mod PacketCases
 pub mod CallsLaws
+pub mod LentParts
 pub mod EntryLaws
 pub mod PlayLaws
 pub mod MakeCases

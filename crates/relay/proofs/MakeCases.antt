@@ -1,9 +1,8 @@
 -- A stored call, made: what was read at the front of stored calls tells the call, and its step is the call's. Assumes nothing.
 use mathlib.Core.Path.{_≡_, refl, sym, ap, subst, _∙_}
-use mathlib.Core.Bool.{true, false, false≢true}
+use mathlib.Core.Bool.{false≢true}
 use mathlib.Core.List.{List, [], _++_}
 use Prim.Native.Nat.{ℕ, _+_, _-_, _≤_}
-use native.Mathlib.Nat.{add-sub-cancel-left}
 use native.Mathlib.Omega.{arith}
 use lib.ListN.{length, getD, take, drop}
 use lib.Seq.{take-all}
@@ -19,7 +18,7 @@ use Rattle.stored.specs.declared.StoredCall.{StoredCall}
 use Rattle.stored.specs.declared.StoredCall.the-variants.{Arrive, Leave, Packet}
 use Rattle.stored.specs.declared.StoredRead.the-variants as read
 use Rattle.stored.specs.Stored.{storedBytes, First, none, call, firstCall, shownCall, shownFirst}
-use Rattle.stored.proofs.StoredLaws.{Formed, arrives, leaves, sends, sizeIn, givenIn, Fronts, first-is}
+use Rattle.stored.proofs.StoredLaws.{Formed, arrives, leaves, sends, sizeIn, givenIn, Fronts, first-is, same-call}
 use Rattle.relay.specs.Calls.{Leaves}
 use Rattle.relay.specs.PlaySteps.{Reads, Makes}
 
@@ -106,9 +105,6 @@ module _ (stored : List ℕ) where
           }
 
 -- ---- the step that was taken
-
-same-call : (c d : Call) → call c ≡ call d → c ≡ d
-same-call c d e = cc
 
 module _ (s n : ℕ) (stored b out : List ℕ) (given : Answer) (b′ out′ : List ℕ) where
   pub makes : (c : Call) → firstCall stored ≡ call c → Leaves s n (outcome (viewRoom s n b) c) b out given b′ out′ → Makes s n stored b out given b′ out′

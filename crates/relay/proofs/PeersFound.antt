@@ -5,12 +5,11 @@ use native.Mathlib.Nat.{add-sub-cancel-left}
 use native.Mathlib.Omega.{arith}
 use Rattle.packet.specs.declared.parts.ConnectionNumber.{ConnectionNumber}
 use Rattle.rules.specs.Room.{firstNumber, numberOfPlace, Peer, alone, joined}
-use Rattle.rules.specs.Outcome.{peer}
 use Rattle.room.specs.declared.layout.Seat as seats
 use Rattle.relay.specs.declared.peer.Peer as code
 use Rattle.relay.specs.Peers.{peerFound}
 use mathlib.Core.Path.{_≡_, refl, sym, ap, _∙_}
-use Rattle.rules.specs.Room.{firstNumber, numberOfPlace, at, Peer, alone, joined}
+use Rattle.rules.specs.Room.{firstNumber, numberOfPlace, Peer, alone, joined}
 use Rattle.relay.specs.Peers.{peerFound, peerOf, PeerRight}
 
 pub peer-back : (p : Peer) → peerOf (peerFound p) ≡ p

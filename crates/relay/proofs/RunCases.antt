@@ -1,7 +1,7 @@
 -- A run in the middle: what is left to play, with the counts so far. A call and the rest behind it are one run. Assumes nothing.
 use mathlib.Core.Path.{_≡_, refl, sym, ap, ap₂, subst, _∙_}
 use mathlib.Core.Bool.{true}
-use mathlib.Core.List.{List, [], _∷_, _++_}
+use mathlib.Core.List.{List, _++_}
 use Prim.Native.Nat.{ℕ, suc, _+_, _-_, _≤_}
 use native.Mathlib.Nat.{zero-add, add-zero}
 use native.Mathlib.Omega.{arith}
@@ -20,9 +20,9 @@ use Rattle.stored.proofs.StoredLaws.{Formed, arrives, leaves, sends, givenIn, f
 use Rattle.relay.specs.declared.play.Run as code
 use Rattle.relay.specs.declared.play.Stop.{Stop}
 use Rattle.relay.specs.Output.{appended}
-use Rattle.relay.specs.Play.{entryBytes, entriesBytes, stops, plays, next, Run, run, changesAll, played, Plays}
+use Rattle.relay.specs.Play.{entryBytes, entriesBytes, plays, next, Run, run, changesAll, played, Plays}
 use Rattle.relay.proofs.AppendLaws.{length-appended, appended-more, appended-front, appended-none}
-use Rattle.relay.proofs.PlayLaws.{ended, firstThen, restOf, run-stops, run-plays, store-all-append, next-is}
+use Rattle.relay.proofs.PlayLaws.{ended, firstThen, run-plays, store-all-append, next-is}
 
 -- ---- what is left to play
 

@@ -1,14 +1,13 @@
 -- One turn of a run: the stored calls and the output from where the last turn ended, lent and back. A turn that stops ends the run; after one that
 -- played a call the rest is to be played. Assumes nothing.
-use mathlib.Core.Path.{_≡_, refl, sym, ap, ap₂, subst, _∙_}
-use mathlib.Core.Bool.{true, false, false≢true}
-use mathlib.Core.List.{List, [], _++_, append-nil}
+use mathlib.Core.Path.{_≡_, sym, ap, ap₂, subst, _∙_}
+use mathlib.Core.Bool.{true, false≢true}
+use mathlib.Core.List.{List, _++_}
 use Prim.Native.Nat.{ℕ, _+_, _-_, _≤_}
 use native.Mathlib.Nat.{sub-zero}
 use native.Mathlib.Omega.{arith}
-use lib.ListN.{length, take, drop, length-drop, take-append-drop, drop-of-length-le}
-use lib.Seq.{take-all, drop-drop}
-use Rattle.rules.specs.Call.{Call}
+use lib.ListN.{length, take, drop, take-append-drop}
+use lib.Seq.{drop-drop}
 use Rattle.rules.specs.Outcome.{outcome}
 use Rattle.room.specs.View.{viewRoom}
 use Rattle.room.specs.Whole.{roomWhole}
@@ -23,26 +22,8 @@ use Rattle.relay.specs.Output.{appended}
 use Rattle.relay.specs.Play.{Next, stops, plays, next, Run, run}
 use Rattle.relay.specs.PlaySteps.{Takes, stopped, played}
 use Rattle.relay.proofs.PlayLaws.{ended, run-stops, next-is}
+use Rattle.relay.proofs.LentParts.{from, from-is, length-from, back, back-is}
 use Rattle.relay.proofs.RunCases.{Rests, left, rests-stopped, stepped-whole, stepped-length, rests-first}
-
--- from a place on, as it is lent
-abbrev pub from : ℕ → List ℕ → List ℕ
-from at l = take (length l - at) (drop at l)
-
-pub from-is : (at : ℕ) (l : List ℕ) → from at l ≡ drop at l
-from-is at l = take-all (length l - at) (drop at l) (let d = length-drop at l in omega arith)
-
-pub length-from : (at : ℕ) (l : List ℕ) → length (from at l) ≡ length l - at
-length-from at l = ap length (from-is at l) ∙ length-drop at l
-
--- and as it comes back
-abbrev pub back : ℕ → List ℕ → List ℕ → List ℕ
-back at l new = take at l ++ (new ++ drop (length l - at) (drop at l))
-
-back-is : (at : ℕ) (l new : List ℕ) → back at l new ≡ take at l ++ new
-back-is at l new =
-    ap (λ (x : List ℕ). take at l ++ (new ++ x)) (drop-of-length-le (drop at l) {i = length l - at} (let d = length-drop at l in omega arith))
-    ∙ ap (λ (x : List ℕ). take at l ++ x) (append-nil new)
 
 back-same : (at : ℕ) (l : List ℕ) → back at l (from at l) ≡ l
 back-same at l = back-is at l (from at l) ∙ ap (λ (x : List ℕ). take at l ++ x) (from-is at l) ∙ take-append-drop at l

@@ -1,6 +1,6 @@
 -- What a call's answer counts lies within the output that it was lent, and what a stored call takes lies within the bytes that it was read from. Assumes
 -- nothing.
-use mathlib.Core.Path.{_≡_, refl, ap, subst, _∙_}
+use mathlib.Core.Path.{_≡_, refl, ap, _∙_}
 use mathlib.Core.Bool.{Bool, true, false, cond}
 use mathlib.Core.List.{List}
 use Prim.Native.Nat.{ℕ, _≤_}
@@ -10,7 +10,7 @@ use lib.ListN.{length, drop, length-append}
 use Rattle.refusal.specs.declared.Refusal.the-variants.{OutputTooShort, RoomNotWhole}
 use Rattle.rules.specs.Call.{Call, Answer}
 use Rattle.rules.specs.Outcome.{refuse, sentBytes, outcome}
-use Rattle.rules.proofs.RefusedOrAccepted.{RefusedOrAccepted, refusal, acceptance, outcome-made}
+use Rattle.rules.proofs.RefusedOrAccepted.{RefusedOrAccepted, refusal, outcome-made}
 use Rattle.room.specs.View.{viewRoom}
 use Rattle.room.specs.Whole.{roomWhole}
 use Rattle.relay.specs.Calls.{Leaves, leastOutput, tested, withOutput, written}

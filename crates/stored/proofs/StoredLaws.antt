@@ -25,7 +25,7 @@ passed : (t : Bool) (x : First) (c : Call) → cond t x none ≡ call c → (t �
 passed true x c e = (refl, e)
 passed false x c e = let z : none ≡ call c = e in (cc, cc)
 
-same-call : (c d : Call) → call c ≡ call d → c ≡ d
+pub same-call : (c d : Call) → call c ≡ call d → c ≡ d
 same-call c d e = cc
 
 pub formed-is : (code seat : ℕ) (given : List ℕ) (c : Call) → formed code seat given ≡ call c → Formed code seat given c

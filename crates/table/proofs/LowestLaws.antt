@@ -1,6 +1,6 @@
 -- The lowest place that is not listed, by marks.
 use mathlib.Core.Path.{_≡_, refl, sym, _∙_}
-use mathlib.Core.Bool.{Bool, true, false, _||_, not, cond}
+use mathlib.Core.Bool.{Bool, true, false, _||_, cond}
 use Prim.Native.Nat.{ℕ, suc, _+_, _-_, _<_}
 use native.Mathlib.Numerals.{add-one}
 use native.Mathlib.Omega.{arith}
@@ -10,7 +10,7 @@ use lib.Seq.{take-suc, getD-set-same, getD-set-other}
 use lib.Dec.{eqb}
 use borrow.Author.Tests.{eqb-true, eqb-false}
 use Rattle.table.specs.Bytes.{member}
-use Rattle.table.specs.Table.{listed, lowest}
+use Rattle.table.specs.Table.{lowest}
 use Rattle.table.specs.Marks.{Marked}
 use Rattle.table.proofs.Places.{or-swap}
 

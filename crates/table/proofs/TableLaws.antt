@@ -1,6 +1,6 @@
 -- What the stores do to the view, and that what is whole stays whole.
 use mathlib.Core.Path.{_≡_, refl, sym, ap, _∙_}
-use mathlib.Core.Bool.{Bool, true, false, _&&_, not, or-true}
+use mathlib.Core.Bool.{Bool, true, false, _&&_, or-true}
 use Prim.Native.Nat.{ℕ, suc, _+_, _*_, _-_, _≤_, _<_}
 use native.Mathlib.Numerals.{add-one}
 use native.Mathlib.Omega.{arith}
@@ -11,7 +11,7 @@ use lib.Dec.{eqb, ltb}
 use borrow.Author.Tests.{eq-eqb, ne-eqb, lt-ltb}
 use Rattle.table.specs.Bytes.{splice, keyBefore, member, indexOf, insertAt, removeAt}
 use Rattle.table.specs.Table.{Table, count, order, records, listed, recordAt, keyAt, rising, risingAfter, tableWhole, position, placeOf, entered, closed, put, unlisted, freed, view}
-use Rattle.table.proofs.KeyOrder.{no, clash, key-before-total, rising-apart, rising-below, rising-put, rising-out}
+use Rattle.table.proofs.KeyOrder.{clash, key-before-total, rising-apart, rising-below, rising-put, rising-out}
 use Rattle.table.proofs.Shift.{length-in, take-more-in, length-out, take-less-out}
 use Rattle.table.proofs.Listed.{listed-is, length-order, length-listed, row-fits, whole-count, whole-rising, whole-is, length-key, place-le}
 use Rattle.table.proofs.Distinct.{out-gone, rising-distinct}

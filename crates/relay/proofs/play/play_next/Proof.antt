@@ -1,6 +1,6 @@
 -- `play::play_next` meets its contract: the grounds to stop in their order, then the call and its head. Assumes nothing.
 use borrow.Author.Needs.{needs}
-use mathlib.Core.Path.{refl, sym, ap, ap₂, _∙_}
+use mathlib.Core.Path.{refl, sym, ap₂, _∙_}
 use Prim.Native.Nat.{_≤_}
 use native.Mathlib.Omega.{arith}
 use lib.ListN.{length}
@@ -12,8 +12,9 @@ use Rattle.relay.specs.Calls.{answerOf}
 use Rattle.relay.specs.Play.{entryBytes}
 use Rattle.relay.specs.PlaySteps.{stopped, played}
 use Rattle.relay.proofs.PlayLaws.{next-end, next-allowance, next-no-call, next-output, next-plays}
+use Rattle.relay.proofs.LentParts.{length-from}
 use Rattle.relay.proofs.MakeCases.{call-read, none-read}
-use Rattle.relay.proofs.NextCases.{length-behind, length-back, entry-fits, length-entry, entry-written}
+use Rattle.relay.proofs.NextCases.{length-back, entry-fits, length-entry, entry-written}
 use Rattle.relay.proofs.play.play_next.Statement.{statement}
 use Rattle.relay.proofs.play.play_next.Tie as tie
 
@@ -60,7 +61,7 @@ part-make-end c = search needs
 make-requires : tie.Need-make-requires
 make-requires c κs =
     let s = c .before .before .before .before .before .before .before .before .before .before .before .before in
-    let l = length-behind (s .args .out .now) in
+    let l = length-from 4 (s .args .out .now) in
     (s .pre, record { size = _; is = sym (c .before .before .before .before .call .given .1) ∙ c .before .before .before .before .before .before .read .ensures }, omega arith)
 
 write-requires : tie.Need-write-requires

@@ -1,7 +1,7 @@
 -- `order::lists` meets its contract. The invariant: the place is listed if it is among those passed, or among those to come. Assumes nothing.
 use borrow.Author.Needs.{needs}
 use mathlib.Core.Path.{_≡_, refl, sym, ap, _∙_}
-use mathlib.Core.Bool.{Bool, true, false, _||_}
+use mathlib.Core.Bool.{Bool, _||_, or-true, or-false}
 use mathlib.Core.Logic.{⊎-elim}
 use Prim.Native.Nat.{_+_, _-_, _≤_, _<_}
 use native.Mathlib.Omega.{arith}
@@ -11,14 +11,6 @@ use Rattle.table.specs.Table.{listed}
 use Rattle.table.proofs.Listed.{listed-few, at-listed, member-here, member-next, member-end}
 use Rattle.table.proofs.order.lists.Statement.{statement}
 use Rattle.table.proofs.order.lists.Tie as tie
-
-or-true : (t : Bool) → (t || true) ≡ true
-or-true true = refl
-or-true false = refl
-
-or-false : (t : Bool) → (t || false) ≡ t
-or-false true = refl
-or-false false = refl
 
 abbrev Inv-loop : tie.InvT-loop
 Inv-loop table places place count used₀ i₀ used i =

@@ -1,6 +1,6 @@
 -- `records::same_key` meets its contract. The invariant: the keys are the same if the bytes passed are, and those to come. Assumes nothing.
 use mathlib.Core.Path.{_≡_, refl, sym, ap, _∙_}
-use mathlib.Core.Bool.{Bool, true, false, _&&_}
+use mathlib.Core.Bool.{Bool, _&&_, and-true, and-false}
 use mathlib.Core.Logic.{⊎-elim}
 use Prim.Native.Nat.{_+_, _≤_, _-_}
 use native.Mathlib.Omega.{arith}
@@ -9,14 +9,6 @@ use Rattle.key.specs.Keys.{sameKey}
 use Rattle.key.proofs.Same.{same-differ, same-agree, same-end}
 use Rattle.table.proofs.records.same_key.Statement.{statement}
 use Rattle.table.proofs.records.same_key.Tie as tie
-
-and-false : (t : Bool) → (t && false) ≡ false
-and-false true = refl
-and-false false = refl
-
-and-true : (t : Bool) → (t && true) ≡ t
-and-true true = refl
-and-true false = refl
 
 abbrev Inv-loop : tie.InvT-loop
 Inv-loop a b same₀ i₀ same i = (i ≤ length a) × (length a ≡ length b) × (sameKey a b ≡ (same && sameKey (drop i a) (drop i b)))
