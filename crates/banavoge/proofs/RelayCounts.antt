@@ -3,9 +3,8 @@ use mathlib.Core.Path.{_≡_, refl, subst}
 use mathlib.Core.Bool.{Bool, true, false, cond}
 use mathlib.Core.List.{List}
 use Prim.Native.Nat.{ℕ, _≤_}
-use lib.Dec.{leb}
 use lib.ListN.{length}
-use Rattle.refusal.specs.declared.Refusal.the-variants.{OutputTooShort, RoomNotWhole}
+use Rattle.refusal.specs.declared.Refusal.the-variants.{RoomNotWhole}
 use Rattle.rules.specs.Call.{Call, Answer}
 use Rattle.rules.specs.Outcome.{Outcome, refuse, accept, sentBytes, outcome}
 use Rattle.rules.proofs.RefusedOrAccepted.{RefusedOrAccepted, refusal, acceptance, outcome-made}
@@ -14,7 +13,8 @@ use Rattle.room.specs.View.{viewRoom}
 use Rattle.room.specs.Whole.{roomWhole}
 use Rattle.room_laws.proofs.OutcomeLaws.{outcome-within}
 use Rattle.relay.specs.declared.answer.Answer as code
-use Rattle.relay.specs.Calls.{answerOf, Leaves, leastOutput, tested, withOutput}
+use Rattle.relay.specs.Calls.{answerOf, Leaves, tested, withOutput}
+use Rattle.relay.proofs.CallsLaws.{by-length}
 use Rattle.banavoge.specs.RelayCalls.{CallCounted}
 
 -- an answer counts the bytes sent
@@ -34,11 +34,7 @@ module _ (b : List ℕ) (call : Call) where
 
   with-counted : (out : List ℕ) → CallCounted (withOutput 40 32 b out call .answer)
   unfolding withOutput refuse CallCounted
-  with-counted out = go (leb leastOutput (length out))
-    where
-      go : (t : Bool) → CallCounted (cond t (tested 40 32 b call) (refuse OutputTooShort) .answer)
-      go true = tested-counted
-      go false = tt
+  with-counted out = by-length (λ o. CallCounted (o .answer)) (length out) call (tested 40 32 b call) tested-counted tt
 
   pub call-counted : (out : List ℕ) (given : Answer) (b′ out′ : List ℕ) → Leaves 40 32 (withOutput 40 32 b out call) b out given b′ out′ → CallCounted given
   call-counted out given b′ out′ w = rw (w .answers) (with-counted out)

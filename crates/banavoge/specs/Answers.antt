@@ -1,4 +1,5 @@
 -- Answers as one number: 0 or more is an answer, below 0 it is minus document 01's refusal number.
+use mathlib.Core.Path.{_≡_}
 use Prim.Native.Nat.{_≤_}
 use lib.IntN.{ℤ, pos, negℤ}
 use Rattle.refusal.specs.declared.Refusal.{Refusal}
@@ -17,3 +18,9 @@ writtenCode (Refused why) = refusalCode why
 unfoldable pub Counted : Written → Type 0
 Counted (Bytes count) = count ≤ 2032
 Counted (Refused why) = Unit {0}
+
+-- a relation between a call and its answer, where the host is told the answer as `code` has it: some answer stands in the relation, and is told so
+pub record ToldAs {A B : Type 0} (code : A → B) (relation : A → Type 0) (told : B) : Type 0 where
+  pub given : A
+  pub relates : relation given
+  pub codes : told ≡ code given

@@ -1,14 +1,11 @@
--- What the exported run of stored calls answers and tells, and what it leaves in the host's memory and output. The run, the room and the output are those
--- of `relay` (`playing`, `Plays`), for document 01's 40 seats and 32 numbers; here the answer becomes one number and three counts.
-use mathlib.Core.List.{List}
-use mathlib.Core.Path.{_≡_}
+-- What the exported run of stored calls answers and tells. The relation is that of `relay` (`Plays`), for document 01's 40 seats and 32 numbers; here the
+-- answer becomes one number and three counts.
 use Prim.Native.Nat.{ℕ}
 use lib.IntN.{ℤ, pos}
 use Rattle.relay.specs.declared.play.Run.{Run}
 use Rattle.relay.specs.declared.play.Run.the-variants.{Stopped, Refused}
 use Rattle.relay.specs.declared.play.Stop.{Stop}
 use Rattle.relay.specs.declared.play.Stop.the-variants.{End, NoCall, Allowance, Output}
-use Rattle.relay.specs.Play.{playing, Plays}
 use Rattle.banavoge.specs.Answers.{refusalCode}
 
 -- why it stopped
@@ -37,8 +34,13 @@ unfoldable pub runCounts : Run → Counts → Counts
 runCounts (Stopped why played read written) before = counts played read written
 runCounts (Refused why) before = before
 
-pub record PlaysIn (allowance : ℕ) (stored room out : List ℕ) (before : Counts) (answer : ℤ) (left output : List ℕ) (told : Counts) : Type 0 where
-  pub given : Run
-  pub plays : Plays 40 32 (playing 40 32 allowance stored room out) room out given left output
-  pub codes : answer ≡ runCode given
-  pub tells : told ≡ runCounts given before
+-- all that the host is told of a run
+pub record Telling : Type 0 where
+  pub answer : ℤ
+  pub counts : Counts
+
+abbrev pub telling : ℤ → ℕ → ℕ → ℕ → Telling
+telling answer played read written = record { answer = answer; counts = counts played read written }
+
+unfoldable pub runTold : Counts → Run → Telling
+runTold before run = record { answer = runCode run; counts = runCounts run before }

@@ -4,11 +4,11 @@
 // whatever the `&mut` parameters refer to is as before, but for a nearest list begun with a bad size. Memory stays the host's; two parameters of one
 // call must not overlap.
 mod answer;
-mod keys;
-mod nearest_lists;
-mod nodes;
-mod readers;
-mod relay_calls;
-mod rooms;
-mod runs;
-mod writers;
+pub mod keys;
+pub mod nearest_lists;
+pub mod nodes;
+pub mod readers;
+pub mod relay_calls;
+pub mod rooms;
+pub mod runs;
+pub mod writers;

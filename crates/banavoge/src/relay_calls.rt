@@ -2,8 +2,9 @@
 //
 // Every call tests the room in full before it uses it. A refused call leaves every byte of the room and of the output.
 ghost use mathlib.Core.Path.{_≡_};
-ghost use Rattle.relay.specs.Calls.{answerOf};
-ghost use Rattle.banavoge.specs.RelayCalls.{seatCode, countCode, CallCounted, ArrivesIn, LeavesRoom, SendsIn};
+ghost use Rattle.relay.specs.Calls.{answerOf, Arrives, Departs, Sends};
+ghost use Rattle.banavoge.specs.Answers.{ToldAs};
+ghost use Rattle.banavoge.specs.RelayCalls.{seatCode, countCode, CallCounted};
 use crate::answer;
 use key::Key;
 use relay::Answer;
@@ -34,7 +35,7 @@ fn count_of(given: Answer) -> i32
 // A key arrives: its seat, or minus 11, 2 or 1.
 #[no_mangle]
 pub extern "C" fn banavoge_arrive(room: &mut [u8], key: &[u8; 32]) -> i32
-    ensures { λ r. ⌜ ArrivesIn (now (key .entry)) (now (room .entry)) r (now (room .exit)) ⌝ }
+    ensures { λ r. ⌜ ToldAs seatCode (Arrives 40 32 (now (key .entry)) (now (room .entry)) (now (room .exit))) r ⌝ }
 {
     let given = calls::arrive(room, Key(*key));
     seat_of(given)
@@ -43,7 +44,7 @@ pub extern "C" fn banavoge_arrive(room: &mut [u8], key: &[u8; 32]) -> i32
 // The client in a seat leaves: the byte count of what is sent, or minus 10, 11 or 3.
 #[no_mangle]
 pub extern "C" fn banavoge_leave(room: &mut [u8], seat: u8, out: &mut [u8]) -> i32
-    ensures { λ r. ⌜ LeavesRoom seat (now (room .entry)) (now (out .entry)) r (now (room .exit)) (now (out .exit)) ⌝ }
+    ensures { λ r. ⌜ ToldAs countCode (Departs 40 32 seat (now (room .entry)) (now (out .entry)) (now (room .exit)) (now (out .exit))) r ⌝ }
 {
     let given = calls::leave(room, Seat(seat), out);
     count_of(given)
@@ -52,7 +53,7 @@ pub extern "C" fn banavoge_leave(room: &mut [u8], seat: u8, out: &mut [u8]) -> i
 // The client in a seat sends a packet: the byte count of what is sent, or minus 10, 11 or 3 to 9.
 #[no_mangle]
 pub extern "C" fn banavoge_packet(room: &mut [u8], seat: u8, packet: &[u8], out: &mut [u8]) -> i32
-    ensures { λ r. ⌜ SendsIn seat (now (packet .entry)) (now (room .entry)) (now (out .entry)) r (now (room .exit)) (now (out .exit)) ⌝ }
+    ensures { λ r. ⌜ ToldAs countCode (Sends 40 32 seat (now (packet .entry)) (now (room .entry)) (now (out .entry)) (now (room .exit)) (now (out .exit))) r ⌝ }
 {
     let given = calls::packet(room, Seat(seat), packet, out);
     count_of(given)

@@ -1,7 +1,10 @@
 // The room in the host's memory: its size, the empty room, and the test. Document 01's section "The room"; docs/ARCHITECTURE.md draws the memory.
 ghost use mathlib.Core.Path.{_≡_};
 ghost use Rattle.room.specs.Layout.{roomBytes};
-ghost use Rattle.banavoge.specs.Rooms.{EmptiesRoom, roomCode};
+ghost use Rattle.refusal.specs.declared.Refusal.the-variants.{OutputTooShort};
+ghost use Rattle.room.specs.Store.{MakesEmpty};
+ghost use Rattle.banavoge.specs.Answers.{ToldAs};
+ghost use Rattle.banavoge.specs.Rooms.{doneOr, roomCode};
 use crate::answer;
 use refusal::Refusal;
 use room::Room;
@@ -18,7 +21,7 @@ pub extern "C" fn banavoge_room_bytes() -> usize
 // Makes the memory the empty room: 0, or minus 10 for memory too short, and then nothing changes.
 #[no_mangle]
 pub extern "C" fn banavoge_room_empty(room: &mut [u8]) -> i32
-    ensures { λ r. ⌜ EmptiesRoom (now (room .entry)) r (now (room .exit)) ⌝ }
+    ensures { λ r. ⌜ ToldAs (doneOr OutputTooShort) (MakesEmpty 40 32 (now (room .entry)) (now (room .exit))) r ⌝ }
 {
     let made = whole::make_empty(room, Room::SEATS, Room::NUMBERS);
     answer::done_or(Refusal::OutputTooShort, made)

@@ -1,7 +1,9 @@
 // A run of stored calls on a room in the host's memory: the room is tested once, and the calls are played one after the other.
 ghost use mathlib.Core.Path.{_≡_};
 ghost use lib.IntN.{pos};
-ghost use Rattle.banavoge.specs.Runs.{stopNumber, counts, PlaysIn};
+ghost use Rattle.relay.specs.Play.{Plays};
+ghost use Rattle.banavoge.specs.Answers.{ToldAs};
+ghost use Rattle.banavoge.specs.Runs.{stopNumber, counts, telling, runTold};
 use crate::answer;
 use relay::play;
 use relay::play::Run;
@@ -30,7 +32,7 @@ pub extern "C" fn banavoge_play(
     read: &mut usize,
     written: &mut usize,
 ) -> i32
-    ensures { λ r. ⌜ PlaysIn allowance (now (calls .entry)) (now (room .entry)) (now (out .entry)) (counts (now (played .entry)) (now (read .entry)) (now (written .entry))) r (now (room .exit)) (now (out .exit)) (counts (now (played .exit)) (now (read .exit)) (now (written .exit))) ⌝ }
+    ensures { λ r. ⌜ ToldAs (runTold (counts (now (played .entry)) (now (read .entry)) (now (written .entry)))) (Plays 40 32 allowance (now (calls .entry)) (now (room .entry)) (now (out .entry)) (now (room .exit)) (now (out .exit))) (telling r (now (played .exit)) (now (read .exit)) (now (written .exit))) ⌝ }
 {
     match play::play(room, calls, allowance, out) {
         Run::Stopped {

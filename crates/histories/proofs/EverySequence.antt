@@ -1,14 +1,16 @@
--- The theorems on histories are about something: every sequence of calls, with arrivals by keys of 32 bytes, is that of a history, on whatever memory fits a
--- room and with whatever output of 2,048 bytes or more, lent to each call anew. Assumes nothing.
-use mathlib.Core.Path.{_≡_, refl, ap₂}
+-- The theorems on histories are about something. Any calls, with arrivals by keys of 32 bytes, and with any outputs lent to them, are those of a chain of exported
+-- calls from whatever bytes (`every-call-made`), and so of calls from the empty room in whatever memory fits a room (`every-calls`); and every sequence of calls is
+-- that of a history, with whatever output of 2,048 bytes or more, lent to each call anew (`every-sequence`). Assumes nothing.
+use mathlib.Core.Path.{_≡_, refl, sym, ap, ap₂, subst, _∙_}
 use mathlib.Core.Bool.{Bool, true, false, cond}
 use mathlib.Core.List.{List, [], _∷_, _++_}
 use Prim.Native.Nat.{ℕ, _≤_}
+use native.Mathlib.Omega.{arith}
 use lib.ListN.{length, drop}
 use Rattle.refusal.specs.declared.Refusal.the-variants.{RoomNotWhole}
 use Rattle.rules.specs.Room.{Key}
 use Rattle.rules.specs.Call.{Call, arrive, leave, packetCall, Sent}
-use Rattle.rules.specs.Outcome.{refuse, sentBytes, outcome}
+use Rattle.rules.specs.Outcome.{Outcome, refuse, sentBytes, outcome}
 use Rattle.rules.specs.History.{Event}
 use Rattle.rules.proofs.QuietArrival.{arrive-sends-nothing}
 use Rattle.room.specs.Layout.{fitsRoom}
@@ -16,17 +18,23 @@ use Rattle.room.specs.View.{viewRoom}
 use Rattle.room.specs.Whole.{roomWhole}
 use Rattle.room.specs.Store.{storeAll, emptied}
 use Rattle.room_laws.proofs.OutcomeLaws.{KeyOf32}
-use Rattle.relay.specs.Calls.{leastOutput, tested, withOutput}
-use Rattle.histories.specs.History.{seen, Step, arrives, leaves, sends, Chain, none, next, History, callsOf}
+use Rattle.relay.specs.Calls.{Leaves, leastOutput, tested, needed, ifLong, withOutput}
+use Rattle.banavoge.specs.Rooms.{doneOr}
+use Rattle.banavoge.specs.RelayCalls.{seatCode, countCode}
+use Rattle.histories.specs.Seen.{seenAs, seen}
+use Rattle.histories.specs.Lent.{Lent, lentWith, AllLong}
+use Rattle.histories.specs.History.{Step, arrives, departs, sends, AnyChain, none, next, Chain, BeginsEmpty, AnyCalls, History, callsOf}
 
 -- each arrival is by a key of 32 bytes
 abbrev pub KeysOf32 : List Call → Type 0
 KeysOf32 [] = Unit {0}
 KeysOf32 (call ∷ calls) = KeyOf32 call × KeysOf32 calls
 
+-- ---- one call
+
 -- an arrival writes nothing, on whatever bytes
-quiet : (s n : ℕ) (b : List ℕ) (key : Key) → tested s n b (arrive key) .sent ≡ []
-unfolding tested
+quiet : (s n : ℕ) (b : List ℕ) (key : Key) → withOutput s n b [] (arrive key) .sent ≡ []
+unfolding withOutput ifLong tested
 quiet s n b key = go (roomWhole s n b)
   where
     go : (t : Bool) → cond t (outcome (viewRoom s n b) (arrive key)) (refuse RoomNotWhole) .sent ≡ []
@@ -37,12 +45,99 @@ none-written : (sent : List Sent) → sent ≡ [] → [] ≡ sentBytes sent ++ d
 unfolding sentBytes
 none-written sent e = rw e
 
+-- an Arrive is lent no output
+abbrev pub lentTo : Call → List ℕ → Lent
+lentTo (arrive key) out = lentWith (arrive key) []
+lentTo (leave seat) out = lentWith (leave seat) out
+lentTo (packetCall seat bytes) out = lentWith (packetCall seat bytes) out
+
 -- one call has a step
-record Steps (s n : ℕ) (b : List ℕ) (call : Call) : Type 0 where
+record Steps (s n : ℕ) (b : List ℕ) (call : Call) (out : List ℕ) : Type 0 where
   pub seen-as : Event
   pub left : List ℕ
-  pub step : Step s n b seen-as left
+  pub step : Step s n b (lentTo call out) seen-as left
   pub is : seen-as .call ≡ call
+
+module _ (s n : ℕ) where
+  -- what any outcome leaves
+  abbrev stored : List ℕ → Outcome → List ℕ
+  stored b o = storeAll s n b (o .changes)
+
+  abbrev output : List ℕ → Outcome → List ℕ
+  output out o = sentBytes (o .sent) ++ drop (length (sentBytes (o .sent))) out
+
+  leaves : (b out : List ℕ) (o : Outcome) → Leaves s n o b out (o .answer) (stored b o) (output out o)
+  leaves b out o = record { answers = refl; stores = refl; writes = refl }
+
+  every-call : (b : List ℕ) (call : Call) (out : List ℕ) → KeyOf32 call → Steps s n b call out
+  unfolding seen seenAs
+  every-call b (arrive key) out k =
+      let o = withOutput s n b [] (arrive key) in
+      record {
+        seen-as = seen (arrive key) (seatCode (o .answer)) [];
+        left = stored b o;
+        step = arrives key (seatCode (o .answer))
+            (record {
+              given = o .answer;
+              relates = record { long = k; leaves = record { answers = refl; stores = refl; writes = none-written (o .sent) (quiet s n b key) } };
+              codes = refl;
+            })
+            refl refl;
+        is = refl;
+      }
+  every-call b (leave seat) out k =
+      let o = withOutput s n b out (leave seat) in
+      record {
+        seen-as = seen (leave seat) (countCode (o .answer)) (output out o);
+        left = stored b o;
+        step = departs seat out (output out o) (countCode (o .answer)) (record { given = o .answer; relates = leaves b out o; codes = refl }) refl refl;
+        is = refl;
+      }
+  every-call b (packetCall seat bytes) out k =
+      let o = withOutput s n b out (packetCall seat bytes) in
+      record {
+        seen-as = seen (packetCall seat bytes) (countCode (o .answer)) (output out o);
+        left = stored b o;
+        step = sends seat bytes out (output out o) (countCode (o .answer)) (record { given = o .answer; relates = leaves b out o; codes = refl }) refl refl;
+        is = refl;
+      }
+
+-- ---- calls one after the other
+
+-- a call, and the output that the host has for it
+pub record CallMade : Type 0 where
+  pub call : Call
+  pub out : List ℕ
+
+unfoldable pub lentsTo : List CallMade → List Lent
+lentsTo [] = []
+lentsTo (m ∷ made) = lentTo (m .call) (m .out) ∷ lentsTo made
+
+unfoldable pub callsMade : List CallMade → List Call
+callsMade [] = []
+callsMade (m ∷ made) = m .call ∷ callsMade made
+
+-- a chain with these calls and outputs
+pub record AnyChainOf (s n : ℕ) (b : List ℕ) (made : List CallMade) : Type 0 where
+  pub events : List Event
+  pub left : List ℕ
+  pub chain : AnyChain s n b (lentsTo made) events left
+  pub are : callsOf events ≡ callsMade made
+
+pub every-call-made : (s n : ℕ) (b : List ℕ) (made : List CallMade) → KeysOf32 (callsMade made) → AnyChainOf s n b made
+unfolding callsOf callsMade lentsTo
+every-call-made s n b [] k = record { events = []; left = b; chain = none; are = refl }
+every-call-made s n b (m ∷ made) k =
+    let one = every-call s n b (m .call) (m .out) (k .0) in
+    let rest = every-call-made s n (one .left) made (k .1) in
+    record {
+      events = one .seen-as ∷ rest .events;
+      left = rest .left;
+      chain = next (one .step) (rest .chain);
+      are = ap₂ (λ c l. c ∷ l) (one .is) (rest .are);
+    }
+
+-- ---- with one output for all
 
 -- a chain with these calls
 pub record ChainOf (s n : ℕ) (b : List ℕ) (calls : List Call) : Type 0 where
@@ -51,48 +146,59 @@ pub record ChainOf (s n : ℕ) (b : List ℕ) (calls : List Call) : Type 0 where
   pub chain : Chain s n b events left
   pub are : callsOf events ≡ calls
 
-module _ (s n : ℕ) (out : List ℕ) (long : leastOutput ≤ length out) where
-  every-call : (b : List ℕ) (call : Call) → KeyOf32 call → Steps s n b call
-  unfolding seen
-  every-call b (arrive key) k =
-      let o = tested s n b (arrive key) in
-      record {
-        seen-as = seen (arrive key) (o .answer) [];
-        left = storeAll s n b (o .changes);
-        step = arrives key (o .answer) k (record { answers = refl; stores = refl; writes = none-written (o .sent) (quiet s n b key) }) refl;
-        is = refl;
-      }
-  every-call b (leave seat) k =
-      let o = withOutput s n b out (leave seat) in
-      let out′ = sentBytes (o .sent) ++ drop (length (sentBytes (o .sent))) out in
-      record {
-        seen-as = seen (leave seat) (o .answer) out′;
-        left = storeAll s n b (o .changes);
-        step = leaves seat (o .answer) out out′ long (record { answers = refl; stores = refl; writes = refl }) refl;
-        is = refl;
-      }
-  every-call b (packetCall seat bytes) k =
-      let o = withOutput s n b out (packetCall seat bytes) in
-      let out′ = sentBytes (o .sent) ++ drop (length (sentBytes (o .sent))) out in
-      record {
-        seen-as = seen (packetCall seat bytes) (o .answer) out′;
-        left = storeAll s n b (o .changes);
-        step = sends seat bytes (o .answer) out out′ long (record { answers = refl; stores = refl; writes = refl }) refl;
-        is = refl;
-      }
+module _ (out : List ℕ) where
+  unfoldable pub withOutputs : List Call → List CallMade
+  withOutputs [] = []
+  withOutputs (call ∷ calls) = record { call = call; out = out } ∷ withOutputs calls
 
-  pub every-chain : (b : List ℕ) (calls : List Call) → KeysOf32 calls → ChainOf s n b calls
-  unfolding callsOf
-  every-chain b [] k = record { events = []; left = b; chain = none; are = refl }
-  every-chain b (call ∷ calls) k =
-      let one = every-call b call (k .0) in
-      let rest = every-chain (one .left) calls (k .1) in
-      record {
-        events = one .seen-as ∷ rest .events;
-        left = rest .left;
-        chain = next (one .step) (rest .chain);
-        are = ap₂ (λ c l. c ∷ l) (one .is) (rest .are);
-      }
+  calls-with : (calls : List Call) → callsMade (withOutputs calls) ≡ calls
+  unfolding withOutputs callsMade
+  calls-with [] = refl
+  calls-with (call ∷ calls) = ap (λ (l : List Call). call ∷ l) (calls-with calls)
+
+  module _ (long : leastOutput ≤ length out) where
+    long-lent : (call : Call) → needed (lentTo call out .call) ≤ lentTo call out .space
+    long-lent (arrive key) = omega arith
+    long-lent (leave seat) = long
+    long-lent (packetCall seat bytes) = long
+
+    all-long : (calls : List Call) → AllLong (lentsTo (withOutputs calls))
+    unfolding withOutputs lentsTo
+    all-long [] = tt
+    all-long (call ∷ calls) = (long-lent call, all-long calls)
+
+    pub every-chain : (s n : ℕ) (b : List ℕ) (calls : List Call) → KeysOf32 calls → ChainOf s n b calls
+    every-chain s n b calls k =
+        let c = every-call-made s n b (withOutputs calls) (subst KeysOf32 (sym (calls-with calls)) k) in
+        record {
+          events = c .events;
+          left = c .left;
+          chain = record { lents = lentsTo (withOutputs calls); calls = c .chain; long = all-long calls };
+          are = c .are ∙ calls-with calls;
+        }
+
+-- ---- from the empty room
+
+-- memory that fits a room begins one
+pub fits-begins : (s n : ℕ) (memory : List ℕ) → fitsRoom s n memory ≡ true → BeginsEmpty s n (emptied s n memory)
+unfolding doneOr
+fits-begins s n memory fits =
+    record {
+      memory = memory;
+      empties = record { given = true; relates = record { answers = sym fits; leaves = rw fits }; codes = refl };
+    }
+
+-- any calls from the empty room, these with these outputs
+pub record AnyCallsOf (s n : ℕ) (made : List CallMade) : Type 0 where
+  pub events : List Event
+  pub left : List ℕ
+  pub calls : AnyCalls s n (lentsTo made) events left
+  pub are : callsOf events ≡ callsMade made
+
+pub every-calls : (s n : ℕ) (memory : List ℕ) → fitsRoom s n memory ≡ true → (made : List CallMade) → KeysOf32 (callsMade made) → AnyCallsOf s n made
+every-calls s n memory fits made k =
+    let c = every-call-made s n (emptied s n memory) made k in
+    record { events = c .events; left = c .left; calls = record { room = emptied s n memory; begun = fits-begins s n memory fits; chain = c .chain }; are = c .are }
 
 -- a history with these calls
 pub record HistoryOf (s n : ℕ) (calls : List Call) : Type 0 where
@@ -104,5 +210,5 @@ pub record HistoryOf (s n : ℕ) (calls : List Call) : Type 0 where
 pub every-sequence : (s n : ℕ) (memory : List ℕ) → fitsRoom s n memory ≡ true → (out : List ℕ) → leastOutput ≤ length out
     → (calls : List Call) → KeysOf32 calls → HistoryOf s n calls
 every-sequence s n memory fits out long calls k =
-    let c = every-chain s n out long (emptied s n memory) calls k in
-    record { events = c .events; left = c .left; history = record { memory = memory; fits = fits; chain = c .chain }; are = c .are }
+    let c = every-chain out long s n (emptied s n memory) calls k in
+    record { events = c .events; left = c .left; history = record { room = emptied s n memory; begun = fits-begins s n memory fits; chain = c .chain }; are = c .are }

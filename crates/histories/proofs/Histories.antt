@@ -1,87 +1,250 @@
--- Demand 2, of every history that the host makes from the empty room in lent memory: the events that the host sees, each with its answer or refusal and
--- with every record in the output, are exactly the rules' transcript of the same calls; and the bytes of the room at the end are whole, and are the room that
--- the rules leave. This is a statement about what the host really calls: each step is the contract of a public call, and the records are read in the bytes of
--- the output. For every s and n that fit; document 01 has 40 and 32. Assumes nothing.
+-- Demand 2, of any calls that the host makes from the empty room in lent memory: "every answer, refusal and record equals 01's steps". Each call is an export, on
+-- the room that the last returned, with any output. The events that the host sees, each with its answer or refusal and with every record in the output, are
+-- exactly document 01's steps for the same calls and outputs; and the bytes of the room at the end are whole, and are the room that these steps leave
+-- (`any-calls-run`). Where every output is long enough they are the rules' transcript of the calls (`history-runs`). This is a statement about what the host
+-- really calls: each step is the contract of an export, and the records are read in the bytes of the output. For every s and n that fit; document 01 has 40 and
+-- 32. Assumes nothing.
 use mathlib.Core.Path.{_≡_, refl, sym, ap, ap₂, subst, _∙_}
-use mathlib.Core.Bool.{Bool, true, cond}
+use mathlib.Core.Bool.{Bool, true, false, cond}
 use mathlib.Core.List.{List, [], _∷_, _++_}
 use Prim.Native.Nat.{ℕ, _≤_}
 use native.Mathlib.Omega.{arith}
+use lib.IntN.{ℤ, pos}
 use lib.ListN.{length, drop}
-use borrow.Author.Tests.{le-leb}
-use Rattle.rules.specs.Room.{baseSizes, Room, emptyRoom}
-use Rattle.rules.specs.Call.{Call, arrive, leave, packetCall, Answer}
-use Rattle.rules.specs.Outcome.{Outcome, sentBytes, outcome, roomAfter}
+use Rattle.refusal.specs.declared.Refusal.the-variants.{OutputTooShort}
+use Rattle.rules.specs.Room.{Sizes, baseSizes, Key, Room, emptyRoom}
+use Rattle.rules.specs.Whole.{Whole}
+use Rattle.rules.specs.Call.{Call, arrive, leave, packetCall, Answer, accepted}
+use Rattle.rules.specs.Outcome.{Outcome, refuse, sentBytes, outcome, roomAfter}
 use Rattle.rules.specs.History.{Event, event, transcript}
-use Rattle.rules.specs.After.{roomAfterAll}
-use Rattle.rules.proofs.RefusedOrAccepted.{outcome-made}
+use Rattle.rules.specs.Transcript.{Past, Start, fromEmpty}
+use Rattle.rules.specs.After.{roomAfterAll, pastAfter, Tied}
+use Rattle.rules.proofs.RefusedOrAccepted.{MadeAt, outcome-made, leave-made-at, packet-made-at}
+use Rattle.rules.proofs.QuietArrival.{arrive-sends-nothing}
+use Rattle.rules.proofs.Tied.{tied-empty}
+use Rattle.room.specs.Layout.{fitsRoom}
 use Rattle.room.specs.View.{viewRoom}
 use Rattle.room.specs.Whole.{roomWhole}
 use Rattle.room.specs.Store.{storeAll, emptied, MakesEmpty}
 use Rattle.room_laws.proofs.TablesLaws.{sizesOf}
+use Rattle.room_laws.proofs.WholeLaws.{whole-view}
 use Rattle.room_laws.proofs.EmptyLaws.{empty-whole, empty-view}
-use Rattle.room_laws.proofs.OutcomeLaws.{KeyOf32, outcome-stored, outcome-within}
-use Rattle.relay.specs.Calls.{written, Leaves, leastOutput, tested, withOutput}
+use Rattle.room_laws.proofs.OutcomeLaws.{KeyOf32}
+use Rattle.relay.specs.Calls.{written, Leaves, tested, needed, withOutput, Arrives, Departs, Sends}
 use Rattle.relay.proofs.OutcomeLeaves.{made-written}
-use Rattle.histories.specs.History.{recordsRead, seen, Step, arrives, leaves, sends, Chain, none, next, History, callsOf}
+use Rattle.relay.proofs.CallsLaws.{by-call}
+use Rattle.banavoge.specs.Answers.{refusalCode, ToldAs}
+use Rattle.banavoge.specs.Rooms.{doneOr}
+use Rattle.banavoge.specs.RelayCalls.{seatCode, countCode}
+use Rattle.histories.specs.Seen.{recordsRead, seenAs, acceptedWith, answered, seen}
+use Rattle.histories.specs.Lent.{Lent, lentWith, lentOutcome, lentEvent, lentTranscript, lentRoomAfter, AllLong, callsLent}
+use Rattle.histories.specs.History.{Step, arrives, departs, sends, AnyChain, none, next, Chain, BeginsEmpty, AnyCalls, History, callsOf}
 use Rattle.histories.proofs.ReadBack.{all-short, written-read}
+use Rattle.histories.proofs.Answered.{seat-answered, count-answered, refusal-answered}
+use Rattle.histories.proofs.LentLaws.{long-outcome, lent-made, lent-within, lent-stored, lent-tied, long-transcript, long-room}
+
+-- ---- the number that a call answers, on any bytes
+
+module _ (s n : ℕ) (b : List ℕ) where
+  -- that of an Arrive tells its answer, and so does that of a call in a seat
+  arrive-tells : (key : Key) (number : ℤ) (given : Answer) → given ≡ withOutput s n b [] (arrive key) .answer → number ≡ seatCode given
+      → answered (arrive key) number ≡ given
+  unfolding refuse seatCode
+  arrive-tells key number given e codes =
+      rw (codes, e)
+      (by-call (λ o. answered (arrive key) (seatCode (o .answer)) ≡ o .answer) s n b [] (arrive key)
+      (seat-answered key (outcome (viewRoom s n b) (arrive key)) (outcome-made (viewRoom s n b) (arrive key)) (arrive-sends-nothing (viewRoom s n b) key))
+      (λ why. refusal-answered (arrive key) why))
+
+  seat-tells : (call : Call) (seat : ℕ) → ((count : ℕ) → acceptedWith call count ≡ accepted seat count) → MadeAt seat (outcome (viewRoom s n b) call)
+      → (out : List ℕ) (number : ℤ) (given : Answer) → given ≡ withOutput s n b out call .answer → number ≡ countCode given → answered call number ≡ given
+  unfolding refuse countCode
+  seat-tells call seat own made out number given e codes =
+      rw (codes, e)
+      (by-call (λ o. answered call (countCode (o .answer)) ≡ o .answer) s n b out call (count-answered call seat own (outcome (viewRoom s n b) call) made)
+      (λ why. refusal-answered call why))
+
+  -- and the number is that of the answer seen, so equal answers are equal numbers
+  pub arrive-number : (key : Key) (b′ : List ℕ) (number : ℤ) → ToldAs seatCode (Arrives s n key b b′) number → number ≡ seatCode (answered (arrive key) number)
+  arrive-number key b′ number c = c .codes ∙ ap seatCode (sym (arrive-tells key number (c .given) (c .relates .leaves .answers) (c .codes)))
+
+  pub leave-number : (seat : ℕ) (out b′ out′ : List ℕ) (number : ℤ) → ToldAs countCode (Departs s n seat b out b′ out′) number
+      → number ≡ countCode (answered (leave seat) number)
+  unfolding acceptedWith
+  leave-number seat out b′ out′ number c =
+      c .codes
+      ∙ ap countCode (sym (seat-tells (leave seat) seat (λ count. refl) (leave-made-at (viewRoom s n b) seat) out number (c .given) (c .relates .answers) (c .codes)))
+
+  pub packet-number : (seat : ℕ) (bytes out b′ out′ : List ℕ) (number : ℤ) → ToldAs countCode (Sends s n seat bytes b out b′ out′) number
+      → number ≡ countCode (answered (packetCall seat bytes) number)
+  unfolding acceptedWith
+  packet-number seat bytes out b′ out′ number c =
+      c .codes
+      ∙ ap countCode
+      (sym (seat-tells (packetCall seat bytes) seat (λ count. refl) (packet-made-at (viewRoom s n b) seat bytes) out number (c .given) (c .relates .answers) (c .codes)))
 
 -- ---- one step
 
--- what the host sees is the rules' event, and the bytes left are those given with the call's changes stored: whole, and the rules' room
+-- what the host sees is document 01's event, and the bytes left are those given with the call's changes stored: whole, and document 01's room
+pub record StepRight (s n : ℕ) (b : List ℕ) (l : Lent) (e : Event) (b′ : List ℕ) : Type 0 where
+  pub sees : e ≡ lentEvent (viewRoom s n b) l
+  pub stores : b′ ≡ storeAll s n b (lentOutcome (viewRoom s n b) l .changes)
+  pub room : viewRoom s n b′ ≡ roomAfter (sizesOf s n) (viewRoom s n b) (lentOutcome (viewRoom s n b) l)
+  pub whole : roomWhole s n b′ ≡ true
+
+module _ (s n : ℕ) (b : List ℕ) (whole : roomWhole s n b ≡ true) where
+  -- on a whole room, what is left of the tests is the output's length
+  whole-lent : (call : Call) (out : List ℕ) → withOutput s n b out call ≡ lentOutcome (viewRoom s n b) (lentWith call out)
+  unfolding withOutput tested lentOutcome
+  whole-lent call out = rw whole
+
+  module _ (l : Lent) (key : KeyOf32 (l .call)) (given : Answer) (out b′ out′ : List ℕ) (left : Leaves s n (lentOutcome (viewRoom s n b) l) b out given b′ out′) where
+    read-right : recordsRead given out′ ≡ lentOutcome (viewRoom s n b) l .sent
+    read-right =
+        let o = lentOutcome (viewRoom s n b) l in
+        ap (recordsRead given) (left .writes)
+        ∙ written-read (o .sent) (all-short (o .sent) (omega (arith, lent-within s n b whole l))) given
+        (ap written (left .answers) ∙ made-written o (lent-made (viewRoom s n b) l)) (drop (length (sentBytes (o .sent))) out)
+
+    seen-right : seenAs (l .call) given out′ ≡ lentEvent (viewRoom s n b) l
+    unfolding seenAs lentEvent
+    seen-right = ap₂ (λ a r. record { call = l .call; answer = a; sent = r }) (left .answers) read-right
+
+    -- where the number tells the answer
+    leaves-right : (number : ℤ) → answered (l .call) number ≡ given → (e : Event) → e ≡ seen (l .call) number out′ → StepRight s n b l e b′
+    unfolding seen
+    leaves-right number tells e q =
+        let kept = lent-stored s n b whole l key in
+        record {
+          sees = q ∙ ap (λ (a : Answer). seenAs (l .call) a out′) tells ∙ seen-right;
+          stores = left .stores;
+          room = ap (viewRoom s n) (left .stores) ∙ kept .0;
+          whole = ap (roomWhole s n) (left .stores) ∙ kept .1;
+        }
+
+  pub step-right : (l : Lent) (e : Event) (b′ : List ℕ) → Step s n b l e b′ → StepRight s n b l e b′
+  unfolding acceptedWith
+  step-right l e b′ (arrives key number c lends q) =
+      let call = arrive key in
+      let left = subst (λ (o : Outcome). Leaves s n o b [] (c .given) b′ []) (whole-lent call []) (c .relates .leaves) in
+      subst (λ (x : Lent). StepRight s n b x e b′) (sym lends)
+      (leaves-right (lentWith call []) (c .relates .long) (c .given) [] b′ [] left number (arrive-tells s n b key number (c .given) (c .relates .leaves .answers) (c .codes)) e q)
+  step-right l e b′ (departs seat out out′ number c lends q) =
+      let call = leave seat in
+      let left = subst (λ (o : Outcome). Leaves s n o b out (c .given) b′ out′) (whole-lent call out) (c .relates) in
+      subst (λ (x : Lent). StepRight s n b x e b′) (sym lends)
+      (leaves-right (lentWith call out) tt (c .given) out b′ out′ left number
+      (seat-tells s n b call seat (λ count. refl) (leave-made-at (viewRoom s n b) seat) out number (c .given) (c .relates .answers) (c .codes)) e q)
+  step-right l e b′ (sends seat bytes out out′ number c lends q) =
+      let call = packetCall seat bytes in
+      let left = subst (λ (o : Outcome). Leaves s n o b out (c .given) b′ out′) (whole-lent call out) (c .relates) in
+      subst (λ (x : Lent). StepRight s n b x e b′) (sym lends)
+      (leaves-right (lentWith call out) tt (c .given) out b′ out′ left number
+      (seat-tells s n b call seat (λ count. refl) (packet-made-at (viewRoom s n b) seat bytes) out number (c .given) (c .relates .answers) (c .codes)) e q)
+
+-- ---- any calls
+
+-- "every answer, refusal and record equals 01's steps", from a room on; and the bytes at the end are the room that these leave, whole
+pub record EqualsSteps (s n : ℕ) (room : Room) (lents : List Lent) (events : List Event) (b′ : List ℕ) : Type 0 where
+  pub events-are : events ≡ lentTranscript (sizesOf s n) room lents
+  pub room-is : viewRoom s n b′ ≡ lentRoomAfter (sizesOf s n) room lents
+  pub whole : roomWhole s n b′ ≡ true
+
+-- from whole bytes on
+pub any-chain-runs : (s n : ℕ) (b : List ℕ) (lents : List Lent) (events : List Event) (b′ : List ℕ) → AnyChain s n b lents events b′ → roomWhole s n b ≡ true
+    → EqualsSteps s n (viewRoom s n b) lents events b′
+unfolding lentTranscript lentRoomAfter
+any-chain-runs s n b ls es b′ none w = record { events-are = refl; room-is = refl; whole = w }
+any-chain-runs s n b ls es b′ (next {b₁ = b₁} {l = l} {e = e} {lents = lents} {events = events} step chain) w =
+    let r = step-right s n b w l e b₁ step in
+    let q = any-chain-runs s n b₁ lents events b′ chain (r .whole) in
+    record {
+      events-are = ap₂ (λ x l. x ∷ l) (r .sees) (q .events-are ∙ ap (λ (x : Room). lentTranscript (sizesOf s n) x lents) (r .room));
+      room-is = q .room-is ∙ ap (λ (x : Room). lentRoomAfter (sizesOf s n) x lents) (r .room);
+      whole = q .whole;
+    }
+
+-- the empty room of the export is document 01's, and whole
+module _ (s n : ℕ) (b : List ℕ) (begun : BeginsEmpty s n b) where
+  made-empty : (memory : List ℕ) (made : Bool) → MakesEmpty s n memory b made → pos 0 ≡ doneOr OutputTooShort made
+      → (fitsRoom s n memory ≡ true) × (b ≡ emptied s n memory)
+  unfolding doneOr refusalCode
+  made-empty memory true m e = (sym (m .answers), m .leaves ∙ ap (λ (t : Bool). cond t (emptied s n memory) memory) (sym (m .answers)))
+  made-empty memory false m e = let z : _≡_ {A = ℕ} 0 1 = cc in absurd (omega arith)
+
+  begun-emptied : (fitsRoom s n (begun .memory) ≡ true) × (b ≡ emptied s n (begun .memory))
+  begun-emptied = made-empty (begun .memory) (begun .empties .given) (begun .empties .relates) (begun .empties .codes)
+
+  pub begun-whole : roomWhole s n b ≡ true
+  begun-whole = ap (roomWhole s n) (begun-emptied .1) ∙ empty-whole s n (begun .memory) (begun-emptied .0)
+
+  pub begun-view : viewRoom s n b ≡ emptyRoom (sizesOf s n)
+  begun-view = ap (viewRoom s n) (begun-emptied .1) ∙ empty-view s n (begun .memory) (begun-emptied .0)
+
+-- THE THEOREM: from the empty room, with any outputs
+pub any-calls-run : (s n : ℕ) (lents : List Lent) (events : List Event) (b′ : List ℕ) → AnyCalls s n lents events b′
+    → EqualsSteps s n (emptyRoom (sizesOf s n)) lents events b′
+any-calls-run s n lents events b′ h =
+    subst (λ (x : Room). EqualsSteps s n x lents events b′) (begun-view s n (h .room) (h .begun))
+    (any-chain-runs s n (h .room) lents events b′ (h .chain) (begun-whole s n (h .room) (h .begun)))
+
+-- and what has happened says what the room says
+pub any-chain-tied : (s n : ℕ) (b : List ℕ) (lents : List Lent) (events : List Event) (b′ : List ℕ) → AnyChain s n b lents events b′ → roomWhole s n b ≡ true
+    → (start : Start) (past : Past) → Tied start past (viewRoom s n b) → Tied start (pastAfter past events) (viewRoom s n b′)
+unfolding pastAfter
+any-chain-tied s n b ls es b′ none w start past tie = tie
+any-chain-tied s n b ls es b′ (next {b₁ = b₁} {l = l} {e = e} {lents = lents} {events = events} step chain) w start past tie =
+    let r = step-right s n b w l e b₁ step in
+    any-chain-tied s n b₁ lents events b′ chain (r .whole) start (e ∷ past)
+    (rw (r .sees, r .room) (lent-tied (sizesOf s n) start past (viewRoom s n b) (whole-view s n b w) tie l))
+
+pub any-calls-tied : (s n : ℕ) (lents : List Lent) (events : List Event) (b′ : List ℕ) → AnyCalls s n lents events b′
+    → Tied fromEmpty (pastAfter [] events) (viewRoom s n b′)
+any-calls-tied s n lents events b′ h =
+    any-chain-tied s n (h .room) lents events b′ (h .chain) (begun-whole s n (h .room) (h .begun)) fromEmpty []
+    (rw (begun-view s n (h .room) (h .begun)) (tied-empty (sizesOf s n)))
+
+-- ---- histories: the outputs are long enough
+
+-- one step of a history
 pub record Right (s n : ℕ) (b : List ℕ) (e : Event) (b′ : List ℕ) : Type 0 where
   pub sees : e ≡ event (viewRoom s n b) (e .call)
   pub stores : b′ ≡ storeAll s n b (outcome (viewRoom s n b) (e .call) .changes)
   pub room : viewRoom s n b′ ≡ roomAfter (sizesOf s n) (viewRoom s n b) (outcome (viewRoom s n b) (e .call))
   pub whole : roomWhole s n b′ ≡ true
 
-module _ (s n : ℕ) (b : List ℕ) (whole : roomWhole s n b ≡ true) where
-  tested-whole : (call : Call) → tested s n b call ≡ outcome (viewRoom s n b) call
-  unfolding tested
-  tested-whole call = rw whole
+pub long-step-right : (s n : ℕ) (b : List ℕ) → roomWhole s n b ≡ true → (l : Lent) (e : Event) (b′ : List ℕ) → Step s n b l e b′ → needed (l .call) ≤ l .space
+    → Right s n b e b′
+unfolding lentEvent event
+long-step-right s n b w l e b′ step long =
+    let before = viewRoom s n b in
+    let r = step-right s n b w l e b′ step in
+    let o = long-outcome before l long in
+    let sees : e ≡ event before (l .call) = r .sees ∙ ap (λ (x : Outcome). record { call = l .call; answer = x .answer; sent = x .sent }) o in
+    let call : l .call ≡ e .call = sym (ap (λ (x : Event). x .call) sees) in
+    let same = o ∙ ap (outcome before) call in
+    record {
+      sees = sees ∙ ap (event before) call;
+      stores = r .stores ∙ ap (λ (x : Outcome). storeAll s n b (x .changes)) same;
+      room = r .room ∙ ap (roomAfter (sizesOf s n) before) same;
+      whole = r .whole;
+    }
 
-  output-long : (out : List ℕ) → leastOutput ≤ length out → (call : Call) → withOutput s n b out call ≡ outcome (viewRoom s n b) call
-  unfolding withOutput
-  output-long out h call = rw (le-leb 2048 (length out) h) (tested-whole call)
+-- so what is proved of each call in each whole room that says what has happened holds of each exported call, lent an output that is long enough, after any calls
+pub after-calls : (s n : ℕ) (P : Past → Event → Type 0)
+    → ((past : Past) (room : Room) → Whole (sizesOf s n) room → Tied fromEmpty past room → (call : Call) → P past (event room call))
+    → (lents : List Lent) (events : List Event) (b : List ℕ) → AnyCalls s n lents events b
+    → (l : Lent) (e : Event) (b′ : List ℕ) → Step s n b l e b′ → needed (l .call) ≤ l .space → P (pastAfter [] events) e
+after-calls s n P each lents events b h l e b′ step long =
+    let whole = any-calls-run s n lents events b h .whole in
+    subst (P (pastAfter [] events)) (sym (long-step-right s n b whole l e b′ step long .sees))
+    (each (pastAfter [] events) (viewRoom s n b) (whole-view s n b whole) (any-calls-tied s n lents events b h) (e .call))
 
-  module _ (call : Call) (key : KeyOf32 call) (given : Answer) (out b′ out′ : List ℕ) (l : Leaves s n (outcome (viewRoom s n b) call) b out given b′ out′) where
-    read-right : recordsRead given out′ ≡ outcome (viewRoom s n b) call .sent
-    read-right =
-        let o = outcome (viewRoom s n b) call in
-        ap (recordsRead given) (l .writes)
-        ∙ written-read (o .sent) (all-short (o .sent) (omega (arith, outcome-within s n b whole call))) given (ap written (l .answers) ∙ made-written o (outcome-made (viewRoom s n b) call))
-        (drop (length (sentBytes (o .sent))) out)
-
-    seen-right : seen call given out′ ≡ event (viewRoom s n b) call
-    unfolding seen event
-    seen-right = ap₂ (λ a r. record { call = call; answer = a; sent = r }) (l .answers) read-right
-
-    call-right : Right s n b (event (viewRoom s n b) call) b′
-    unfolding event
-    call-right =
-        let q = outcome-stored s n b whole call key in
-        record {
-          sees = refl;
-          stores = l .stores;
-          room = ap (viewRoom s n) (l .stores) ∙ q .0;
-          whole = ap (roomWhole s n) (l .stores) ∙ q .1;
-        }
-
-    leaves-right : (e : Event) → e ≡ seen call given out′ → Right s n b e b′
-    leaves-right e q = subst (λ (x : Event). Right s n b x b′) (sym (q ∙ seen-right)) call-right
-
-  pub step-right : (e : Event) (b′ : List ℕ) → Step s n b e b′ → Right s n b e b′
-  step-right e b′ (arrives key given k l q) =
-      let call = arrive key in
-      leaves-right call k given [] b′ [] (subst (λ (o : Outcome). Leaves s n o b [] given b′ []) (tested-whole call) l) e q
-  step-right e b′ (leaves seat given out out′ h l q) =
-      let call = leave seat in
-      leaves-right call tt given out b′ out′ (subst (λ (o : Outcome). Leaves s n o b out given b′ out′) (output-long out h call) l) e q
-  step-right e b′ (sends seat bytes given out out′ h l q) =
-      let call = packetCall seat bytes in
-      leaves-right call tt given out b′ out′ (subst (λ (o : Outcome). Leaves s n o b out given b′ out′) (output-long out h call) l) e q
-
--- ---- every history
+-- the calls seen are the calls made
+pub calls-lent : (sizes : Sizes) (room : Room) (lents : List Lent) → callsOf (lentTranscript sizes room lents) ≡ callsLent lents
+unfolding callsOf callsLent lentTranscript lentEvent
+calls-lent sizes room [] = refl
+calls-lent sizes room (l ∷ lents) = ap (λ (x : List Call). l .call ∷ x) (calls-lent sizes (roomAfter sizes room (lentOutcome room l)) lents)
 
 -- the events are the rules' transcript from a room on, and the bytes at the end are the room that the rules leave, whole
 pub record Runs (s n : ℕ) (room : Room) (events : List Event) (b′ : List ℕ) : Type 0 where
@@ -89,25 +252,28 @@ pub record Runs (s n : ℕ) (room : Room) (events : List Event) (b′ : List ℕ
   pub room-is : viewRoom s n b′ ≡ roomAfterAll (sizesOf s n) room (callsOf events)
   pub whole : roomWhole s n b′ ≡ true
 
+of-long : (s n : ℕ) (room : Room) (lents : List Lent) (events : List Event) (b′ : List ℕ) → AllLong lents → EqualsSteps s n room lents events b′ → Runs s n room events b′
+of-long s n room lents events b′ long r =
+    let calls : callsLent lents ≡ callsOf events = sym (ap callsOf (r .events-are) ∙ calls-lent (sizesOf s n) room lents) in
+    record {
+      events-are = r .events-are ∙ long-transcript (sizesOf s n) room lents long ∙ ap (transcript (sizesOf s n) room) calls;
+      room-is = r .room-is ∙ long-room (sizesOf s n) room lents long ∙ ap (roomAfterAll (sizesOf s n) room) calls;
+      whole = r .whole;
+    }
+
 -- from whole bytes on
 pub chain-runs : (s n : ℕ) (b : List ℕ) (events : List Event) (b′ : List ℕ) → Chain s n b events b′ → roomWhole s n b ≡ true
     → Runs s n (viewRoom s n b) events b′
-unfolding transcript roomAfterAll callsOf
-chain-runs s n b es b′ none w = record { events-are = refl; room-is = refl; whole = w }
-chain-runs s n b es b′ (next {b₁ = b₁} {e = e} {events = events} step chain) w =
-    let r = step-right s n b w e b₁ step in
-    let q = chain-runs s n b₁ events b′ chain (r .whole) in
-    record {
-      events-are = ap₂ (λ x l. x ∷ l) (r .sees) (q .events-are ∙ ap (λ (x : Room). transcript (sizesOf s n) x (callsOf events)) (r .room));
-      room-is = q .room-is ∙ ap (λ (x : Room). roomAfterAll (sizesOf s n) x (callsOf events)) (r .room);
-      whole = q .whole;
-    }
+chain-runs s n b events b′ c w = of-long s n (viewRoom s n b) (c .lents) events b′ (c .long) (any-chain-runs s n b (c .lents) events b′ (c .calls) w)
 
--- THE THEOREM: from the empty room
+-- a history is some calls from the empty room
+pub history-calls : (s n : ℕ) (events : List Event) (b′ : List ℕ) → (h : History s n events b′) → AnyCalls s n (h .chain .lents) events b′
+history-calls s n events b′ h = record { room = h .room; begun = h .begun; chain = h .chain .calls }
+
+-- THE THEOREM, of histories
 pub history-runs : (s n : ℕ) (events : List Event) (b′ : List ℕ) → History s n events b′ → Runs s n (emptyRoom (sizesOf s n)) events b′
 history-runs s n events b′ h =
-    subst (λ (x : Room). Runs s n x events b′) (empty-view s n (h .memory) (h .fits))
-    (chain-runs s n (emptied s n (h .memory)) events b′ (h .chain) (empty-whole s n (h .memory) (h .fits)))
+    of-long s n (emptyRoom (sizesOf s n)) (h .chain .lents) events b′ (h .chain .long) (any-calls-run s n (h .chain .lents) events b′ (history-calls s n events b′ h))
 
 -- document 01's own sizes
 pub base-history-runs : (events : List Event) (b′ : List ℕ) → History (baseSizes .seats) (baseSizes .numbers) events b′
@@ -119,11 +285,3 @@ pub history-event : (s n : ℕ) (events : List Event) (b′ : List ℕ) → Hist
     → (before : List Event) (e : Event) (later : List Event) → events ≡ before ++ (e ∷ later)
     → transcript (sizesOf s n) (emptyRoom (sizesOf s n)) (callsOf events) ≡ before ++ (e ∷ later)
 history-event s n events b′ h before e later t = sym (history-runs s n events b′ h .events-are) ∙ t
-
--- a history begins with the constructor's own contract, where it answers yes
-pub begun : (s n : ℕ) (memory b : List ℕ) → MakesEmpty s n memory true b → (events : List Event) (b′ : List ℕ) → Chain s n b events b′
-    → History s n events b′
-begun s n memory b m events b′ chain =
-    let fits = sym (m .answers) in
-    let made : b ≡ emptied s n memory = m .leaves ∙ ap (λ (t : Bool). cond t (emptied s n memory) memory) fits in
-    record { memory = memory; fits = fits; chain = subst (λ (x : List ℕ). Chain s n x events b′) made chain }

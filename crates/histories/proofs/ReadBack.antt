@@ -12,7 +12,7 @@ use Rattle.rules.specs.Call.{Answer, Sent}
 use Rattle.rules.specs.Outcome.{recordBytes, sentBytes}
 use Rattle.rules.proofs.SentLaws.{count-more}
 use Rattle.relay.specs.Calls.{written}
-use Rattle.histories.specs.History.{recordsIn, recordsRead}
+use Rattle.histories.specs.Seen.{recordsIn, recordsRead}
 
 -- lengths from here on do not fit the two bytes of a record's length
 abbrev pub tooLong : ℕ

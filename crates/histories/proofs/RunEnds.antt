@@ -2,7 +2,7 @@
 -- least their number: where before each of them 2,052 bytes of the output are left, the calls played are exactly these, in order, and the run stops because
 -- none is left (`run-ends-left`). That is so where the output has as many bytes as are written for all of them and 2,048 more (`run-ends-written`). In a whole
 -- room of at most 240 numbers whose seated keys have 32 bytes at most it is so where the output has 2,052 bytes for each call (`run-ends`), for these are
--- enough for what is written for a call: a head of 4, and no call writes more than 2,048. So the contract of a run on whole bytes then answers the end, the
+-- enough for what is written for a call: a head of 4, and no call writes more than 2,048. So `banavoge_play` on whole bytes then tells the end, the
 -- number of the calls and of their bytes, and the run is a chain of exactly these calls (`plays-all-left`, `plays-all`). Assumes nothing.
 use mathlib.Core.Path.{_≡_, refl, sym, ap, subst, _∙_}
 use mathlib.Core.Bool.{true}
@@ -27,14 +27,15 @@ use Rattle.room_laws.proofs.OutcomeLaws.{view-keys}
 use Rattle.stored.specs.Stored.{storedBytes, storedAll, Storable, firstCall, call}
 use Rattle.stored.proofs.StoredLaws.{first-within}
 use Rattle.stored.proofs.RoundTrips.{read-stored}
-use Rattle.relay.specs.declared.play.Run as code
 use Rattle.relay.specs.declared.play.Stop.the-variants.{End}
 use Rattle.relay.specs.Calls.{leastOutput}
-use Rattle.relay.specs.Play.{entryHead, entryBytes, entriesBytes, leastSpace, run, played, playing, Plays}
+use Rattle.relay.specs.Play.{entryHead, entryBytes, entriesBytes, leastSpace, run, Plays}
 use Rattle.relay.proofs.EntryLaws.{length-entry-head}
 use Rattle.relay.proofs.PlayLaws.{next-end, next-plays, firstThen, run-stops, run-plays}
+use Rattle.banavoge.specs.Answers.{ToldAs}
+use Rattle.banavoge.specs.Runs.{Counts, Telling, runTold}
 use Rattle.histories.specs.Runs.{AllStorable, runOn, writtenFor, LeftForEach, AllPlayed}
-use Rattle.histories.proofs.RunIsChain.{run-played, run-is-chain}
+use Rattle.histories.proofs.RunIsChain.{run-told, run-is-chain}
 use Rattle.histories.proofs.RunStops.{transcript-append}
 
 storable-front : (before later : List Call) → AllStorable (before ++ later) → AllStorable before
@@ -142,20 +143,19 @@ module _ (sizes : Sizes) (few : sizes .numbers ≤ 240) where
   run-ends calls a room whole keys allowance space enough fits =
       run-ends-left sizes calls a room allowance space enough (each-left calls a room whole keys space fits)
 
--- ---- of the contract, from whole bytes
+-- ---- of the export, from whole bytes
 
-module _ (s n allowance : ℕ) (calls : List Call) (b out : List ℕ) (given : code.Run) (b′ out′ : List ℕ) (whole : roomWhole s n b ≡ true)
+module _ (s n allowance : ℕ) (calls : List Call) (b out : List ℕ) (before : Counts) (t : Telling) (b′ out′ : List ℕ) (whole : roomWhole s n b ≡ true)
     (storable : AllStorable calls) (enough : length calls ≤ allowance)
-    (p : Plays s n (playing s n allowance (storedAll calls) b out) b out given b′ out′) where
-  pub plays-all-left : LeftForEach (sizesOf s n) (viewRoom s n b) calls (length out) → AllPlayed s n calls b given b′
-  unfolding played
+    (p : ToldAs (runTold before) (Plays s n allowance (storedAll calls) b out b′ out′) t) where
+  pub plays-all-left : LeftForEach (sizesOf s n) (viewRoom s n b) calls (length out) → AllPlayed s n calls b t b′
   plays-all-left left =
       let all : runOn s n allowance (storedAll calls) b out ≡ record { calls = calls; why = End } =
       run-ends-left (sizesOf s n) calls storable (viewRoom s n b) allowance (length out) enough left in
-      let r = run-played s n allowance (storedAll calls) b out given b′ out′ whole p in
-      let c = run-is-chain s n allowance (storedAll calls) b out given b′ out′ whole p in
-      (rw all at (r .answers), rw all at c)
+      let q = run-told s n allowance (storedAll calls) b out before t b′ out′ whole p in
+      let c = run-is-chain s n allowance (storedAll calls) b out before t b′ out′ whole p in
+      (rw all at q, rw all at c)
 
-  pub plays-all : length calls * leastSpace ≤ length out → AllPlayed s n calls b given b′
+  pub plays-all : length calls * leastSpace ≤ length out → AllPlayed s n calls b t b′
   plays-all fits =
       plays-all-left (each-left (sizesOf s n) (whole-few s n b whole) calls storable (viewRoom s n b) (whole-view s n b whole) (view-keys s n b) (length out) fits)

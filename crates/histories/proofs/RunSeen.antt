@@ -8,54 +8,43 @@ use Prim.Native.Nat.{ℕ, _<_}
 use native.Mathlib.Omega.{arith}
 use lib.ListN.{length, take, drop}
 use lib.Seq.{take-at, drop-at}
+use borrow.Author.Tests.{ne-eqb}
 use Rattle.refusal.specs.declared.Refusal.{Refusal}
-use Rattle.refusal.specs.declared.Refusal.the-variants.{RoomFull, AlreadySeated, NotSeated, PacketSize, UnexpectedKind, WrongLength, ZeroPing, NoSuchRoute, NotConnected, OutputTooShort, RoomNotWhole, ListSize, KeyNotHeld, ListNotWhole, UnknownFamily, NodeCutShort, BytesAfterNodes}
 use Rattle.refusal.specs.Numbers.{refusalNumber}
+use Rattle.refusal.proofs.LookedUp.{looked-up}
 use Rattle.wire.specs.Numbers.{numberOf, bytesOf}
 use Rattle.wire.proofs.Numbers.{length-bytesOf, number-bytesOf}
 use Rattle.rules.specs.Room.{Sizes, Room}
 use Rattle.rules.specs.Call.{Call, Answer, accepted, refused, Sent}
 use Rattle.rules.specs.Outcome.{sentBytes, outcome, roomAfter}
 use Rattle.rules.specs.History.{Event, event, transcript}
-use Rattle.rules.proofs.RefusedOrAccepted.{outcome-made}
 use Rattle.room.specs.View.{viewRoom}
 use Rattle.room.specs.Whole.{roomWhole}
 use Rattle.room_laws.proofs.TablesLaws.{sizesOf}
-use Rattle.room_laws.proofs.OutcomeLaws.{outcome-within}
 use Rattle.stored.specs.Stored.{storedBytes}
-use Rattle.relay.specs.declared.play.Run as code
 use Rattle.relay.specs.Calls.{written}
-use Rattle.relay.specs.Play.{entryHead, entryBytes, entriesBytes, played, playing, Plays}
+use Rattle.relay.specs.Play.{entryHead, entryBytes, entriesBytes, Plays}
 use Rattle.relay.proofs.OutcomeLeaves.{made-written}
 use Rattle.relay.proofs.EntryLaws.{length-entry-head}
-use Rattle.histories.specs.History.{seen, Chain, none, next, callsOf}
-use Rattle.histories.specs.RunSeen.{callsFrom, callsIn, refusals, answerTold, answerIn, eventsIn, runSeen}
+use Rattle.banavoge.specs.Answers.{ToldAs}
+use Rattle.banavoge.specs.Runs.{Counts, Telling, runTold}
+use Rattle.histories.specs.Seen.{seenAs}
+use Rattle.histories.specs.Lent.{Lent, lentOutcome, lentEvent}
+use Rattle.histories.specs.History.{AnyChain, none, next, Chain, callsOf}
+use Rattle.histories.specs.RunSeen.{callsFrom, callsIn, answerTold, answerIn, eventsIn, playedTold, runSeen}
 use Rattle.histories.specs.Runs.{InFront, runOn, runEvents}
 use Rattle.histories.proofs.ReadBack.{tooLong, all-short, written-read}
 use Rattle.histories.proofs.Histories.{step-right}
-use Rattle.histories.proofs.RunIsChain.{run-in-front, run-played, run-is-chain}
+use Rattle.histories.proofs.LentLaws.{lent-made, lent-within}
+use Rattle.histories.proofs.RunIsChain.{run-in-front, run-told, run-writes, run-is-chain}
 
 -- ---- one head
 
 refusal-back : (why : Refusal) (seat size : ℕ) → answerTold (refusalNumber why) seat size ≡ refused why
-unfolding answerTold refusals
-refusal-back RoomFull seat size = refl
-refusal-back AlreadySeated seat size = refl
-refusal-back NotSeated seat size = refl
-refusal-back PacketSize seat size = refl
-refusal-back UnexpectedKind seat size = refl
-refusal-back WrongLength seat size = refl
-refusal-back ZeroPing seat size = refl
-refusal-back NoSuchRoute seat size = refl
-refusal-back NotConnected seat size = refl
-refusal-back OutputTooShort seat size = refl
-refusal-back RoomNotWhole seat size = refl
-refusal-back ListSize seat size = refl
-refusal-back KeyNotHeld seat size = refl
-refusal-back ListNotWhole seat size = refl
-refusal-back UnknownFamily seat size = refl
-refusal-back NodeCutShort seat size = refl
-refusal-back BytesAfterNodes seat size = refl
+unfolding answerTold
+refusal-back why seat size =
+    let positive = looked-up why .positive in
+    rw (ne-eqb (refusalNumber why) 0 (λ e. omega arith)) (ap refused (looked-up why .found))
 
 answer-back : (given : Answer) (behind : List ℕ) → written given < tooLong → answerIn (entryHead given ++ behind) ≡ given
 unfolding answerIn answerTold entryHead written
@@ -84,13 +73,13 @@ entry-back e r behind =
     (ap answerIn s ∙ answer-back (e .answer) rest (omega arith), ap (drop 4) s ∙ drop-at head rest 4 (length-entry-head (e .answer)))
 
 pub entries-read : (events : List Event) → AllReadable events → (behind : List ℕ) → eventsIn (callsOf events) (entriesBytes events ++ behind) ≡ events
-unfolding callsOf entriesBytes eventsIn seen
+unfolding callsOf entriesBytes eventsIn seenAs
 entries-read [] r behind = refl
 entries-read (e ∷ events) r behind =
     let rest = entriesBytes events ++ behind in
     let q = entry-back e (r .0) rest in
     ap (eventsIn (e .call ∷ callsOf events)) (append-assoc (entryBytes e) (entriesBytes events) behind)
-    ∙ ap₂ (λ (a : Answer) (l : List ℕ). seen (e .call) a l ∷ eventsIn (callsOf events) (drop (written a) l)) (q .0) (q .1)
+    ∙ ap₂ (λ (a : Answer) (l : List ℕ). seenAs (e .call) a l ∷ eventsIn (callsOf events) (drop (written a) l)) (q .0) (q .1)
     ∙ ap₂ (λ (x : List Sent) (l : List ℕ). record { call = e .call; answer = e .answer; sent = x } ∷ eventsIn (callsOf events) l)
     (written-read (e .sent) (all-short (e .sent) (r .0 .1)) (e .answer) (r .0 .0) rest) (drop-at (sentBytes (e .sent)) rest (written (e .answer)) (sym (r .0 .0)))
     ∙ ap (λ (l : List Event). e ∷ l) (entries-read events (r .1) behind)
@@ -101,15 +90,18 @@ entries-one-way events events′ r r′ c e =
     sym (entries-read events r []) ∙ ap₂ (λ (l : List Call) (x : List ℕ). eventsIn l (x ++ [])) c e ∙ entries-read events′ r′ []
 
 -- every call on a whole room is seen so
-pub chain-readable : (s n : ℕ) (b : List ℕ) (events : List Event) (b′ : List ℕ) → Chain s n b events b′ → roomWhole s n b ≡ true → AllReadable events
-unfolding event
-chain-readable s n b es b′ none w = tt
-chain-readable s n b es b′ (next {b₁ = b₁} {e = e} {events = events} step chain) w =
-    let r = step-right s n b w e b₁ step in
+calls-readable : (s n : ℕ) (b : List ℕ) (lents : List Lent) (events : List Event) (b′ : List ℕ) → AnyChain s n b lents events b′ → roomWhole s n b ≡ true → AllReadable events
+unfolding lentEvent
+calls-readable s n b ls es b′ none w = tt
+calls-readable s n b ls es b′ (next {b₁ = b₁} {l = l} {e = e} {lents = lents} {events = events} step chain) w =
+    let r = step-right s n b w l e b₁ step in
     let room = viewRoom s n b in (
-      rw (r .sees) (made-written (outcome room (e .call)) (outcome-made room (e .call)), omega (arith, outcome-within s n b w (e .call))),
-      chain-readable s n b₁ events b′ chain (r .whole),
+      rw (r .sees) (made-written (lentOutcome room l) (lent-made room l), omega (arith, lent-within s n b w l)),
+      calls-readable s n b₁ lents events b′ chain (r .whole),
     )
+
+pub chain-readable : (s n : ℕ) (b : List ℕ) (events : List Event) (b′ : List ℕ) → Chain s n b events b′ → roomWhole s n b ≡ true → AllReadable events
+chain-readable s n b events b′ c = calls-readable s n b (c .lents) events b′ (c .calls)
 
 -- ---- the calls of a run
 
@@ -125,16 +117,15 @@ calls-of sizes room (c ∷ calls) = ap (λ (l : List Call). c ∷ l) (calls-of s
 
 -- ---- the theorem
 
-pub run-seen : (s n allowance : ℕ) (stored b out : List ℕ) (given : code.Run) (b′ out′ : List ℕ) → roomWhole s n b ≡ true
-    → Plays s n (playing s n allowance stored b out) b out given b′ out′ → runSeen stored given out′ ≡ runEvents s n allowance stored b out
-unfolding played runSeen
-run-seen s n allowance stored b out given b′ out′ whole p =
-    let r = run-played s n allowance stored b out given b′ out′ whole p in
+pub run-seen : (s n allowance : ℕ) (stored b out : List ℕ) (before : Counts) (t : Telling) (b′ out′ : List ℕ) → roomWhole s n b ≡ true
+    → ToldAs (runTold before) (Plays s n allowance stored b out b′ out′) t → runSeen stored t out′ ≡ runEvents s n allowance stored b out
+unfolding runSeen playedTold
+run-seen s n allowance stored b out before t b′ out′ whole p =
     let events = runEvents s n allowance stored b out in
     let calls = runOn s n allowance stored b out .calls in
     let played-are : callsIn (length calls) stored ≡ callsOf events =
     calls-read stored calls (run-in-front (sizesOf s n) allowance (viewRoom s n b) stored (length out)) ∙ sym (calls-of (sizesOf s n) (viewRoom s n b) calls) in
-    let readable = chain-readable s n b events b′ (run-is-chain s n allowance stored b out given b′ out′ whole p) whole in
-    ap₂ (runSeen stored) (r .answers) (r .writes)
+    let readable = chain-readable s n b events b′ (run-is-chain s n allowance stored b out before t b′ out′ whole p) whole in
+    ap₂ (runSeen stored) (run-told s n allowance stored b out before t b′ out′ whole p) (run-writes s n allowance stored b out before t b′ out′ whole p)
     ∙ ap (λ (l : List Call). eventsIn l (entriesBytes events ++ drop (length (entriesBytes events)) out)) played-are
     ∙ entries-read events readable (drop (length (entriesBytes events)) out)

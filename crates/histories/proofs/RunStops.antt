@@ -7,7 +7,7 @@
 --   - stopped for the output: a stored call is next, and less than 2,052 bytes of the output are left.
 --
 -- And a second run, on the bytes that are left and the room that the first returned, goes on where the first stopped, whatever its allowance and output: the
--- calls of both are the stored ones, in order, with none skipped, and their events are one transcript (`goes-on`). So two runs of the contract, the
+-- calls of both are the stored ones, in order, with none skipped, and their events are one transcript (`goes-on`). So two runs of `banavoge_play`, the
 -- second on what the first left, are one chain of the single calls (`plays-go-on`). Assumes nothing.
 use mathlib.Core.Path.{_≡_, refl, sym, ap, ap₂, subst, _∙_}
 use mathlib.Core.Bool.{Bool, true, false, false≢true, cond}
@@ -15,9 +15,11 @@ use mathlib.Core.List.{List, [], _∷_, _++_}
 use Prim.Native.Nat.{ℕ, zero, suc, _-_, _≤_, _<_}
 use native.Mathlib.Omega.{arith}
 use lib.Dec.{eqb, leb}
+use lib.IntN.{pos}
 use lib.ListN.{length, drop, length-append, length-drop}
 use lib.Seq.{drop-drop}
 use borrow.Author.Tests.{leb-false, eqb-true, eqb-false}
+use Rattle.refusal.specs.declared.Refusal.the-variants.{RoomNotWhole}
 use Rattle.rules.specs.Room.{Sizes, Room}
 use Rattle.rules.specs.Call.{Call}
 use Rattle.rules.specs.Outcome.{outcome, roomAfter}
@@ -31,12 +33,14 @@ use Rattle.stored.proofs.StoredLaws.{first-within}
 use Rattle.relay.specs.declared.play.Run as code
 use Rattle.relay.specs.declared.play.Stop.{Stop}
 use Rattle.relay.specs.declared.play.Stop.the-variants.{End, NoCall, Allowance, Output}
-use Rattle.relay.specs.Play.{entryBytes, entriesBytes, Next, stops, plays, leastSpace, nextCall, next, Run, goOn, run, played, playing, Plays}
+use Rattle.relay.specs.Play.{entryBytes, entriesBytes, Next, stops, plays, leastSpace, nextCall, next, Run, goOn, run, played, Playing, playing, Plays}
 use Rattle.relay.proofs.PlayLaws.{next-is, ended, firstThen, restOf}
+use Rattle.banavoge.specs.Answers.{refusalCode, ToldAs}
+use Rattle.banavoge.specs.Runs.{stopNumber, runCode, Counts, Telling, telling, runTold}
 use Rattle.histories.specs.History.{Chain}
 use Rattle.histories.specs.Runs.{InFront, runOn, runEvents, readBy, writtenFor, StoppedThere, CallNext, StopMeans}
 use Rattle.histories.proofs.Histories.{chain-runs}
-use Rattle.histories.proofs.RunIsChain.{chain-append, run-in-front, run-played, run-is-chain}
+use Rattle.histories.proofs.RunIsChain.{chain-append, run-in-front, run-told, run-is-chain}
 use Rattle.histories.proofs.RunSeen.{calls-of}
 
 -- ---- where a run stops
@@ -163,21 +167,66 @@ run-stop-means sizes allowance room stored space =
         go zero e = absurd (f e)
         go (suc k) e = let left = length-drop read stored in omega arith
 
--- of the contract, from whole bytes
-pub stop-means : (s n allowance : ℕ) (stored b out : List ℕ) (given : code.Run) (b′ out′ : List ℕ) → roomWhole s n b ≡ true
-    → Plays s n (playing s n allowance stored b out) b out given b′ out′ → (why : Stop) (calls read written : ℕ)
-    → given ≡ code.the-variants.Stopped why calls read written → StopMeans allowance stored (length out) why calls read written
-unfolding played
-stop-means s n allowance stored b out given b′ out′ whole p why calls read written e =
+-- a number tells one ground to stop
+stopWith : ℕ → Stop
+stopWith zero = End
+stopWith (suc zero) = NoCall
+stopWith (suc (suc zero)) = Allowance
+stopWith (suc (suc (suc more))) = Output
+
+stop-told : (why : Stop) → stopWith (stopNumber why) ≡ why
+unfolding stopNumber stopWith
+stop-told End = refl
+stop-told NoCall = refl
+stop-told Allowance = refl
+stop-told Output = refl
+
+-- what is told of a run is told of its ground and of its counts
+record SameTold (why why′ : Stop) (calls calls′ read read′ written written′ : ℕ) : Type 0 where
+  pub ground : why ≡ why′
+  pub calls-same : calls ≡ calls′
+  pub read-same : read ≡ read′
+  pub written-same : written ≡ written′
+
+same-told : (why why′ : Stop) (calls calls′ read read′ written written′ : ℕ)
+    → telling (pos (stopNumber why)) calls read written ≡ telling (pos (stopNumber why′)) calls′ read′ written′ → SameTold why why′ calls calls′ read read′ written written′
+same-told why why′ calls calls′ read read′ written written′ e =
+    let answers : pos (stopNumber why) ≡ pos (stopNumber why′) = ap (λ (t : Telling). t .answer) e in
+    let numbers : stopNumber why ≡ stopNumber why′ = cc in
+    record {
+      ground = sym (stop-told why) ∙ ap stopWith numbers ∙ stop-told why′;
+      calls-same = ap (λ (t : Telling). t .counts .played) e;
+      read-same = ap (λ (t : Telling). t .counts .read) e;
+      written-same = ap (λ (t : Telling). t .counts .written) e;
+    }
+
+-- a run that is told to have stopped was on a whole room
+told-whole : (s n allowance : ℕ) (stored b out b′ out′ : List ℕ) (before : Counts) (number calls read written : ℕ)
+    → ToldAs (runTold before) (Plays s n allowance stored b out b′ out′) (telling (pos number) calls read written) → roomWhole s n b ≡ true
+unfolding playing runTold runCode refusalCode
+told-whole s n allowance stored b out b′ out′ before number calls read written p =
+    go (roomWhole s n b) refl (ap (λ (t : Telling). t .answer) (p .codes ∙ ap (runTold before) (p .relates .answers)))
+  where
+    ran : Playing
+    ran = played (sizesOf s n) (viewRoom s n b) (runOn s n allowance stored b out)
+
+    go : (t : Bool) → roomWhole s n b ≡ t
+        → pos number ≡ runCode (cond t ran (record { answer = code.the-variants.Refused RoomNotWhole; changes = []; bytes = [] }) .answer) → roomWhole s n b ≡ true
+    go true w e = w
+    go false w e = let z : _≡_ {A = ℕ} 0 1 = cc in absurd (omega arith)
+
+-- of the export
+pub stop-means : (s n allowance : ℕ) (stored b out : List ℕ) (before : Counts) (b′ out′ : List ℕ) (why : Stop) (calls read written : ℕ)
+    → ToldAs (runTold before) (Plays s n allowance stored b out b′ out′) (telling (pos (stopNumber why)) calls read written)
+    → StopMeans allowance stored (length out) why calls read written
+stop-means s n allowance stored b out before b′ out′ why calls read written p =
+    let whole = told-whole s n allowance stored b out b′ out′ before (stopNumber why) calls read written p in
     let r = runOn s n allowance stored b out in
     let room = viewRoom s n b in
-    let same : code.the-variants.Stopped (r .why) (length (r .calls)) (readBy (r .calls)) (writtenFor (sizesOf s n) room (r .calls))
-    ≡ code.the-variants.Stopped why calls read written = sym (run-played s n allowance stored b out given b′ out′ whole p .answers) ∙ e in
-    let w : r .why ≡ why = cc in
-    let c : length (r .calls) ≡ calls = cc in
-    let x : readBy (r .calls) ≡ read = cc in
-    let y : writtenFor (sizesOf s n) room (r .calls) ≡ written = cc in
-    rw (← w, ← c, ← x, ← y) (run-stop-means (sizesOf s n) allowance room stored (length out))
+    let t = telling (pos (stopNumber why)) calls read written in
+    let q = same-told (r .why) why (length (r .calls)) calls (readBy (r .calls)) read (writtenFor (sizesOf s n) room (r .calls)) written
+    (sym (run-told s n allowance stored b out before t b′ out′ whole p)) in
+    rw (← q .ground, ← q .calls-same, ← q .read-same, ← q .written-same) (run-stop-means (sizesOf s n) allowance room stored (length out))
 
 -- ---- a second run
 
@@ -219,29 +268,29 @@ module _ (sizes : Sizes) (allowance₁ allowance₂ : ℕ) (room : Room) (stored
     transcript-append sizes room (firstRun .calls) (secondRun .calls),
   )
 
--- of the contract, from whole bytes: the second run is on the room that the first left and on the stored bytes behind those that its answer counts
-pub plays-go-on : (s n allowance₁ allowance₂ : ℕ) (stored b out₁ out₂ : List ℕ) (given₁ given₂ : code.Run) (b₁ out₁′ b₂ out₂′ : List ℕ) → roomWhole s n b ≡ true
-    → Plays s n (playing s n allowance₁ stored b out₁) b out₁ given₁ b₁ out₁′ → (why : Stop) (calls read written : ℕ)
-    → given₁ ≡ code.the-variants.Stopped why calls read written
-    → Plays s n (playing s n allowance₂ (drop read stored) b₁ out₂) b₁ out₂ given₂ b₂ out₂′
+-- of the export: the second run is on the room that the first left and on the stored bytes behind those that the first counts
+pub plays-go-on : (s n allowance₁ allowance₂ : ℕ) (stored b out₁ out₂ : List ℕ) (before₁ before₂ : Counts) (why : Stop) (calls read written : ℕ) (t₂ : Telling)
+    (b₁ out₁′ b₂ out₂′ : List ℕ)
+    → ToldAs (runTold before₁) (Plays s n allowance₁ stored b out₁ b₁ out₁′) (telling (pos (stopNumber why)) calls read written)
+    → ToldAs (runTold before₂) (Plays s n allowance₂ (drop read stored) b₁ out₂ b₂ out₂′) t₂
     → let both = runOn s n allowance₁ stored b out₁ .calls ++ runOn s n allowance₂ (drop read stored) b₁ out₂ .calls in
     InFront stored both × Chain s n b (transcript (sizesOf s n) (viewRoom s n b) both) b₂
-unfolding played
-plays-go-on s n allowance₁ allowance₂ stored b out₁ out₂ given₁ given₂ b₁ out₁′ b₂ out₂′ whole p₁ why calls read written e p₂ =
+plays-go-on s n allowance₁ allowance₂ stored b out₁ out₂ before₁ before₂ why calls read written t₂ b₁ out₁′ b₂ out₂′ p₁ p₂ =
+    let whole = told-whole s n allowance₁ stored b out₁ b₁ out₁′ before₁ (stopNumber why) calls read written p₁ in
     let sizes = sizesOf s n in
     let room = viewRoom s n b in
     let r = runOn s n allowance₁ stored b out₁ in
     let later = runOn s n allowance₂ (drop read stored) b₁ out₂ .calls in
-    let same : code.the-variants.Stopped (r .why) (length (r .calls)) (readBy (r .calls)) (writtenFor sizes room (r .calls))
-    ≡ code.the-variants.Stopped why calls read written = sym (run-played s n allowance₁ stored b out₁ given₁ b₁ out₁′ whole p₁ .answers) ∙ e in
-    let x : readBy (r .calls) ≡ read = cc in
-    let chain = run-is-chain s n allowance₁ stored b out₁ given₁ b₁ out₁′ whole p₁ in
+    let t₁ = telling (pos (stopNumber why)) calls read written in
+    let q = same-told (r .why) why (length (r .calls)) calls (readBy (r .calls)) read (writtenFor sizes room (r .calls)) written
+    (sym (run-told s n allowance₁ stored b out₁ before₁ t₁ b₁ out₁′ whole p₁)) in
+    let chain = run-is-chain s n allowance₁ stored b out₁ before₁ t₁ b₁ out₁′ whole p₁ in
     let events = runEvents s n allowance₁ stored b out₁ in
     let c = chain-runs s n b events b₁ chain whole in
     let room-is : viewRoom s n b₁ ≡ roomAfterAll sizes room (r .calls) = c .room-is ∙ ap (roomAfterAll sizes room) (calls-of sizes room (r .calls)) in
-    let joined = chain-append chain (run-is-chain s n allowance₂ (drop read stored) b₁ out₂ given₂ b₂ out₂′ (c .whole) p₂) in
+    let joined = chain-append chain (run-is-chain s n allowance₂ (drop read stored) b₁ out₂ before₂ t₂ b₂ out₂′ (c .whole) p₂) in
     let events-are = ap (λ (y : Room). events ++ transcript sizes y later) room-is ∙ sym (transcript-append sizes room (r .calls) later) in (
       in-front-append stored (r .calls) later (run-in-front sizes allowance₁ room stored (length out₁))
-          (subst (λ (k : ℕ). InFront (drop k stored) later) (sym x) (run-in-front sizes allowance₂ (viewRoom s n b₁) (drop read stored) (length out₂))),
+          (subst (λ (k : ℕ). InFront (drop k stored) later) (sym (q .read-same)) (run-in-front sizes allowance₂ (viewRoom s n b₁) (drop read stored) (length out₂))),
       subst (λ (l : List Event). Chain s n b l b₂) events-are joined,
     )

@@ -1,60 +1,67 @@
 -- Histories as the host makes them. Document 01, "The record for a client": "A history is any sequence of Arrive, Leave and packet calls, with any bytes,
 -- refused ones included. The first gets the empty room, each later one the room that the last returned; nothing else writes the room meanwhile. Each lent
--- output is long enough that 10 is not given." The room is lent bytes, for s seats with n connection numbers each. A step is the contract of a public call on
--- the bytes given and left; an event is read off the call, the answer and the bytes of the output alone.
-use mathlib.Core.Bool.{true}
+-- output is long enough that 10 is not given." The room is lent bytes, for s seats with n connection numbers each. A step is the relation that the contract of
+-- an exported call states (`banavoge`, `ToldAs`; held in `contracts`), on the bytes given and left, and is seen by the number that the export answers.
 use mathlib.Core.List.{List, [], _∷_}
 use mathlib.Core.Path.{_≡_}
-use Prim.Native.Nat.{ℕ, zero, suc, _≤_}
-use lib.ListN.{length, take, drop}
-use Rattle.wire.specs.Numbers.{numberOf}
+use Prim.Native.Nat.{ℕ}
+use lib.IntN.{ℤ, pos}
+use Rattle.refusal.specs.declared.Refusal.the-variants.{OutputTooShort}
 use Rattle.rules.specs.Room.{Key}
-use Rattle.rules.specs.Call.{Call, arrive, leave, packetCall, Answer, Sent}
+use Rattle.rules.specs.Call.{Call, arrive, leave, packetCall}
 use Rattle.rules.specs.History.{Event}
-use Rattle.room.specs.Layout.{fitsRoom}
-use Rattle.room.specs.Store.{emptied}
-use Rattle.relay.specs.Calls.{written, Leaves, leastOutput, tested, withOutput}
+use Rattle.room.specs.Store.{MakesEmpty}
+use Rattle.relay.specs.Calls.{Arrives, Departs, Sends}
+use Rattle.banavoge.specs.Answers.{ToldAs}
+use Rattle.banavoge.specs.Rooms.{doneOr}
+use Rattle.banavoge.specs.RelayCalls.{seatCode, countCode}
+use Rattle.histories.specs.Seen.{seen}
+use Rattle.histories.specs.Lent.{Lent, lentWith, AllLong}
 
--- ---- what the host sees of a call
+-- ---- one call
 
--- the records in a run of bytes, up to `most` of them: "What is sent is a run of records in the lent output: seat (1 byte), length (2), the packet."
-unfoldable pub recordsIn : ℕ → List ℕ → List Sent
-recordsIn zero bytes = []
-recordsIn (suc most) [] = []
-recordsIn (suc most) (seat ∷ rest) =
-    let size = numberOf (take 2 rest) in
-    record { seat = seat; bytes = take size (drop 2 rest) } ∷ recordsIn most (drop size (drop 2 rest))
+-- `banavoge_arrive`, `banavoge_leave` or `banavoge_packet`, the call l, on the room's bytes b: it leaves b′ and is seen as e. An Arrive is lent no output; the
+-- output lent to a Leave or a packet has any length
+pub data Step (s n : ℕ) (b : List ℕ) (l : Lent) (e : Event) (b′ : List ℕ) : Type 0 where
+  arrives : (key : Key) (number : ℤ) → ToldAs seatCode (Arrives s n key b b′) number
+      → l ≡ lentWith (arrive key) [] → e ≡ seen (arrive key) number [] → Step s n b l e b′
+  departs : (seat : ℕ) (out out′ : List ℕ) (number : ℤ) → ToldAs countCode (Departs s n seat b out b′ out′) number
+      → l ≡ lentWith (leave seat) out → e ≡ seen (leave seat) number out′ → Step s n b l e b′
+  sends : (seat : ℕ) (bytes out out′ : List ℕ) (number : ℤ) → ToldAs countCode (Sends s n seat bytes b out b′ out′) number
+      → l ≡ lentWith (packetCall seat bytes) out → e ≡ seen (packetCall seat bytes) number out′ → Step s n b l e b′
 
--- the records that a call wrote: those in the bytes that its answer counts, of which there are no more than bytes
-unfoldable pub recordsRead : Answer → List ℕ → List Sent
-recordsRead given out = recordsIn (written given) (take (written given) out)
+-- ---- one after the other
 
--- the call, its answer, and the records in the output that it left
-unfoldable pub seen : Call → Answer → List ℕ → Event
-seen call given out = record { call = call; answer = given; sent = recordsRead given out }
+-- "each later one the room that the last returned": with any outputs
+pub data AnyChain (s n : ℕ) : List ℕ → List Lent → List Event → List ℕ → Type 0 where
+  none : {b : List ℕ} → AnyChain s n b [] [] b
+  next : {b b₁ b′ : List ℕ} {l : Lent} {e : Event} {lents : List Lent} {events : List Event}
+      → Step s n b l e b₁ → AnyChain s n b₁ lents events b′ → AnyChain s n b (l ∷ lents) (e ∷ events) b′
 
--- ---- histories
+-- with outputs that are long enough
+pub record Chain (s n : ℕ) (b : List ℕ) (events : List Event) (b′ : List ℕ) : Type 0 where
+  pub lents : List Lent
+  pub calls : AnyChain s n b lents events b′
+  pub long : AllLong lents
 
--- one call on the room's bytes b, which leaves b′ and is seen as e. The code's answer r is `answerOf r` here. An Arrive is lent no output, and its key has 32
--- bytes; the output lent to a Leave or a packet is long enough
-pub data Step (s n : ℕ) (b : List ℕ) (e : Event) (b′ : List ℕ) : Type 0 where
-  arrives : (key : Key) (given : Answer) → length key ≡ 32
-      → Leaves s n (tested s n b (arrive key)) b [] given b′ [] → e ≡ seen (arrive key) given [] → Step s n b e b′
-  leaves : (seat : ℕ) (given : Answer) (out out′ : List ℕ) → leastOutput ≤ length out
-      → Leaves s n (withOutput s n b out (leave seat)) b out given b′ out′ → e ≡ seen (leave seat) given out′ → Step s n b e b′
-  sends : (seat : ℕ) (bytes : List ℕ) (given : Answer) (out out′ : List ℕ) → leastOutput ≤ length out
-      → Leaves s n (withOutput s n b out (packetCall seat bytes)) b out given b′ out′ → e ≡ seen (packetCall seat bytes) given out′ → Step s n b e b′
+-- ---- from the empty room
 
--- calls one after the other: "each later one the room that the last returned"
-pub data Chain (s n : ℕ) : List ℕ → List Event → List ℕ → Type 0 where
-  none : {b : List ℕ} → Chain s n b [] b
-  next : {b b₁ b′ : List ℕ} {e : Event} {events : List Event} → Step s n b e b₁ → Chain s n b₁ events b′ → Chain s n b (e ∷ events) b′
-
--- "The first gets the empty room": what the room's constructor makes of memory that fits a room
-pub record History (s n : ℕ) (events : List Event) (b′ : List ℕ) : Type 0 where
+-- "The first gets the empty room": what `banavoge_room_empty` leaves of some memory where it answers 0
+pub record BeginsEmpty (s n : ℕ) (b : List ℕ) : Type 0 where
   pub memory : List ℕ
-  pub fits : fitsRoom s n memory ≡ true
-  pub chain : Chain s n (emptied s n memory) events b′
+  pub empties : ToldAs (doneOr OutputTooShort) (MakesEmpty s n memory b) (pos 0)
+
+-- any calls from the empty room, with any outputs
+pub record AnyCalls (s n : ℕ) (lents : List Lent) (events : List Event) (b′ : List ℕ) : Type 0 where
+  pub room : List ℕ
+  pub begun : BeginsEmpty s n room
+  pub chain : AnyChain s n room lents events b′
+
+-- a history
+pub record History (s n : ℕ) (events : List Event) (b′ : List ℕ) : Type 0 where
+  pub room : List ℕ
+  pub begun : BeginsEmpty s n room
+  pub chain : Chain s n room events b′
 
 -- the calls of a history
 unfoldable pub callsOf : List Event → List Call

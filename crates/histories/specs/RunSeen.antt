@@ -1,20 +1,20 @@
 -- What the host sees of a run of stored calls: the calls that the run played, read at the front of the stored ones, and for each the event in the output. A run
--- writes for each call refusal (1 byte, 0 for none), seat (1), length (2) and the records. The stored bytes, the run's answer and the output are all that is
--- read: nothing here can see a room.
+-- writes for each call refusal (1 byte, 0 for none), seat (1), length (2) and the records. The stored bytes, what `banavoge_play` tells and the output are all
+-- that is read: nothing here can see a room.
 use mathlib.Core.Bool.{cond}
 use mathlib.Core.List.{List, [], _∷_}
-use Prim.Native.Nat.{ℕ, zero, suc, _-_}
+use Prim.Native.Nat.{ℕ, zero, suc}
+use lib.IntN.{ℤ, pos, negsuc}
 use lib.Dec.{eqb}
 use lib.ListN.{length, getD, take, drop}
-use Rattle.refusal.specs.declared.Refusal.{Refusal}
-use Rattle.refusal.specs.declared.Refusal.the-variants.{RoomFull, AlreadySeated, NotSeated, PacketSize, UnexpectedKind, WrongLength, ZeroPing, NoSuchRoute, NotConnected, OutputTooShort, RoomNotWhole, ListSize, KeyNotHeld, ListNotWhole, UnknownFamily, NodeCutShort, BytesAfterNodes}
+use Rattle.refusal.specs.Numbers.{refusalOf}
 use Rattle.wire.specs.Numbers.{numberOf}
 use Rattle.rules.specs.Call.{Call, Answer, accepted, refused}
 use Rattle.rules.specs.History.{Event}
 use Rattle.stored.specs.Stored.{storedBytes, First, none, call, firstCall}
-use Rattle.relay.specs.declared.play.Run as code
 use Rattle.relay.specs.Calls.{written}
-use Rattle.histories.specs.History.{seen}
+use Rattle.banavoge.specs.Runs.{Telling}
+use Rattle.histories.specs.Seen.{seenAs}
 
 -- ---- the calls that were played
 
@@ -29,31 +29,9 @@ callsIn (suc more) stored = callsFrom (firstCall stored) (λ c. callsIn more (dr
 
 -- ---- their events
 
--- the refusals in the order of their numbers, which begin at 1
-unfoldable pub refusals : List Refusal
-refusals =
-    RoomFull
-    ∷ AlreadySeated
-    ∷ NotSeated
-    ∷ PacketSize
-    ∷ UnexpectedKind
-    ∷ WrongLength
-    ∷ ZeroPing
-    ∷ NoSuchRoute
-    ∷ NotConnected
-    ∷ OutputTooShort
-    ∷ RoomNotWhole
-    ∷ ListSize
-    ∷ KeyNotHeld
-    ∷ ListNotWhole
-    ∷ UnknownFamily
-    ∷ NodeCutShort
-    ∷ BytesAfterNodes
-    ∷ []
-
 -- the answer that a head tells: refusal, seat and length
 unfoldable pub answerTold : ℕ → ℕ → ℕ → Answer
-answerTold refusal seat size = cond (eqb refusal 0) (accepted seat size) (refused (getD refusals (refusal - 1) RoomFull))
+answerTold refusal seat size = cond (eqb refusal 0) (accepted seat size) (refused (refusalOf refusal))
 
 unfoldable pub answerIn : List ℕ → Answer
 answerIn out = answerTold (getD out 0 0) (getD out 1 0) (numberOf (take 2 (drop 2 out)))
@@ -61,8 +39,12 @@ answerIn out = answerTold (getD out 0 0) (getD out 1 0) (numberOf (take 2 (drop 
 -- each entry is seen as the output of a single call is: its answer, and the records behind its head
 unfoldable pub eventsIn : List Call → List ℕ → List Event
 eventsIn [] out = []
-eventsIn (c ∷ calls) out = seen c (answerIn out) (drop 4 out) ∷ eventsIn calls (drop (written (answerIn out)) (drop 4 out))
+eventsIn (c ∷ calls) out = seenAs c (answerIn out) (drop 4 out) ∷ eventsIn calls (drop (written (answerIn out)) (drop 4 out))
 
-unfoldable pub runSeen : List ℕ → code.Run → List ℕ → List Event
-runSeen stored (code.the-variants.Stopped why played read wrote) out = eventsIn (callsIn played stored) out
-runSeen stored (code.the-variants.Refused why) out = []
+-- how many calls were played: what is told, or none where the run was refused
+unfoldable pub playedTold : ℤ → ℕ → ℕ
+playedTold (pos why) played = played
+playedTold (negsuc less) played = 0
+
+unfoldable pub runSeen : List ℕ → Telling → List ℕ → List Event
+runSeen stored t out = eventsIn (callsIn (playedTold (t .answer) (t .counts .played)) stored) out

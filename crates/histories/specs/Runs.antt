@@ -1,22 +1,22 @@
 -- What is said of runs of stored calls: which calls they play, what they are next to the single calls, what a stop means, and when they play every call. The
--- room is lent bytes, for s seats with n connection numbers each; a run is the contract of `play` on the bytes given and left.
-use mathlib.Core.Bool.{true}
+-- room is lent bytes, for s seats with n connection numbers each; a run is the relation that the contract of `banavoge_play` states, on the bytes given and
+-- left, and is told by a number and three counts.
 use mathlib.Core.List.{List, [], _∷_, _++_}
 use mathlib.Core.Path.{_≡_}
 use Prim.Native.Nat.{ℕ, _+_, _-_, _≤_, _<_}
+use lib.IntN.{pos}
 use lib.ListN.{length, drop}
 use Rattle.rules.specs.Room.{Sizes, Room}
 use Rattle.rules.specs.Call.{Call}
 use Rattle.rules.specs.History.{Event, transcript}
-use Rattle.room.specs.Layout.{fitsRoom}
 use Rattle.room.specs.View.{viewRoom}
-use Rattle.room.specs.Store.{emptied}
 use Rattle.stored.specs.Stored.{storedBytes, storedAll, Storable, none, call, firstCall}
-use Rattle.relay.specs.declared.play.Run as code
 use Rattle.relay.specs.declared.play.Stop.{Stop}
 use Rattle.relay.specs.declared.play.Stop.the-variants.{End, NoCall, Allowance, Output}
-use Rattle.relay.specs.Play.{entriesBytes, stops, leastSpace, next, Run, run, playing, Plays}
-use Rattle.histories.specs.History.{Chain, callsOf}
+use Rattle.relay.specs.Play.{entriesBytes, stops, leastSpace, next, Run, run, Plays}
+use Rattle.banavoge.specs.Answers.{ToldAs}
+use Rattle.banavoge.specs.Runs.{stopNumber, Counts, Telling, telling, runTold}
+use Rattle.histories.specs.History.{Chain, BeginsEmpty, callsOf}
 
 -- ---- the calls of a run
 
@@ -46,21 +46,22 @@ writtenFor sizes room calls = length (entriesBytes (transcript sizes room calls)
 
 -- ---- next to the single calls
 
--- a run that answered `given` and left b′ and out′, and single calls from the same bytes that left `left`: the same events, the same bytes, and in the output
--- of the run what it writes for these events, counted in its answer
-pub record SameAsRun (s n allowance : ℕ) (stored b out : List ℕ) (given : code.Run) (b′ out′ : List ℕ) (events : List Event) (left : List ℕ) : Type 0 where
+-- a run of which the host was told t, and which left b′ and out′, and single calls from the same bytes that left `left`: the same events, the same bytes, and in
+-- the output of the run what it writes for these events, counted in what is told
+pub record SameAsRun (s n allowance : ℕ) (stored b out : List ℕ) (t : Telling) (b′ out′ : List ℕ) (events : List Event) (left : List ℕ) : Type 0 where
   pub events-are : events ≡ runEvents s n allowance stored b out
   pub leaves : left ≡ b′
   pub writes : out′ ≡ entriesBytes events ++ drop (length (entriesBytes events)) out
-  pub answers : given ≡ code.the-variants.Stopped (runOn s n allowance stored b out .why) (length events) (length (storedAll (callsOf events))) (length (entriesBytes events))
+  pub tells : t ≡ telling (pos (stopNumber (runOn s n allowance stored b out .why))) (length events) (length (storedAll (callsOf events))) (length (entriesBytes events))
 
--- a run of stored calls on what the empty room's constructor leaves: its answer, the bytes of the room and the output at the end
-pub record RunFromEmpty (s n : ℕ) (stored : List ℕ) (given : code.Run) (b′ out′ : List ℕ) : Type 0 where
-  pub memory : List ℕ
+-- a run of stored calls on what `banavoge_room_empty` leaves: what is told, the bytes of the room and the output at the end
+pub record RunFromEmpty (s n : ℕ) (stored : List ℕ) (t : Telling) (b′ out′ : List ℕ) : Type 0 where
+  pub room : List ℕ
+  pub begun : BeginsEmpty s n room
   pub allowance : ℕ
   pub out : List ℕ
-  pub fits : fitsRoom s n memory ≡ true
-  pub plays : Plays s n (playing s n allowance stored (emptied s n memory) out) (emptied s n memory) out given b′ out′
+  pub before : Counts
+  pub plays : ToldAs (runTold before) (Plays s n allowance stored room out b′ out′) t
 
 -- ---- what a stop means
 
@@ -89,8 +90,8 @@ abbrev pub LeftForEach : Sizes → Room → List Call → ℕ → Type 0
 LeftForEach sizes room calls space =
     (before : List Call) (c : Call) (behind : List Call) → calls ≡ before ++ (c ∷ behind) → writtenFor sizes room before + leastSpace ≤ space
 
--- a run from b answered `given` and left b′: none of the stored calls is left, and the run is a chain of exactly these
-abbrev pub AllPlayed : ℕ → ℕ → List Call → List ℕ → code.Run → List ℕ → Type 0
-AllPlayed s n calls b given b′ =
+-- a run from b told t and left b′: none of the stored calls is left, and the run is a chain of exactly these
+abbrev pub AllPlayed : ℕ → ℕ → List Call → List ℕ → Telling → List ℕ → Type 0
+AllPlayed s n calls b t b′ =
     let events = transcript (record { seats = s; numbers = n }) (viewRoom s n b) calls in
-    (given ≡ code.the-variants.Stopped End (length calls) (length (storedAll calls)) (length (entriesBytes events))) × Chain s n b events b′
+    (t ≡ telling (pos (stopNumber End)) (length calls) (length (storedAll calls)) (length (entriesBytes events))) × Chain s n b events b′

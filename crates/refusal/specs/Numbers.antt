@@ -1,5 +1,8 @@
--- Document 01, "Refusal numbers": the table, row by row.
+-- Document 01, "Refusal numbers": the table, row by row, and the table looked up by number.
+use mathlib.Core.Bool.{cond}
+use mathlib.Core.List.{List, [], _∷_}
 use Prim.Native.Nat.{ℕ}
+use lib.Dec.{eqb}
 use Rattle.refusal.specs.declared.Refusal.{Refusal}
 use Rattle.refusal.specs.declared.Refusal.the-variants.{RoomFull, AlreadySeated, NotSeated, PacketSize, UnexpectedKind, WrongLength, ZeroPing, NoSuchRoute, NotConnected, OutputTooShort, RoomNotWhole, ListSize, KeyNotHeld, ListNotWhole, UnknownFamily, NodeCutShort, BytesAfterNodes}
 
@@ -38,3 +41,34 @@ refusalNumber UnknownFamily = 15
 refusalNumber NodeCutShort = 16
 -- "bytes left after four nodes"
 refusalNumber BytesAfterNodes = 17
+
+-- every refusal
+unfoldable pub refusals : List Refusal
+refusals =
+    RoomFull
+    ∷ AlreadySeated
+    ∷ NotSeated
+    ∷ PacketSize
+    ∷ UnexpectedKind
+    ∷ WrongLength
+    ∷ ZeroPing
+    ∷ NoSuchRoute
+    ∷ NotConnected
+    ∷ OutputTooShort
+    ∷ RoomNotWhole
+    ∷ ListSize
+    ∷ KeyNotHeld
+    ∷ ListNotWhole
+    ∷ UnknownFamily
+    ∷ NodeCutShort
+    ∷ BytesAfterNodes
+    ∷ []
+
+-- the first of these with a number; `other` where none has it
+unfoldable pub withNumber : ℕ → List Refusal → Refusal → Refusal
+withNumber number [] other = other
+withNumber number (why ∷ rest) other = cond (eqb (refusalNumber why) number) why (withNumber number rest other)
+
+-- the refusal with a number. No call answers a number that the table lacks; for such a number this is the table's first row
+unfoldable pub refusalOf : ℕ → Refusal
+refusalOf number = withNumber number refusals RoomFull

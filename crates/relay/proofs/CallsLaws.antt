@@ -1,20 +1,23 @@
 -- The tests before a step: the output, then the room; and the one before a run.
 use mathlib.Core.Path.{_≡_, refl}
-use mathlib.Core.Bool.{true, false}
+use mathlib.Core.Bool.{Bool, true, false, cond}
 use mathlib.Core.List.{List}
 use Prim.Native.Nat.{ℕ, _≤_, _<_}
+use lib.Dec.{leb}
 use lib.ListN.{length}
 use borrow.Author.Tests.{le-leb, lt-leb}
+use Rattle.refusal.specs.declared.Refusal.{Refusal}
 use Rattle.refusal.specs.declared.Refusal.the-variants.{OutputTooShort, RoomNotWhole}
 use Rattle.rules.specs.Call.{Call, Answer, refused}
-use Rattle.rules.specs.Outcome.{outcome}
+use Rattle.rules.specs.Outcome.{Outcome, refuse, outcome}
+use Rattle.rules.proofs.RefusedOrAccepted.{RefusedOrAccepted, refusal, outcome-made}
 use Rattle.room.specs.View.{viewRoom}
 use Rattle.room.specs.Whole.{roomWhole}
 use Rattle.room.specs.Store.{storeAll}
 use Rattle.relay.specs.declared.play.Run.{Run}
 use Rattle.relay.specs.declared.play.Run.the-variants.{Refused}
-use Rattle.relay.specs.Calls.{Leaves, tested, withOutput, leastOutput}
-use Rattle.relay.specs.Play.{Plays, playing}
+use Rattle.relay.specs.Calls.{Leaves, tested, needed, ifLong, withOutput}
+use Rattle.relay.specs.Play.{playing, Plays}
 use Rattle.relay.specs.PlaySteps.{RunsOn}
 use Rattle.relay.proofs.OutcomeLeaves.{leaves-refused}
 
@@ -27,20 +30,43 @@ module _ (s n : ℕ) (b out : List ℕ) (call : Call) where
   unfolding tested
   is-tested e given b′ out′ w = rw e w
 
-  pub too-short : length out < leastOutput → Leaves s n (withOutput s n b out call) b out (refused OutputTooShort) b out
-  unfolding withOutput
-  too-short h = rw (lt-leb leastOutput (length out) h) (leaves-refused s n b out OutputTooShort)
+  pub too-short : length out < needed call → Leaves s n (withOutput s n b out call) b out (refused OutputTooShort) b out
+  unfolding withOutput ifLong
+  too-short h = rw (lt-leb (needed call) (length out) h) (leaves-refused s n b out OutputTooShort)
 
-  pub long-enough : leastOutput ≤ length out → (given : Answer) (b′ out′ : List ℕ) → Leaves s n (tested s n b call) b out given b′ out′ → Leaves s n (withOutput s n b out call) b out given b′ out′
-  unfolding withOutput
-  long-enough h given b′ out′ w = rw (le-leb leastOutput (length out) h) w
+  pub long-enough : needed call ≤ length out → (given : Answer) (b′ out′ : List ℕ) → Leaves s n (tested s n b call) b out given b′ out′ → Leaves s n (withOutput s n b out call) b out given b′ out′
+  unfolding withOutput ifLong
+  long-enough h given b′ out′ w = rw (le-leb (needed call) (length out) h) w
+
+-- what holds of a step, and of the refusal for a short output, holds of the step with any output
+pub by-length : (P : Outcome → Type 0) (space : ℕ) (call : Call) (o : Outcome) → P o → P (refuse OutputTooShort) → P (ifLong space call o)
+unfolding ifLong
+by-length P space call o long short = go (leb (needed call) space)
+  where
+    go : (t : Bool) → P (cond t o (refuse OutputTooShort))
+    go true = long
+    go false = short
+
+-- what holds of the step and of every refusal holds of the call on lent memory
+pub by-call : (P : Outcome → Type 0) (s n : ℕ) (b out : List ℕ) (call : Call) → P (outcome (viewRoom s n b) call) → ((why : Refusal) → P (refuse why))
+    → P (withOutput s n b out call)
+unfolding withOutput tested
+by-call P s n b out call step refusals = by-length P (length out) call (tested s n b call) (go (roomWhole s n b)) (refusals OutputTooShort)
+  where
+    go : (t : Bool) → P (cond t (outcome (viewRoom s n b) call) (refuse RoomNotWhole))
+    go true = step
+    go false = refusals RoomNotWhole
+
+-- so it is refused or accepted
+pub call-made : (s n : ℕ) (b out : List ℕ) (call : Call) → RefusedOrAccepted (withOutput s n b out call)
+call-made s n b out call = by-call RefusedOrAccepted s n b out call (outcome-made (viewRoom s n b) call) (λ why. refusal why refl)
 
 module _ (s n allowance : ℕ) (stored b out : List ℕ) where
-  pub play-not-whole : roomWhole s n b ≡ false → Plays s n (playing s n allowance stored b out) b out (Refused RoomNotWhole) b out
+  pub play-not-whole : roomWhole s n b ≡ false → Plays s n allowance stored b out b out (Refused RoomNotWhole)
   unfolding playing storeAll
   play-not-whole e = rw e (record { answers = refl; stores = refl; writes = refl })
 
   pub play-tested : roomWhole s n b ≡ true → (given : Run) (b′ out′ : List ℕ)
-      → RunsOn s n allowance stored b out given b′ out′ → Plays s n (playing s n allowance stored b out) b out given b′ out′
+      → RunsOn s n allowance stored b out given b′ out′ → Plays s n allowance stored b out b′ out′ given
   unfolding playing
   play-tested e given b′ out′ w = rw e w

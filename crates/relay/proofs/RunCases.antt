@@ -20,7 +20,7 @@ use Rattle.stored.proofs.StoredLaws.{Formed, arrives, leaves, sends, givenIn, f
 use Rattle.relay.specs.declared.play.Run as code
 use Rattle.relay.specs.declared.play.Stop.{Stop}
 use Rattle.relay.specs.Output.{appended}
-use Rattle.relay.specs.Play.{entryBytes, entriesBytes, plays, next, Run, run, changesAll, played, Plays}
+use Rattle.relay.specs.Play.{entryBytes, entriesBytes, plays, next, Run, run, changesAll, played, LeavesRun}
 use Rattle.relay.proofs.AppendLaws.{length-appended, appended-more, appended-front, appended-none}
 use Rattle.relay.proofs.PlayLaws.{ended, firstThen, run-plays, store-all-append, next-is}
 
@@ -50,7 +50,7 @@ rests-stopped s n calls bytes at why b out =
 
 -- the whole of a run is what is left at its beginning
 pub rests-all : (s n : ℕ) (r : Run) (b out : List ℕ) (given : code.Run) (b′ out′ : List ℕ) → Rests s n 0 0 0 r b out given b′ out′
-    → Plays s n (played (sizesOf s n) (viewRoom s n b) r) b out given b′ out′
+    → LeavesRun s n (played (sizesOf s n) (viewRoom s n b) r) b out given b′ out′
 unfolding played
 rests-all s n r b out given b′ out′ w =
     let e = entriesFrom s n b (r .calls) in

@@ -107,7 +107,11 @@ playing s n allowance stored b out =
     (record { answer = code.the-variants.Refused RoomNotWhole; changes = []; bytes = [] })
 
 -- what it leaves: the answer, the room with the changes stored, the output with what is written and what stood behind it
-pub record Plays (s n : ℕ) (p : Playing) (b out : List ℕ) (given : code.Run) (b′ out′ : List ℕ) : Type 0 where
+pub record LeavesRun (s n : ℕ) (p : Playing) (b out : List ℕ) (given : code.Run) (b′ out′ : List ℕ) : Type 0 where
   pub answers : given ≡ p .answer
   pub stores : b′ ≡ storeAll s n b (p .changes)
   pub writes : out′ ≡ p .bytes ++ drop (length (p .bytes)) out
+
+-- THE PUBLIC CALL: a run of stored calls, one relation as each single call is one (`Calls.antt`)
+abbrev pub Plays : (s n allowance : ℕ) (stored b out b′ out′ : List ℕ) (given : code.Run) → Type 0
+Plays s n allowance stored b out b′ out′ given = LeavesRun s n (playing s n allowance stored b out) b out given b′ out′

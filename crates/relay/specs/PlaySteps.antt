@@ -16,7 +16,7 @@ use Rattle.relay.specs.declared.play.Next as code
 use Rattle.relay.specs.declared.play.Run.{Run}
 use Rattle.relay.specs.declared.play.Stop.{Stop}
 use Rattle.relay.specs.Calls.{Leaves}
-use Rattle.relay.specs.Play.{entryBytes, stops, plays, next, run, Plays}
+use Rattle.relay.specs.Play.{entryBytes, stops, plays, next, run, LeavesRun}
 use Rattle.relay.specs.Play as play
 
 -- the call that is read at the front of stored ones
@@ -44,4 +44,4 @@ pub data Takes (s n allowance : ℕ) (stored b out : List ℕ) (given : code.Nex
 abbrev pub RunsOn : ℕ → ℕ → ℕ → List ℕ → List ℕ → List ℕ → Run → List ℕ → List ℕ → Type 0
 RunsOn s n allowance stored b out given b′ out′ =
     let sizes : Sizes = record { seats = s; numbers = n } in
-    Plays s n (play.played sizes (viewRoom s n b) (run sizes allowance (viewRoom s n b) stored (length out))) b out given b′ out′
+    LeavesRun s n (play.played sizes (viewRoom s n b) (run sizes allowance (viewRoom s n b) stored (length out))) b out given b′ out′

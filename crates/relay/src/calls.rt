@@ -1,9 +1,6 @@
 // The public calls: each tests the lent output and the lent room in full, and then takes the step. Document 01's sizes, 40 seats and 32 numbers, are
 // fixed here and in `play`, and nowhere below.
-ghost use mathlib.Core.Path.{_≡_};
-ghost use mathlib.Core.List.{[]};
-ghost use Rattle.rules.specs.Call as rules;
-ghost use Rattle.relay.specs.Calls.{answerOf, Leaves, tested, withOutput};
+ghost use Rattle.relay.specs.Calls.{answerOf, Arrives, Departs, Sends};
 use crate::answer::Answer;
 use crate::arrive;
 use crate::leave;
@@ -19,7 +16,7 @@ pub const LEAST_OUTPUT: usize = 2048;
 
 // A key arrives: 11, 2, 1.
 pub fn arrive(memory: &mut [u8], key: Key) -> Answer
-    ensures { λ r. ⌜ Leaves 40 32 (tested 40 32 (now (memory .entry)) (rules.arrive (key .0))) (now (memory .entry)) [] (answerOf r) (now (memory .exit)) [] ⌝ }
+    ensures { λ r. ⌜ Arrives 40 32 (key .0) (now (memory .entry)) (now (memory .exit)) (answerOf r) ⌝ }
 {
     if !whole::is_whole(memory, Room::SEATS, Room::NUMBERS) {
         return Answer::Refused(Refusal::RoomNotWhole);
@@ -29,7 +26,7 @@ pub fn arrive(memory: &mut [u8], key: Key) -> Answer
 
 // The client in a seat leaves: 10, 11, 3.
 pub fn leave(memory: &mut [u8], seat: Seat, out: &mut [u8]) -> Answer
-    ensures { λ r. ⌜ Leaves 40 32 (withOutput 40 32 (now (memory .entry)) (now (out .entry)) (rules.leave (seat .0))) (now (memory .entry)) (now (out .entry)) (answerOf r) (now (memory .exit)) (now (out .exit)) ⌝ }
+    ensures { λ r. ⌜ Departs 40 32 (seat .0) (now (memory .entry)) (now (out .entry)) (now (memory .exit)) (now (out .exit)) (answerOf r) ⌝ }
 {
     if out.len() < LEAST_OUTPUT {
         return Answer::Refused(Refusal::OutputTooShort);
@@ -42,7 +39,7 @@ pub fn leave(memory: &mut [u8], seat: Seat, out: &mut [u8]) -> Answer
 
 // The client in a seat sends a packet: 10, 11, 3, 4, 5, 6, 7, 8, 9.
 pub fn packet(memory: &mut [u8], seat: Seat, packet: &[u8], out: &mut [u8]) -> Answer
-    ensures { λ r. ⌜ Leaves 40 32 (withOutput 40 32 (now (memory .entry)) (now (out .entry)) (rules.packetCall (seat .0) (now (packet .entry)))) (now (memory .entry)) (now (out .entry)) (answerOf r) (now (memory .exit)) (now (out .exit)) ⌝ }
+    ensures { λ r. ⌜ Sends 40 32 (seat .0) (now (packet .entry)) (now (memory .entry)) (now (out .entry)) (now (memory .exit)) (now (out .exit)) (answerOf r) ⌝ }
 {
     if out.len() < LEAST_OUTPUT {
         return Answer::Refused(Refusal::OutputTooShort);

@@ -5,7 +5,7 @@ ghost use Prim.Native.Nat.{_≤_};
 ghost use lib.ListN.{length};
 ghost use Rattle.room.specs.Whole.{roomWhole};
 ghost use Rattle.relay.specs.Calls.{answerOf};
-ghost use Rattle.relay.specs.Play.{Plays, playing};
+ghost use Rattle.relay.specs.Play.{Plays};
 ghost use Rattle.relay.specs.PlaySteps.{Reads, Makes, Takes, RunsOn};
 use crate::answer::Answer;
 use crate::arrive;
@@ -154,7 +154,7 @@ fn play_all(
 
 // Plays the stored calls, at most `allowance` of them: 11.
 pub fn play(memory: &mut [u8], calls: &[u8], allowance: usize, out: &mut [u8]) -> Run
-    ensures { λ r. ⌜ Plays 40 32 (playing 40 32 allowance (now (calls .entry)) (now (memory .entry)) (now (out .entry))) (now (memory .entry)) (now (out .entry)) r (now (memory .exit)) (now (out .exit)) ⌝ }
+    ensures { λ r. ⌜ Plays 40 32 allowance (now (calls .entry)) (now (memory .entry)) (now (out .entry)) (now (memory .exit)) (now (out .exit)) r ⌝ }
 {
     if !whole::is_whole(memory, Room::SEATS, Room::NUMBERS) {
         return Run::Refused(Refusal::RoomNotWhole);

@@ -1,19 +1,14 @@
 -- What a call's answer counts lies within the output that it was lent, and what a stored call takes lies within the bytes that it was read from. Assumes
 -- nothing.
 use mathlib.Core.Path.{_≡_, refl, ap, _∙_}
-use mathlib.Core.Bool.{Bool, true, false, cond}
 use mathlib.Core.List.{List}
 use Prim.Native.Nat.{ℕ, _≤_}
 use native.Mathlib.Omega.{arith}
-use lib.Dec.{leb}
 use lib.ListN.{length, drop, length-append}
-use Rattle.refusal.specs.declared.Refusal.the-variants.{OutputTooShort, RoomNotWhole}
 use Rattle.rules.specs.Call.{Call, Answer}
-use Rattle.rules.specs.Outcome.{refuse, sentBytes, outcome}
-use Rattle.rules.proofs.RefusedOrAccepted.{RefusedOrAccepted, refusal, outcome-made}
-use Rattle.room.specs.View.{viewRoom}
-use Rattle.room.specs.Whole.{roomWhole}
-use Rattle.relay.specs.Calls.{Leaves, leastOutput, tested, withOutput, written}
+use Rattle.rules.specs.Outcome.{sentBytes}
+use Rattle.relay.specs.Calls.{Leaves, withOutput, written}
+use Rattle.relay.proofs.CallsLaws.{call-made}
 use Rattle.relay.proofs.OutcomeLeaves.{made-written}
 use Rattle.stored.specs.declared.StoredCall.{StoredCall}
 use Rattle.stored.specs.declared.StoredRead.{StoredRead}
@@ -23,20 +18,11 @@ use Rattle.stored.proofs.StoredLaws.{first-within}
 
 -- ---- the answer and the output
 
-made : (s n : ℕ) (b out : List ℕ) (c : Call) → RefusedOrAccepted (withOutput s n b out c)
-unfolding withOutput tested
-made s n b out c = go (leb leastOutput (length out)) (roomWhole s n b)
-  where
-    go : (long whole : Bool) → RefusedOrAccepted (cond long (cond whole (outcome (viewRoom s n b) c) (refuse RoomNotWhole)) (refuse OutputTooShort))
-    go false whole = refusal OutputTooShort refl
-    go true false = refusal RoomNotWhole refl
-    go true true = outcome-made (viewRoom s n b) c
-
 pub count-within : (s n : ℕ) (b out : List ℕ) (c : Call) (given : Answer) (b′ out′ : List ℕ)
     → Leaves s n (withOutput s n b out c) b out given b′ out′ → written given ≤ length out′
 count-within s n b out c given b′ out′ l =
     let o = withOutput s n b out c in
-    let e = ap written (l .answers) ∙ made-written o (made s n b out c) in
+    let e = ap written (l .answers) ∙ made-written o (call-made s n b out c) in
     let w = ap length (l .writes) ∙ length-append (sentBytes (o .sent)) (drop (length (sentBytes (o .sent))) out) in
     omega arith
 

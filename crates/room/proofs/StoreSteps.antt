@@ -68,10 +68,10 @@ empty-written s n (x ∷ y ∷ []) h = absurd (not-suc-le-zero (le-of-suc-le-suc
 empty-written s n (x ∷ y ∷ z ∷ b) h = refl
 
 module _ (s n : ℕ) (b : List ℕ) where
-  pub makes-empty : fitsRoom s n b ≡ true → (left : List ℕ) → left ≡ emptied s n b → MakesEmpty s n b true left
+  pub makes-empty : fitsRoom s n b ≡ true → (left : List ℕ) → left ≡ emptied s n b → MakesEmpty s n b left true
   makes-empty h left e = record { answers = rw h; leaves = rw h e }
 
-  pub makes-none : fitsRoom s n b ≡ false → MakesEmpty s n b false b
+  pub makes-none : fitsRoom s n b ≡ false → MakesEmpty s n b b false
   makes-none h = record { answers = rw h; leaves = rw h }
 
 -- a part that was lent comes back: where it stood, how long it is and what it holds now

@@ -17,7 +17,7 @@ unfoldable pub emptied : ℕ → ℕ → List ℕ → List ℕ
 emptied s n b = s ∷ n ∷ 0 ∷ drop 3 b
 
 -- a room made empty: where the memory is too short nothing changes, and that is told
-pub record MakesEmpty (s n : ℕ) (b : List ℕ) (made : Bool) (left : List ℕ) : Type 0 where
+pub record MakesEmpty (s n : ℕ) (b left : List ℕ) (made : Bool) : Type 0 where
   pub answers : made ≡ fitsRoom s n b
   pub leaves : left ≡ cond (fitsRoom s n b) (emptied s n b) b
 

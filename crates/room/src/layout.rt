@@ -30,7 +30,7 @@ impl Room {
 
     // The empty room, in memory that is long enough.
     pub fn empty(memory: &mut [u8]) -> bool
-        ensures { λ r. ⌜ MakesEmpty 40 32 (now (memory .entry)) r (now (memory .exit)) ⌝ }
+        ensures { λ r. ⌜ MakesEmpty 40 32 (now (memory .entry)) (now (memory .exit)) r ⌝ }
     {
         whole::make_empty(memory, Room::SEATS, Room::NUMBERS)
     }

@@ -1,8 +1,7 @@
 // The test of a lent room, in one pass over what is in use, and the empty room.
 ghost use mathlib.Core.Path.{_≡_};
 ghost use mathlib.Core.Bool.{true};
-ghost use Prim.Native.Nat.{_<_, _≤_};
-ghost use lib.ListN.{length};
+ghost use Prim.Native.Nat.{_<_};
 ghost use Rattle.table.specs.Table.{listed, tableWhole};
 ghost use Rattle.room.specs.Layout.{seatBytes, fitsRoom, seatTable, routesTable};
 ghost use Rattle.room.specs.Whole.{headerRight, routesWhole, roomWhole};
@@ -77,7 +76,7 @@ pub fn is_whole(memory: &[u8], seats: usize, numbers: usize) -> bool
 
 // Makes memory an empty room of these sizes, and tells whether it could: where the memory is too short nothing changes.
 pub fn make_empty(memory: &mut [u8], seats: usize, numbers: usize) -> bool
-    ensures { λ r. ⌜ MakesEmpty seats numbers (now (memory .entry)) r (now (memory .exit)) ⌝ }
+    ensures { λ r. ⌜ MakesEmpty seats numbers (now (memory .entry)) (now (memory .exit)) r ⌝ }
 {
     if !layout::fits(memory, seats, numbers) {
         return false;

@@ -4,7 +4,7 @@
 use mathlib.Core.Path.{_≡_, refl, sym, ap, _∙_}
 use mathlib.Core.Bool.{Bool, true, false, _&&_, not, cond, true≢false, false≢true}
 use mathlib.Core.List.{List, [], _∷_}
-use Prim.Native.Nat.{ℕ, _-_, _<_}
+use Prim.Native.Nat.{ℕ, zero, suc, _-_, _<_}
 use native.Mathlib.Omega.{arith}
 use lib.Dec.{eqb}
 use lib.ListN.{getD, set, replicate, length}
@@ -12,16 +12,17 @@ use lib.Seq.{set-getD}
 use borrow.Author.Tests.{eqb-true, eqb-false, ne-eqb, not-true}
 use Rattle.key.specs.Keys.{sameKey}
 use Rattle.key.proofs.Same.{same-refl, same-sound}
+use Rattle.refusal.specs.declared.Refusal.{Refusal}
 use Rattle.packet.specs.Read.{Read}
 use Rattle.packet.specs.Read as read
 use Rattle.packet.specs.FromClient as client
 use Rattle.packet.proofs.ReadBounds.{request-key-long}
 use Rattle.rules.specs.Room.{Sizes, Key, Route, free, wants, Seat, vacant, holds, Room, emptyRoom, Found, none, at, find, seatOf, isVacant, routeTo, isFree, routesOf, seatAt, routeAt, firstNumber, numberOfPlace, Peer, alone, joined}
 use Rattle.rules.specs.Whole.{Whole}
-use Rattle.rules.specs.Call.{Call, arrive, leave, packetCall}
+use Rattle.rules.specs.Call.{Call, arrive, leave, packetCall, refused}
 use Rattle.rules.specs.Outcome.{withRoute, apply, applyAll, refuse, accept, Outcome, roomAfter, peer, arriveAt, leaveFrom, requestAt, dropAt, oobTo, carryTo, dataAt, act, actOn, packetFrom, outcome}
 use Rattle.rules.specs.History.{event, transcript}
-use Rattle.rules.specs.Transcript.{Past, nobody, clientOf, Start, fromEmpty, isAccepted, sitsAfterArrival, sitsAfter, sitter, maker, standsAfterPacket, standsAfterOwn, standsAfter, stands}
+use Rattle.rules.specs.Transcript.{Past, Maker, nobody, clientOf, Start, fromEmpty, isAccepted, sitsAfterArrival, sitsAfter, sitter, maker, numberAnswered, standsAfterPacket, standsAfterOwn, standsAfter, stands}
 use Rattle.rules.specs.After.{roomAfterAll, pastAfter, clientIn, routesIn, routesBy, Tied, startOf}
 use Rattle.rules.proofs.FindLaws.{clash, route-to-wants, find-hit, find-within, find-replicate, getD-all, find-set-same, find-clear, vacant-no-key, seat-set, seat-set-other, held-within, free-not-to, route-none, route-at-place, wanted-high, route-set-other, route-set, route-freed, route-all-free}
 use Rattle.rules.proofs.Whole.{key-once, key-found, whole-after, whole-empty}
@@ -305,6 +306,53 @@ module _ (sizes : Sizes) (start : Start) (past : Past) (room : Room) (whole : Wh
   tied-after (arrive key) = tied-arrive key (find (seatOf key) room) (find isVacant room) refl refl (whole-after sizes room whole (arrive key))
   tied-after (leave seat) = tied-leave-from seat (seatAt room seat) refl
   tied-after (packetCall seat bytes) = tied-packet seat bytes (seatAt room seat) refl
+
+-- ---- a refusal
+
+-- no number is read off a refusal: 0 is none
+none-answered : (number : ℕ) (t : Bool) → ((not (eqb number 0) && eqb 0 number) && t) ≡ false
+none-answered zero t = refl
+none-answered (suc number) t = rw (ne-eqb (suc number) 0 (λ e. omega arith), ne-eqb 0 (suc number) (λ e. omega arith))
+
+module _ (why : Refusal) where
+  -- a refused call that sent nothing leaves who sits where
+  refused-sits : (call : Call) (here : ℕ) (before : Maker) → sitsAfter call (refused why) here before ≡ before
+  unfolding sitsAfter sitsAfterArrival isAccepted
+  refused-sits (arrive key) here before = refl
+  refused-sits (leave seat) here before = refl
+  refused-sits (packetCall seat bytes) here before = refl
+
+  -- and which requests stand
+  refused-packet : (r : Read client.FromClient) (number : ℕ) (wanted : Key) (before : Bool) → standsAfterPacket r (refused why) [] number wanted before ≡ before
+  unfolding standsAfterPacket numberAnswered isAccepted
+  refused-packet (read.packet (client.routingRequest key)) number wanted before = rw (none-answered number (sameKey key wanted))
+  refused-packet (read.packet (client.dropRoute n)) number wanted before = refl
+  refused-packet (read.packet (client.ping n)) number wanted before = refl
+  refused-packet (read.packet (client.pong n)) number wanted before = refl
+  refused-packet (read.packet (client.oobSend key bytes)) number wanted before = refl
+  refused-packet (read.packet (client.routedData n bytes)) number wanted before = refl
+  refused-packet (read.refused other) number wanted before = refl
+
+  refused-own : (call : Call) (number : ℕ) (wanted : Key) (before : Bool) → standsAfterOwn call (refused why) [] number wanted before ≡ before
+  unfolding standsAfterOwn isAccepted
+  refused-own (arrive key) number wanted before = refl
+  refused-own (leave seat) number wanted before = refl
+  refused-own (packetCall seat bytes) number wanted before = refused-packet (client.relayRead bytes) number wanted before
+
+  refused-stands : (m : Maker) (call : Call) (key : Key) (number : ℕ) (wanted : Key) (before : Bool)
+      → standsAfter m (record { call = call; answer = refused why; sent = [] }) key number wanted before ≡ before
+  unfolding standsAfter
+  refused-stands nobody call key number wanted before = refl
+  refused-stands (clientOf k) call key number wanted before = rw (refused-own call number wanted before) (either (sameKey k key) before)
+
+  -- so it keeps the tie, whatever it was refused for
+  pub tied-refused : (start : Start) (past : Past) (room : Room) → Tied start past room → (call : Call)
+      → Tied start (record { call = call; answer = refused why; sent = [] } ∷ past) room
+  unfolding sitter stands
+  tied-refused start past room tie call = record {
+    sits = λ seat. refused-sits call seat (sitter start past seat) ∙ tie .sits seat;
+    requests = λ key number wanted. refused-stands (maker start past call) call key number wanted (stands start past key number wanted) ∙ tie .requests key number wanted;
+  }
 
 -- ---- what the tie tells
 

@@ -26,7 +26,7 @@ returns : tie.Need-returns
 returns c =
     record {
       given = _;
-      leaves = c .before .before .before .before .before .leave .ensures;
+      relates = c .before .before .before .before .before .leave .ensures;
       codes = toZ-ofZ w32 (c .count-of .result) (record { sfits = c .count-of .ok }) ∙ c .count-of .ensures;
     }
 

@@ -1,10 +1,8 @@
 -- `banavoge_room_empty` meets its contract: that of `room`, with its answer as one number. Assumes nothing.
 use borrow.Author.Needs.{needs}
-use mathlib.Core.Path.{_∙_, ap}
+use mathlib.Core.Path.{_∙_}
 use mir.Syntax.{w32}
 use mir.ValLaws.{toZ-ofZ}
-use Rattle.refusal.specs.declared.Refusal.the-variants.{OutputTooShort}
-use Rattle.banavoge.specs.Rooms.{doneOr}
 use Rattle.banavoge.proofs.rooms.banavoge_room_empty.Statement.{statement}
 use Rattle.banavoge.proofs.rooms.banavoge_room_empty.Tie as tie
 
@@ -19,10 +17,10 @@ same-length c = search needs
 
 returns : tie.Need-returns
 returns c =
-    let r = c .before .before .before .make-empty .ensures in
     record {
-      answers = toZ-ofZ w32 (c .done-or .result) (record { sfits = c .done-or .ok }) ∙ c .done-or .ensures ∙ ap (doneOr OutputTooShort) (r .answers);
-      leaves = r .leaves;
+      given = _;
+      relates = c .before .before .before .make-empty .ensures;
+      codes = toZ-ofZ w32 (c .done-or .result) (record { sfits = c .done-or .ok }) ∙ c .done-or .ensures;
     }
 
 pub banavoge-room-empty-spec : {M : Type 1} → statement M

@@ -1,12 +1,17 @@
 -- `banavoge_play` meets its contract: that of `relay`, with its answer as one number and three counts. Assumes nothing.
 use borrow.Author.Needs.{needs}
-use mathlib.Core.Path.{sym, ap, _∙_}
+use mathlib.Core.Path.{sym, ap, ap₂, _∙_}
+use lib.IntN.{ℤ}
 use mir.Syntax.{w32}
 use mir.ValLaws.{toZ-ofZ}
 use Rattle.relay.specs.declared.play.Run.{Run}
-use Rattle.banavoge.specs.Runs.{runCode, counts, runCounts}
+use Rattle.banavoge.specs.Runs.{runCode, Counts, counts, runCounts, Telling, runTold}
 use Rattle.banavoge.proofs.runs.banavoge_play.Statement.{statement}
 use Rattle.banavoge.proofs.runs.banavoge_play.Tie as tie
+
+-- what the host is told, of its two parts
+abbrev tell : ℤ → Counts → Telling
+tell answer told = record { answer = answer; counts = told }
 
 play-requires : tie.Need-play-requires
 play-requires c κs = search needs
@@ -30,15 +35,16 @@ same-length-2 : tie.Need-same-length-2
 same-length-2 c = search needs
 
 returns : tie.Need-returns
-unfolding runCode runCounts
+unfolding runTold runCode runCounts
 returns c =
     let a = c .before .before .before .before .before .before .before .before .before .before .before .before .before .before .args in
     let e = c .before .before .why .given .1 in
     record {
       given = _;
-      plays = c .before .before .before .before .before .before .before .before .play .ensures;
-      codes = toZ-ofZ w32 (c .stop-code .result) (record { sfits = c .stop-code .ok }) ∙ c .stop-code .ensures ∙ sym (ap runCode e);
-      tells = sym (ap (λ (x : Run). runCounts x (counts (a .played .now) (a .read .now) (a .written .now))) e);
+      relates = c .before .before .before .before .before .before .before .before .play .ensures;
+      codes =
+          ap₂ tell (toZ-ofZ w32 (c .stop-code .result) (record { sfits = c .stop-code .ok }) ∙ c .stop-code .ensures ∙ sym (ap runCode e))
+          (sym (ap (λ (x : Run). runCounts x (counts (a .played .now) (a .read .now) (a .written .now))) e));
     }
 
 same-length-3 : tie.Need-same-length-3
@@ -48,15 +54,16 @@ same-length-4 : tie.Need-same-length-4
 same-length-4 c = search needs
 
 returns-2 : tie.Need-returns-2
-unfolding runCode runCounts
+unfolding runTold runCode runCounts
 returns-2 c =
     let a = c .before .before .before .before .before .before .before .before .before .before .before .before .before .before .args in
     let e = c .before .before .why2 .given .1 in
     record {
       given = _;
-      plays = c .before .before .before .before .before .before .before .before .play .ensures;
-      codes = toZ-ofZ w32 (c .refused .result) (record { sfits = c .refused .ok }) ∙ c .refused .ensures ∙ sym (ap runCode e);
-      tells = sym (ap (λ (x : Run). runCounts x (counts (a .played .now) (a .read .now) (a .written .now))) e);
+      relates = c .before .before .before .before .before .before .before .before .play .ensures;
+      codes =
+          ap₂ tell (toZ-ofZ w32 (c .refused .result) (record { sfits = c .refused .ok }) ∙ c .refused .ensures ∙ sym (ap runCode e))
+          (sym (ap (λ (x : Run). runCounts x (counts (a .played .now) (a .read .now) (a .written .now))) e));
     }
 
 pub banavoge-play-spec : {M : Type 1} → statement M

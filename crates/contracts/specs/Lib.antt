@@ -1,0 +1,2 @@
+-- `Promises`: what a contract promises.
+pub mod Promises

@@ -1,0 +1,42 @@
+-- The number that an exported call answers tells its answer: an Arrive's number is its seat, and it counts no bytes; that of a Leave or a packet is the count, and
+-- the seat is the call's own; a number below 0 is that of one refusal. So what the host sees of a call is its answer. Assumes nothing.
+use mathlib.Core.Path.{_≡_, refl, sym, ap, _∙_}
+use mathlib.Core.List.{List, []}
+use Prim.Native.Nat.{ℕ, zero, suc, _≤_}
+use native.Mathlib.Omega.{arith}
+use lib.IntN.{pos, negℤ}
+use lib.ListN.{length}
+use Rattle.refusal.specs.declared.Refusal.{Refusal}
+use Rattle.refusal.specs.Numbers.{refusalNumber, refusalOf}
+use Rattle.refusal.proofs.LookedUp.{looked-up}
+use Rattle.rules.specs.Room.{Key}
+use Rattle.rules.specs.Call.{Call, arrive, accepted, refused, Sent}
+use Rattle.rules.specs.Outcome.{Outcome, refuse, accept, sentBytes}
+use Rattle.rules.proofs.RefusedOrAccepted.{RefusedOrAccepted, MadeAt, refusal, acceptance}
+use Rattle.banavoge.specs.Answers.{refusalCode}
+use Rattle.banavoge.specs.RelayCalls.{seatCode, countCode}
+use Rattle.histories.specs.Seen.{acceptedWith, answered}
+
+-- a refusal's number
+pub refusal-answered : (call : Call) (why : Refusal) → answered call (refusalCode why) ≡ refused why
+unfolding answered refusalCode
+refusal-answered call why = below (refusalNumber why) (looked-up why .positive) ∙ ap refused (looked-up why .found)
+  where
+    below : (k : ℕ) → 1 ≤ k → answered call (negℤ (pos k)) ≡ refused (refusalOf k)
+    below zero h = absurd (omega arith)
+    below (suc k) h = refl
+
+-- an Arrive's number: it wrote nothing
+pub seat-answered : (key : Key) (o : Outcome) → RefusedOrAccepted o → o .sent ≡ [] → answered (arrive key) (seatCode (o .answer)) ≡ o .answer
+unfolding answered acceptedWith seatCode refuse accept sentBytes
+seat-answered key o (refusal why e) quiet = rw e (refusal-answered (arrive key) why)
+seat-answered key o (acceptance seat changes sent e) quiet =
+    let none : sent ≡ [] = sym (ap (λ (x : Outcome). x .sent) e) ∙ quiet in
+    rw e (sym (ap (λ (x : List Sent). accepted seat (length (sentBytes x))) none))
+
+-- the number of a call that is made in a seat
+pub count-answered : (call : Call) (seat : ℕ) → ((count : ℕ) → acceptedWith call count ≡ accepted seat count) → (o : Outcome) → MadeAt seat o
+    → answered call (countCode (o .answer)) ≡ o .answer
+unfolding answered countCode refuse accept
+count-answered call seat own o (refusal why e) = rw e (refusal-answered call why)
+count-answered call seat own o (acceptance changes sent e) = rw e (own (length (sentBytes sent)))

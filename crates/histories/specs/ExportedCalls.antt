@@ -1,0 +1,48 @@
+-- Every export that is lent the memory of a room, for s seats with n connection numbers each: what the host lends it, before and after. What a call is not lent
+-- stands as [] or as 0, and stays. (`banavoge_room_bytes` is lent nothing.)
+use mathlib.Core.List.{List, []}
+use mathlib.Core.Path.{_≡_}
+use Prim.Native.Nat.{ℕ}
+use lib.IntN.{ℤ, pos, negsuc}
+use Rattle.refusal.specs.declared.Refusal.the-variants.{OutputTooShort, RoomNotWhole}
+use Rattle.rules.specs.Room.{Key}
+use Rattle.room.specs.Whole.{roomWhole}
+use Rattle.room.specs.Store.{MakesEmpty}
+use Rattle.relay.specs.Calls.{Arrives, Departs, Sends}
+use Rattle.relay.specs.Play.{Plays}
+use Rattle.banavoge.specs.Answers.{ToldAs}
+use Rattle.banavoge.specs.Rooms.{doneOr}
+use Rattle.banavoge.specs.RelayCalls.{seatCode, countCode}
+use Rattle.banavoge.specs.Runs.{Counts, counts, runTold}
+
+-- the memory of a room, the output, and the places for counts
+pub record HostMemory : Type 0 where
+  pub room : List ℕ
+  pub out : List ℕ
+  pub places : Counts
+
+abbrev pub hostMemory : List ℕ → List ℕ → Counts → HostMemory
+hostMemory room out places = record { room = room; out = out; places = places }
+
+abbrev pub noPlaces : Counts
+noPlaces = counts 0 0 0
+
+-- an export's call: what it was lent, its answer, and what that is afterwards
+pub data Exported (s n : ℕ) : HostMemory → ℤ → HostMemory → Type 0 where
+  empties : {b b′ : List ℕ} {answer : ℤ} → ToldAs (doneOr OutputTooShort) (MakesEmpty s n b b′) answer
+      → Exported s n (hostMemory b [] noPlaces) answer (hostMemory b′ [] noPlaces)
+  checks : {b : List ℕ} {answer : ℤ} → answer ≡ doneOr RoomNotWhole (roomWhole s n b) → Exported s n (hostMemory b [] noPlaces) answer (hostMemory b [] noPlaces)
+  arrives : {b b′ : List ℕ} {answer : ℤ} (key : Key) → ToldAs seatCode (Arrives s n key b b′) answer
+      → Exported s n (hostMemory b [] noPlaces) answer (hostMemory b′ [] noPlaces)
+  departs : {b out b′ out′ : List ℕ} {answer : ℤ} (seat : ℕ) → ToldAs countCode (Departs s n seat b out b′ out′) answer
+      → Exported s n (hostMemory b out noPlaces) answer (hostMemory b′ out′ noPlaces)
+  sends : {b out b′ out′ : List ℕ} {answer : ℤ} (seat : ℕ) (bytes : List ℕ) → ToldAs countCode (Sends s n seat bytes b out b′ out′) answer
+      → Exported s n (hostMemory b out noPlaces) answer (hostMemory b′ out′ noPlaces)
+  plays : {b out b′ out′ : List ℕ} {before after : Counts} {answer : ℤ} (allowance : ℕ) (stored : List ℕ)
+      → ToldAs (runTold before) (Plays s n allowance stored b out b′ out′) (record { answer = answer; counts = after })
+      → Exported s n (hostMemory b out before) answer (hostMemory b′ out′ after)
+
+-- an answer below 0: the call was refused
+abbrev pub Below0 : ℤ → Type 0
+Below0 (pos n) = ⊥
+Below0 (negsuc n) = Unit {0}

@@ -1,0 +1,2 @@
+-- `LookedUp`: a refusal is found again by its number.
+pub mod LookedUp
