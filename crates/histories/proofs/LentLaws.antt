@@ -1,6 +1,6 @@
 -- What holds of every call, whatever output it is lent: it is the step of `rules`, or the refusal for an output that is too short. Assumes nothing.
 use mathlib.Core.Path.{_≡_, refl, ap}
-use mathlib.Core.Bool.{true}
+use mathlib.Core.Bool.{Bool, true, cond}
 use mathlib.Core.List.{List, [], _∷_}
 use Prim.Native.Nat.{ℕ, _≤_}
 use native.Mathlib.Omega.{arith}
@@ -28,11 +28,11 @@ use Rattle.histories.specs.Lent.{Lent, lentOutcome, lentEvent, lentTrans
 
 pub by-space : (P : Outcome → Type 0) (room : Room) (l : Lent) → P (outcome room (l .call)) → P (refuse OutputTooShort) → P (lentOutcome room l)
 unfolding lentOutcome
-by-space P room l = by-length P (l .space) (l .call) (outcome room (l .call))
+by-space P room l = by-length P _ _ _
 
 pub long-outcome : (room : Room) (l : Lent) → needed (l .call) ≤ l .space → lentOutcome room l ≡ outcome room (l .call)
 unfolding lentOutcome ifLong
-long-outcome room l h = rw (le-leb (needed (l .call)) (l .space) h)
+long-outcome room l h = ap (λ (t : Bool). cond t (outcome room (l .call)) (refuse OutputTooShort)) (le-leb (needed (l .call)) (l .space) h)
 
 -- ---- one call
 

@@ -36,16 +36,11 @@ module _ (s n : ℕ) (b out b′ out′ : List ℕ) where
       let q = l .answers ∙ ap (λ (x : Outcome). x .answer) e in
       let z : _≡_ {A = ℕ} 0 1 = cc in absurd (omega arith)
 
-  -- the answer that has a number below 0 is a refusal
-  by-seat : (o : Outcome) → RefusedOrAccepted o → (given : Answer) → Below0 (seatCode given) → Leaves s n o b out given b′ out′ → (b′ ≡ b) × (out′ ≡ out)
-  unfolding seatCode
-  by-seat o m (accepted seat count) below l = absurd below
-  by-seat o m (refused why) below l = leaves-all o m why l
-
-  by-count : (o : Outcome) → RefusedOrAccepted o → (given : Answer) → Below0 (countCode given) → Leaves s n o b out given b′ out′ → (b′ ≡ b) × (out′ ≡ out)
-  unfolding countCode
-  by-count o m (accepted seat count) below l = absurd below
-  by-count o m (refused why) below l = leaves-all o m why l
+  -- where the number of no acceptance is below 0, an answer whose number is below 0 is a refusal
+  by-number : (code : Answer → ℤ) → ((seat count : ℕ) → Below0 (code (accepted seat count)) → ⊥) → (o : Outcome) → RefusedOrAccepted o
+      → (given : Answer) → Below0 (code given) → Leaves s n o b out given b′ out′ → (b′ ≡ b) × (out′ ≡ out)
+  by-number code above o m (accepted seat count) below l = absurd (above seat count below)
+  by-number code above o m (refused why) below l = leaves-all o m why l
 
 -- ---- the empty room
 
@@ -84,16 +79,16 @@ same-memory : (places : Counts) {b out b′ out′ : List ℕ} → (b′ ≡ b) 
 same-memory places e = ap₂ (λ (x y : List ℕ). hostMemory x y places) (e .0) (e .1)
 
 pub refused-leaves : {s n : ℕ} {before after : HostMemory} {answer : ℤ} → Exported s n before answer after → Below0 answer → after ≡ before
-unfolding runTold
+unfolding seatCode countCode runTold
 refused-leaves {s} {n} (empties {b = b} {b′ = b′} c) below =
     ap (λ (x : List ℕ). hostMemory x [] noPlaces) (empty-leaves s n b b′ (c .given) (subst Below0 (c .codes) below) (c .relates))
 refused-leaves (checks e) below = refl
 refused-leaves {s} {n} (arrives {b = b} {b′ = b′} key c) below =
-    same-memory noPlaces (by-seat s n b [] b′ [] _ (call-made s n b [] _) (c .given) (subst Below0 (c .codes) below) (c .relates .leaves))
+    same-memory noPlaces (by-number s n b [] b′ [] seatCode (λ seat count below. below) _ (call-made s n b [] _) (c .given) (subst Below0 (c .codes) below) (c .relates .leaves))
 refused-leaves {s} {n} (departs {b = b} {out = out} {b′ = b′} {out′ = out′} seat c) below =
-    same-memory noPlaces (by-count s n b out b′ out′ _ (call-made s n b out _) (c .given) (subst Below0 (c .codes) below) (c .relates))
+    same-memory noPlaces (by-number s n b out b′ out′ countCode (λ seat count below. below) _ (call-made s n b out _) (c .given) (subst Below0 (c .codes) below) (c .relates))
 refused-leaves {s} {n} (sends {b = b} {out = out} {b′ = b′} {out′ = out′} seat bytes c) below =
-    same-memory noPlaces (by-count s n b out b′ out′ _ (call-made s n b out _) (c .given) (subst Below0 (c .codes) below) (c .relates))
+    same-memory noPlaces (by-number s n b out b′ out′ countCode (λ seat count below. below) _ (call-made s n b out _) (c .given) (subst Below0 (c .codes) below) (c .relates))
 refused-leaves {s} {n} (plays {b = b} {out = out} {b′ = b′} {out′ = out′} {before = before} allowance stored c) below =
     let refused = subst Below0 (ap (λ (t : Telling). t .answer) (c .codes)) below in
     let left = run-leaves s n allowance stored b out b′ out′ (c .given) refused (c .relates) in
