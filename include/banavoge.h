@@ -278,8 +278,8 @@ int32_t banavoge_node_write(uint8_t family, const uint8_t address[BANAVOGE_ADDRE
  *
  * A list has a target key and a size of 1 to 16, and holds at most that many nodes: nearest first,
  * no key twice. It lives in memory of the host, banavoge_nearest_bytes() long; memory may be
- * longer, and what stands behind is left alone. Every call on a list that was begun tests all of it
- * first: 14 for memory too short, then 12, 14.
+ * longer, and what stands behind is left alone. Every call but banavoge_nearest_begin tests all of
+ * the list first: 12, then 14. Memory too short is 14, or 12 where its first byte is no size.
  */
 
 /* How many bytes a list takes. */
@@ -296,20 +296,20 @@ int32_t banavoge_nearest_begin(uint8_t *list, size_t list_length,
 /*
  * Offers a node. A key already held has its node replaced; else the node is put in while there is
  * room; else it takes the room of the furthest, if it is nearer. Answers 1 where it is kept, else
- * 0. Refusals: 14 (memory too short), 12, 14, 15.
+ * 0. Refusals: 12, 14, 15.
  */
 int32_t banavoge_nearest_offer(uint8_t *list, size_t list_length, uint8_t family,
                                const uint8_t address[BANAVOGE_ADDRESS_BYTES], uint16_t port,
                                const uint8_t key[BANAVOGE_KEY_BYTES]);
 
-/* Takes out the node of a key. Answers 0. Refusals: 14 (memory too short), 12, 14, 13. */
+/* Takes out the node of a key. Answers 0. Refusals: 12, 14, 13. */
 int32_t banavoge_nearest_remove(uint8_t *list, size_t list_length,
                                 const uint8_t key[BANAVOGE_KEY_BYTES]);
 
 /*
  * Shows the node held at an index, 0 the nearest. Answers 1 and sets the node, with all 16 address
  * bytes as they were offered; 0 where the index is not below the count, and then nothing is set.
- * Refusals: 14 (memory too short), 12, 14.
+ * Refusals: 12, 14.
  */
 int32_t banavoge_nearest_node(const uint8_t *list, size_t list_length, size_t index,
                               uint8_t *family, uint8_t address[BANAVOGE_ADDRESS_BYTES],

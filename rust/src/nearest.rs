@@ -70,7 +70,8 @@ impl NearestList {
 
     /// The list that stands at the front of bytes that were kept, tested in
     /// full. Refused with 12 or 14; fewer than [`NearestList::BYTES`] bytes are
-    /// 14, and bytes behind the list are left out.
+    /// 14, or 12 where the first of them is no size, and bytes behind the list
+    /// are left out.
     ///
     /// ```
     /// use banavoge::{Key, NearestList, Refusal};
@@ -79,7 +80,7 @@ impl NearestList {
     /// let again = NearestList::from_bytes(list.as_bytes())?;
     /// assert!(again.nodes().eq(list.nodes()));
     ///
-    /// let short = &list.as_bytes()[1..];
+    /// let short = &list.as_bytes()[..NearestList::BYTES - 1];
     /// assert_eq!(NearestList::from_bytes(short).err(), Some(Refusal::ListNotWhole));
     /// # Ok::<(), Refusal>(())
     /// ```

@@ -16,15 +16,15 @@ use Rattle.node.specs.declared.walk.Stepped.{Stepped}
 use Rattle.node.specs.declared.writer.Written.{Written}
 use Rattle.node.specs.declared.writer.Written.the-variants as written
 use Rattle.node.specs.Families.{knownFamily}
-use Rattle.node.specs.Nodes.{NodeInfo, packedNode, Read, node, refused}
+use Rattle.node.specs.Nodes.{packedNode, Read, node, refused}
 use Rattle.node.specs.Reads.{shownRead}
 use Rattle.node.specs.Steps.{Showing, shows, ends, refuses, shownBy, nodeBy, placeAfter, shownStep}
 use Rattle.node.specs.Values.{infoOf}
-use Rattle.node.specs.Written.{Writes, writtenAnswer}
+use Rattle.node.specs.Written.{WritesNode, writtenAnswer}
 use Rattle.node.proofs.FamilyLaws.{address-fits, packed-length}
 use Rattle.node.proofs.NodeLaws.{length-value}
 use Rattle.banavoge.specs.Answers.{refusalCode}
-use Rattle.banavoge.specs.Nodes.{NodePlaces, nodePlacesOf, nodeCode, nodeAfter, ReadsNode, stepCode, stepAfter, StepsNode, nodeWrittenCode, ExportsNode}
+use Rattle.banavoge.specs.Nodes.{NodePlaces, nodePlacesOf, nodeCode, nodeAfter, ReadsNode, stepCode, stepAfter, StepsNode}
 
 -- ---- one node
 
@@ -100,21 +100,18 @@ module _ (place count : ℕ) (answer : Stepped) where
 
 -- ---- a node written
 
-pub node-exported : (n : NodeInfo) (out : List ℕ) (w : Written) (left : List ℕ) (z : ℤ) → Writes n out w left → z ≡ nodeWrittenCode w → ExportsNode n out z left
-node-exported n out w left z writes e = record { answers = e ∙ ap nodeWrittenCode (writes .answers); leaves = writes .leaves }
-
 counted : (k t : Bool) (m n : ℕ) (why other : Refusal) → cond k (cond t (written.Bytes m) (written.Refused why)) (written.Refused other) ≡ written.Bytes n → n ≡ m
 counted true true m n why other e = cc
 counted true false m n why other e = let z : _≡_ {A = ℕ} 0 1 = cc in absurd (omega arith)
 counted false t m n why other e = let z : _≡_ {A = ℕ} 0 1 = cc in absurd (omega arith)
 
 -- a packed node has at most 51 bytes
-pub node-counted : (n : Node) (out : List ℕ) (w : Written) (left : List ℕ) (count : ℕ) → length (n .address) ≡ 16 → length (n .key .0) ≡ 32
-    → Writes (infoOf n) out w left → w ≡ written.Bytes count → count ≤ 2032
+pub node-counted : (n : Node) (out : List ℕ) (w : Written) (left : List ℕ) (count : ℕ) → WritesNode n out left w → w ≡ written.Bytes count
+    → count ≤ 2032
 unfolding writtenAnswer
-node-counted n out w left count a k writes e =
-    let c = counted (knownFamily (infoOf n .family)) (leb (length (packedNode (infoOf n))) (length out)) (length (packedNode (infoOf n))) count _ _ (sym (writes .answers) ∙ e) in
-    let l = length-value n a k in
+node-counted n out w left count writes e =
+    let c = counted (knownFamily (infoOf n .family)) (leb (length (packedNode (infoOf n))) (length out)) (length (packedNode (infoOf n))) count _ _ (sym (writes .writes .answers) ∙ e) in
+    let l = length-value n (writes .fits .long) (writes .fits .key .long) in
     let p = packed-length (n .family) in
     let f = address-fits (n .family) in
     omega arith

@@ -7,7 +7,8 @@ use lib.ListN.{length}
 use Rattle.refusal.specs.declared.Refusal.the-variants.{RoomNotWhole}
 use Rattle.rules.specs.Call.{Call, Answer}
 use Rattle.rules.specs.Outcome.{Outcome, refuse, accept, sentBytes, outcome}
-use Rattle.rules.proofs.RefusedOrAccepted.{RefusedOrAccepted, refusal, acceptance, outcome-made}
+use Rattle.rules.specs.Accepted.{RefusedOrAccepted, refusal, acceptance}
+use Rattle.rules.proofs.RefusedOrAccepted.{outcome-made}
 use Rattle.room.specs.declared.layout.Seat as seats
 use Rattle.room.specs.View.{viewRoom}
 use Rattle.room.specs.Whole.{roomWhole}

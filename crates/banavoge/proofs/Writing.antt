@@ -1,10 +1,9 @@
 -- What a writer of `packet` promises, carried over to the exported one. Assumes nothing.
-use mathlib.Core.Path.{_≡_, _∙_, refl, ap}
+use mathlib.Core.Path.{_≡_, refl}
 use mathlib.Core.Bool.{Bool, true, false, cond}
 use mathlib.Core.List.{List}
 use Prim.Native.Nat.{ℕ, _≤_}
 use lib.Dec.{leb}
-use lib.IntN.{ℤ}
 use lib.ListN.{length}
 use Rattle.refusal.specs.declared.Refusal.the-variants.{OutputTooShort}
 use Rattle.packet.specs.declared.write.Written.{Written}
@@ -12,15 +11,10 @@ use Rattle.packet.specs.declared.write.Written.the-variants.{Bytes, Refused}
 use Rattle.packet.specs.Read.{Read, packet, refused}
 use Rattle.packet.specs.FromClient.{FromClient, clientBytes}
 use Rattle.packet.specs.FromRelay.{FromRelay, relayBytes}
-use Rattle.packet.specs.Written.{Writes, writtenAnswer, clientJudged, relayJudged}
+use Rattle.packet.specs.Written.{Writes, ClientWrites, RelayWrites, writtenAnswer, clientJudged, relayJudged}
 use Rattle.packet.proofs.ClientRoundTrip.{client-judged-size}
 use Rattle.packet.proofs.RelayRoundTrip.{relay-judged-size}
-use Rattle.banavoge.specs.Answers.{Counted, writtenCode}
-use Rattle.banavoge.specs.Written.{Exports}
-
-pub exported : {A : Type 0} (judged : Read A) (bytes out : List ℕ) (w : Written) (left : List ℕ) (r : ℤ) → Writes judged bytes out w left → r ≡ writtenCode w
-    → Exports judged bytes out r left
-exported judged bytes out w left r writes e = record { answers = e ∙ ap writtenCode (writes .answers); leaves = writes .leaves }
+use Rattle.banavoge.specs.Answers.{Counted}
 
 -- ---- every count is that of a packet, so it is small
 
@@ -38,8 +32,8 @@ module _ {A : Type 0} (bytes out : List ℕ) (w : Written) where
   small : (judged : Read A) (left : List ℕ) → ((p : A) → judged ≡ packet p → length bytes ≤ 2032) → Writes judged bytes out w left → Counted w
   small judged left h writes = rw (writes .answers) (answered judged h)
 
-pub client-counted : (p : FromClient) (out : List ℕ) (w : Written) (left : List ℕ) → Writes (clientJudged p) (clientBytes p) out w left → Counted w
-client-counted p out w left writes = small (clientBytes p) out w (clientJudged p) left (client-judged-size p) writes
+pub client-counted : (p : FromClient) (out : List ℕ) (w : Written) (left : List ℕ) → ClientWrites p out left w → Counted w
+client-counted p out w left writes = small (clientBytes p) out w (clientJudged p) left (client-judged-size p) (writes .writes)
 
-pub relay-counted : (p : FromRelay) (out : List ℕ) (w : Written) (left : List ℕ) → Writes (relayJudged p) (relayBytes p) out w left → Counted w
-relay-counted p out w left writes = small (relayBytes p) out w (relayJudged p) left (relay-judged-size p) writes
+pub relay-counted : (p : FromRelay) (out : List ℕ) (w : Written) (left : List ℕ) → RelayWrites p out left w → Counted w
+relay-counted p out w left writes = small (relayBytes p) out w (relayJudged p) left (relay-judged-size p) (writes .writes)

@@ -1,7 +1,9 @@
 -- Answers as one number: 0 or more is an answer, below 0 it is minus document 01's refusal number.
+use mathlib.Core.List.{List}
 use mathlib.Core.Path.{_≡_}
-use Prim.Native.Nat.{_≤_}
+use Prim.Native.Nat.{ℕ, _≤_}
 use lib.IntN.{ℤ, pos, negℤ}
+use Rattle.wire.specs.Numbers as wire
 use Rattle.refusal.specs.declared.Refusal.{Refusal}
 use Rattle.refusal.specs.Numbers.{refusalNumber}
 use Rattle.packet.specs.declared.write.Written.{Written}
@@ -18,6 +20,11 @@ writtenCode (Refused why) = refusalCode why
 unfoldable pub Counted : Written → Type 0
 Counted (Bytes count) = count ≤ 2032
 Counted (Refused why) = Unit {0}
+
+-- the relation of a call that is lent bytes to read: each is below 256, as the type of the parameter has it
+pub record OfBytes (lent : List ℕ) (relation : Type 0) : Type 0 where
+  pub bytes : wire.Bytes lent
+  pub does : relation
 
 -- a relation between a call and its answer, where the host is told the answer as `code` has it: some answer stands in the relation, and is told so
 pub record ToldAs {A B : Type 0} (code : A → B) (relation : A → Type 0) (told : B) : Type 0 where

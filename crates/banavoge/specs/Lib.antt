@@ -1,7 +1,6 @@
 -- What a reader must believe of this crate: how answers become numbers, and what is told through references.
 pub mod Answers
 pub mod Fields
-pub mod Written
 pub mod Nodes
 pub mod Nearest
 pub mod Rooms

@@ -1,5 +1,5 @@
--- What the exported functions on a nearest list answer, and what they leave in the host's memory. The answers and the memory are those of
--- `lent_list`; a refusal leaves the memory (`RoundTrips` of that crate) and sets no reference.
+-- What the exported functions on a nearest list answer. The relations are those of `lent_list` (`Begins`, `Offers`, `Removes`), told as the numbers here; a
+-- refusal sets no reference.
 use mathlib.Core.List.{List}
 use mathlib.Core.Path.{_≡_}
 use Prim.Native.Nat.{ℕ}
@@ -10,12 +10,9 @@ use Rattle.nearest.specs.declared.Answer.{Answer}
 use Rattle.nearest.specs.declared.Answer.the-variants as answer
 use Rattle.nearest.specs.declared.OfferAnswer.{OfferAnswer}
 use Rattle.nearest.specs.declared.OfferAnswer.the-variants as offer
-use Rattle.nearest.specs.Calls.{begun, offered, removed}
 use Rattle.lent_list.specs.declared.Held.{Held}
 use Rattle.lent_list.specs.declared.Held.the-variants as found
 use Rattle.lent_list.specs.declared.HeldNode.{HeldNode}
-use Rattle.lent_list.specs.Layout.{listAt, stored}
-use Rattle.lent_list.specs.Calls.{begunAnswer, offerAnswered, removeAnswered}
 use Rattle.banavoge.specs.Answers.{refusalCode}
 
 -- the key that a parameter of a call makes
@@ -32,18 +29,6 @@ unfoldable pub keptCode : OfferAnswer → ℤ
 keptCode offer.Kept = pos 1
 keptCode offer.NotKept = pos 0
 keptCode (offer.Refused why) = refusalCode why
-
-pub record BeginsList (target : Key) (size : ℕ) (memory : List ℕ) (answer : ℤ) (left : List ℕ) : Type 0 where
-  pub answers : answer ≡ doneCode (begunAnswer (begun target size .answer) memory)
-  pub leaves : left ≡ stored (begun target size .list) memory
-
-pub record OffersTo (n : Node) (memory : List ℕ) (answer : ℤ) (left : List ℕ) : Type 0 where
-  pub answers : answer ≡ keptCode (offerAnswered memory n)
-  pub leaves : left ≡ stored (offered (listAt memory) n .list) memory
-
-pub record RemovesFrom (key : Key) (memory : List ℕ) (answer : ℤ) (left : List ℕ) : Type 0 where
-  pub answers : answer ≡ doneCode (removeAnswered memory key)
-  pub leaves : left ≡ stored (removed (listAt memory) key .list) memory
 
 -- ---- the node at an index: 1 shown, 0 none there, or minus the refusal
 

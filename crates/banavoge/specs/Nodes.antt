@@ -7,10 +7,9 @@ use lib.ListN.{length}
 use Rattle.node.specs.declared.Node.{Node}
 use Rattle.node.specs.declared.writer.Written.{Written}
 use Rattle.node.specs.declared.writer.Written.the-variants.{Bytes, Refused}
-use Rattle.node.specs.Nodes.{NodeInfo, packedNode, Read, node, refused}
+use Rattle.node.specs.Nodes.{packedNode, Read, node, refused}
 use Rattle.node.specs.Values.{valueOf}
 use Rattle.node.specs.Steps.{Showing, shows, ends, refuses}
-use Rattle.node.specs.Written.{writtenAnswer, writtenOutput}
 use Rattle.banavoge.specs.Answers.{refusalCode}
 
 -- what the five references refer to
@@ -62,12 +61,8 @@ pub record StepsNode (place : ℕ) (step : Showing) (answer : ℤ) (before after
   pub answers : answer ≡ stepCode step
   pub leaves : after ≡ stepAfter place step before
 
--- ---- a node written: the byte count, or minus the refusal
+-- ---- a node written (`WritesNode` of `node`): the byte count, or minus the refusal
 
 unfoldable pub nodeWrittenCode : Written → ℤ
 nodeWrittenCode (Bytes count) = pos count
 nodeWrittenCode (Refused why) = refusalCode why
-
-pub record ExportsNode (n : NodeInfo) (out : List ℕ) (answer : ℤ) (left : List ℕ) : Type 0 where
-  pub answers : answer ≡ nodeWrittenCode (writtenAnswer n out)
-  pub leaves : left ≡ writtenOutput n out

@@ -1,12 +1,13 @@
 // Nearest lists that live in the host's memory. Document 01's section "The nearest list"; docs/ARCHITECTURE.md draws the memory.
 //
-// Every call on a list that was begun tests it in full before it uses it: 14 for memory too short, then 12, 14. A refused offer or removal leaves
-// every byte of the memory.
+// Every call but banavoge_nearest_begin tests all of the list first: 12, then 14. Memory too short gets 14, or 12 where its first byte is no size. A refused
+// offer or removal leaves every byte of the memory.
 ghost use mathlib.Core.Path.{_≡_};
 ghost use Rattle.lent_list.specs.Layout.{listLength};
-ghost use Rattle.lent_list.specs.Calls.{heldAt};
+ghost use Rattle.lent_list.specs.Calls.{Begins, Offers, Removes, heldAt};
+ghost use Rattle.banavoge.specs.Answers.{ToldAs};
 ghost use Rattle.banavoge.specs.Nodes.{nodeGiven};
-ghost use Rattle.banavoge.specs.Nearest.{keyGiven, BeginsList, OffersTo, RemovesFrom, heldPlaces, heldPlacesOf, ShowsHeld};
+ghost use Rattle.banavoge.specs.Nearest.{keyGiven, doneCode, keptCode, heldPlaces, heldPlacesOf, ShowsHeld};
 use crate::answer;
 use key::Key;
 use lent_list::Held;
@@ -24,7 +25,7 @@ pub extern "C" fn banavoge_nearest_bytes() -> usize
 // Begins the empty list of a size for a target: 0, or minus 12, or minus 14 for memory too short. A bad size begins the empty list of size 8.
 #[no_mangle]
 pub extern "C" fn banavoge_nearest_begin(list: &mut [u8], target: &[u8; 32], size: usize) -> i32
-    ensures { λ r. ⌜ BeginsList (keyGiven (now (target .entry))) size (now (list .entry)) r (now (list .exit)) ⌝ }
+    ensures { λ r. ⌜ ToldAs doneCode (Begins (keyGiven (now (target .entry))) size (now (list .entry)) (now (list .exit))) r ⌝ }
 {
     let answer = lent_list::begin(list, Key(*target), size);
     answer::done(answer)
@@ -39,7 +40,7 @@ pub extern "C" fn banavoge_nearest_offer(
     port: u16,
     key: &[u8; 32],
 ) -> i32
-    ensures { λ r. ⌜ OffersTo (nodeGiven family (now (address .entry)) port (now (key .entry))) (now (list .entry)) r (now (list .exit)) ⌝ }
+    ensures { λ r. ⌜ ToldAs keptCode (Offers (nodeGiven family (now (address .entry)) port (now (key .entry))) (now (list .entry)) (now (list .exit))) r ⌝ }
 {
     let node = Node {
         family,
@@ -54,7 +55,7 @@ pub extern "C" fn banavoge_nearest_offer(
 // Takes out the node of a key: 0, or minus 12, 14 or 13.
 #[no_mangle]
 pub extern "C" fn banavoge_nearest_remove(list: &mut [u8], key: &[u8; 32]) -> i32
-    ensures { λ r. ⌜ RemovesFrom (keyGiven (now (key .entry))) (now (list .entry)) r (now (list .exit)) ⌝ }
+    ensures { λ r. ⌜ ToldAs doneCode (Removes (keyGiven (now (key .entry))) (now (list .entry)) (now (list .exit))) r ⌝ }
 {
     let answer = lent_list::remove(list, Key(*key));
     answer::done(answer)

@@ -3,15 +3,16 @@ ghost use mathlib.Core.Path.{_≡_};
 ghost use lib.ListN.{drop};
 ghost use Rattle.node.specs.Nodes.{readNode};
 ghost use Rattle.node.specs.Steps.{stepOf};
-ghost use Rattle.node.specs.Values.{infoOf};
-ghost use Rattle.banavoge.specs.Nodes.{nodePlaces, nodePlacesOf, nodeGiven, ReadsNode, StepsNode, ExportsNode, nodeWrittenCode};
+ghost use Rattle.node.specs.Written.{WritesNode};
+ghost use Rattle.banavoge.specs.Answers.{OfBytes, ToldAs};
+ghost use Rattle.banavoge.specs.Nodes.{nodePlaces, nodePlacesOf, nodeGiven, ReadsNode, StepsNode, nodeWrittenCode};
 use crate::answer;
 use key::Key;
 use node::Node;
 use node::reader;
 use node::reader::Found;
-use node::walk;
 use node::walk::Shown;
+use node::walker;
 use node::writer;
 use node::writer::Written;
 
@@ -48,7 +49,7 @@ pub extern "C" fn banavoge_node_read(
     key: &mut [u8; 32],
     next: &mut usize,
 ) -> i32
-    ensures { λ r. ⌜ ReadsNode at (readNode (drop at (now (bytes .entry)))) r (nodePlaces (now (family .entry)) (now (address .entry)) (now (port .entry)) (now (key .entry)) (now (next .entry))) (nodePlaces (now (family .exit)) (now (address .exit)) (now (port .exit)) (now (key .exit)) (now (next .exit))) ⌝ }
+    ensures { λ r. ⌜ OfBytes (now (bytes .entry)) (ReadsNode at (readNode (drop at (now (bytes .entry)))) r (nodePlaces (now (family .entry)) (now (address .entry)) (now (port .entry)) (now (key .entry)) (now (next .entry))) (nodePlaces (now (family .exit)) (now (address .exit)) (now (port .exit)) (now (key .exit)) (now (next .exit)))) ⌝ }
 {
     let read = reader::read(bytes, at);
     let found = read.found;
@@ -62,7 +63,7 @@ pub extern "C" fn banavoge_node_read(
     }
 }
 
-// The step of a walk from a place of a list, with so many nodes shown: 1 and the node, 0 at the end, or minus 17, 15 or 16.
+// The step of document 01's walker, which a C host keeps as a place and a count: 1 and the node, 0 at the end, or minus 17, 15 or 16.
 #[no_mangle]
 pub extern "C" fn banavoge_nodes_step(
     list: &[u8],
@@ -74,9 +75,9 @@ pub extern "C" fn banavoge_nodes_step(
     key: &mut [u8; 32],
     next: &mut usize,
 ) -> i32
-    ensures { λ r. ⌜ StepsNode place (stepOf (now (list .entry)) place count) r (nodePlaces (now (family .entry)) (now (address .entry)) (now (port .entry)) (now (key .entry)) (now (next .entry))) (nodePlaces (now (family .exit)) (now (address .exit)) (now (port .exit)) (now (key .exit)) (now (next .exit))) ⌝ }
+    ensures { λ r. ⌜ OfBytes (now (list .entry)) (StepsNode place (stepOf (now (list .entry)) place count) r (nodePlaces (now (family .entry)) (now (address .entry)) (now (port .entry)) (now (key .entry)) (now (next .entry))) (nodePlaces (now (family .exit)) (now (address .exit)) (now (port .exit)) (now (key .exit)) (now (next .exit)))) ⌝ }
 {
-    let stepped = walk::step(list, place, count);
+    let stepped = walker::step_from(list, place, count);
     let shown = stepped.shown;
     let node = stepped.node;
     let after = stepped.place;
@@ -99,7 +100,7 @@ pub extern "C" fn banavoge_node_write(
     key: &[u8; 32],
     out: &mut [u8],
 ) -> i32
-    ensures { λ r. ⌜ ExportsNode (infoOf (nodeGiven family (now (address .entry)) port (now (key .entry)))) (now (out .entry)) r (now (out .exit)) ⌝ }
+    ensures { λ r. ⌜ ToldAs nodeWrittenCode (WritesNode (nodeGiven family (now (address .entry)) port (now (key .entry))) (now (out .entry)) (now (out .exit))) r ⌝ }
 {
     let node = Node {
         family,
@@ -112,7 +113,7 @@ pub extern "C" fn banavoge_node_write(
 
 // The byte count of a packed node, or minus the refusal's number.
 fn packed(node: Node, out: &mut [u8]) -> i32
-    ensures { λ r. ⌜ ExportsNode (infoOf node) (now (out .entry)) r (now (out .exit)) ⌝ }
+    ensures { λ r. ⌜ ToldAs nodeWrittenCode (WritesNode node (now (out .entry)) (now (out .exit))) r ⌝ }
 {
     match writer::write(node, out) {
         Written::Bytes(bytes) => answer::count(bytes),

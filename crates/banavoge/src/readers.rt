@@ -5,6 +5,7 @@ ghost use Rattle.packet.specs.FromClient.{relayRead};
 ghost use Rattle.packet.specs.FromRelay.{clientRead};
 ghost use Rattle.packet.specs.RelayReads.{relayKey};
 ghost use Rattle.packet.specs.ClientReads.{clientKey};
+ghost use Rattle.banavoge.specs.Answers.{OfBytes};
 ghost use Rattle.banavoge.specs.Fields.{fields, places, placesOf, clientShown, relayShown, clientFields, relayFields, ReadsFields, ReadsKey};
 use crate::answer;
 use packet::client;
@@ -137,7 +138,7 @@ pub extern "C" fn banavoge_relay_read(
     start: &mut usize,
     length: &mut usize,
 ) -> i32
-    ensures { λ r. ⌜ ReadsFields clientFields (relayRead (now (packet .entry))) r (places (now (number .entry)) (now (ping .entry)) (now (start .entry)) (now (length .entry))) (places (now (number .exit)) (now (ping .exit)) (now (start .exit)) (now (length .exit))) ⌝ }
+    ensures { λ r. ⌜ OfBytes (now (packet .entry)) (ReadsFields clientFields (relayRead (now (packet .entry))) r (places (now (number .entry)) (now (ping .entry)) (now (start .entry)) (now (length .entry))) (places (now (number .exit)) (now (ping .exit)) (now (start .exit)) (now (length .exit)))) ⌝ }
 {
     match relay_end::read(packet) {
         RelayRead::Packet(shown) => tell(of_client(shown), number, ping, start, length),
@@ -154,7 +155,7 @@ pub extern "C" fn banavoge_client_read(
     start: &mut usize,
     length: &mut usize,
 ) -> i32
-    ensures { λ r. ⌜ ReadsFields relayFields (clientRead (now (packet .entry))) r (places (now (number .entry)) (now (ping .entry)) (now (start .entry)) (now (length .entry))) (places (now (number .exit)) (now (ping .exit)) (now (start .exit)) (now (length .exit))) ⌝ }
+    ensures { λ r. ⌜ OfBytes (now (packet .entry)) (ReadsFields relayFields (clientRead (now (packet .entry))) r (places (now (number .entry)) (now (ping .entry)) (now (start .entry)) (now (length .entry))) (places (now (number .exit)) (now (ping .exit)) (now (start .exit)) (now (length .exit)))) ⌝ }
 {
     match client::read(packet) {
         ClientRead::Packet(shown) => tell(of_relay(shown), number, ping, start, length),

@@ -23,7 +23,7 @@ pub extern "C" fn banavoge_room_bytes() -> usize
 pub extern "C" fn banavoge_room_empty(room: &mut [u8]) -> i32
     ensures { λ r. ⌜ ToldAs (doneOr OutputTooShort) (MakesEmpty 40 32 (now (room .entry)) (now (room .exit))) r ⌝ }
 {
-    let made = whole::make_empty(room, Room::SEATS, Room::NUMBERS);
+    let made = Room::empty(room);
     answer::done_or(Refusal::OutputTooShort, made)
 }
 

@@ -2,9 +2,10 @@
 use denote.Ref.{now}
 use mathlib.Core.Path.{_≡_}
 use Rattle.lent_list.specs.Layout.{listLength}
-use Rattle.lent_list.specs.Calls.{heldAt}
+use Rattle.lent_list.specs.Calls.{Begins, Offers, Removes, heldAt}
+use Rattle.banavoge.specs.Answers.{ToldAs}
 use Rattle.banavoge.specs.Nodes.{nodeGiven}
-use Rattle.banavoge.specs.Nearest.{keyGiven, BeginsList, OffersTo, RemovesFrom, heldPlaces, ShowsHeld}
+use Rattle.banavoge.specs.Nearest.{keyGiven, doneCode, keptCode, heldPlaces, ShowsHeld}
 use Rattle.banavoge.proofs.nearest_lists.banavoge_nearest_bytes.Kinds as nearest-bytes-kinds
 use Rattle.banavoge.proofs.nearest_lists.banavoge_nearest_bytes.Reads as nearest-bytes-reads
 use Rattle.banavoge.proofs.nearest_lists.banavoge_nearest_begin.Kinds as nearest-begin-kinds
@@ -24,17 +25,17 @@ banavoge-nearest-bytes = record { asks-nothing = λ κs args. tt; gives = λ κs
 
 pub banavoge-nearest-begin : Promises 2 nearest-begin-kinds.ps nearest-begin-kinds.r nearest-begin-reads.Asked nearest-begin-reads.Post
     (λ κs (list, (target, (size, _))) answer (list′, _).
-    BeginsList (keyGiven (now target)) size (now list) answer (now list′))
+    ToldAs doneCode (Begins (keyGiven (now target)) size (now list) (now list′)) answer)
 banavoge-nearest-begin = record { asks-nothing = λ κs args. tt; gives = λ κs args answer left p. p }
 
 pub banavoge-nearest-offer : Promises 3 nearest-offer-kinds.ps nearest-offer-kinds.r nearest-offer-reads.Asked nearest-offer-reads.Post
     (λ κs (list, (family, (address, (port, (key, _))))) answer (list′, _).
-    OffersTo (nodeGiven family (now address) port (now key)) (now list) answer (now list′))
+    ToldAs keptCode (Offers (nodeGiven family (now address) port (now key)) (now list) (now list′)) answer)
 banavoge-nearest-offer = record { asks-nothing = λ κs args. tt; gives = λ κs args answer left p. p }
 
 pub banavoge-nearest-remove : Promises 2 nearest-remove-kinds.ps nearest-remove-kinds.r nearest-remove-reads.Asked nearest-remove-reads.Post
     (λ κs (list, (key, _)) answer (list′, _).
-    RemovesFrom (keyGiven (now key)) (now list) answer (now list′))
+    ToldAs doneCode (Removes (keyGiven (now key)) (now list) (now list′)) answer)
 banavoge-nearest-remove = record { asks-nothing = λ κs args. tt; gives = λ κs args answer left p. p }
 
 pub banavoge-nearest-node : Promises 5 nearest-node-kinds.ps nearest-node-kinds.r nearest-node-reads.Asked nearest-node-reads.Post

@@ -4,6 +4,7 @@ use Rattle.packet.specs.FromClient.{relayRead}
 use Rattle.packet.specs.FromRelay.{clientRead}
 use Rattle.packet.specs.RelayReads.{relayKey}
 use Rattle.packet.specs.ClientReads.{clientKey}
+use Rattle.banavoge.specs.Answers.{OfBytes}
 use Rattle.banavoge.specs.Fields.{places, clientFields, relayFields, ReadsFields, ReadsKey}
 use Rattle.banavoge.proofs.readers.banavoge_relay_read.Kinds as relay-read-kinds
 use Rattle.banavoge.proofs.readers.banavoge_relay_read.Reads as relay-read-reads
@@ -17,12 +18,12 @@ use Rattle.contracts.specs.Promises.{Promises}
 
 pub banavoge-relay-read : Promises 5 relay-read-kinds.ps relay-read-kinds.r relay-read-reads.Asked relay-read-reads.Post
     (λ κs (packet, (number, (ping, (start, (length, _))))) answer (_, (number′, (ping′, (start′, (length′, _))))).
-    ReadsFields clientFields (relayRead (now packet)) answer (places (now number) (now ping) (now start) (now length)) (places (now number′) (now ping′) (now start′) (now length′)))
+    OfBytes (now packet) (ReadsFields clientFields (relayRead (now packet)) answer (places (now number) (now ping) (now start) (now length)) (places (now number′) (now ping′) (now start′) (now length′))))
 banavoge-relay-read = record { asks-nothing = λ κs args. tt; gives = λ κs args answer left p. p }
 
 pub banavoge-client-read : Promises 5 client-read-kinds.ps client-read-kinds.r client-read-reads.Asked client-read-reads.Post
     (λ κs (packet, (number, (ping, (start, (length, _))))) answer (_, (number′, (ping′, (start′, (length′, _))))).
-    ReadsFields relayFields (clientRead (now packet)) answer (places (now number) (now ping) (now start) (now length)) (places (now number′) (now ping′) (now start′) (now length′)))
+    OfBytes (now packet) (ReadsFields relayFields (clientRead (now packet)) answer (places (now number) (now ping) (now start) (now length)) (places (now number′) (now ping′) (now start′) (now length′))))
 banavoge-client-read = record { asks-nothing = λ κs args. tt; gives = λ κs args answer left p. p }
 
 pub banavoge-relay-key : Promises 2 relay-key-kinds.ps relay-key-kinds.r relay-key-reads.Asked relay-key-reads.Post

@@ -1,6 +1,7 @@
 -- The exported writers of packets. Each contract is what stands here, and asks nothing of the caller. Assumes nothing.
 use denote.Ref.{now}
-use Rattle.banavoge.specs.Written.{ClientExports, RelayExports, PingExports, PongExports, DataExports}
+use Rattle.packet.specs.Written.{ClientWrites, RelayWrites, PingWrites, PongWrites, DataWrites}
+use Rattle.banavoge.specs.Answers.{ToldAs, writtenCode}
 use Rattle.packet.specs.FromClient.{routingRequest, dropRoute, oobSend}
 use Rattle.packet.specs.FromRelay.{routingResponse, connectNotice, disconnectNotice, oobReceived}
 use Rattle.banavoge.proofs.writers.banavoge_routing_request.Kinds as routing-request-kinds
@@ -27,50 +28,50 @@ use Rattle.contracts.specs.Promises.{Promises}
 
 pub banavoge-routing-request : Promises 2 routing-request-kinds.ps routing-request-kinds.r routing-request-reads.Asked routing-request-reads.Post
     (λ κs (key, (out, _)) answer (_, (out′, _)).
-    ClientExports (routingRequest (now key)) (now out) answer (now out′))
+    ToldAs writtenCode (ClientWrites (routingRequest (now key)) (now out) (now out′)) answer)
 banavoge-routing-request = record { asks-nothing = λ κs args. tt; gives = λ κs args answer left p. p }
 
 pub banavoge-routing-response : Promises 2 routing-response-kinds.ps routing-response-kinds.r routing-response-reads.Asked routing-response-reads.Post
     (λ κs (number, (key, (out, _))) answer (_, (_, (out′, _))).
-    RelayExports (routingResponse number (now key)) (now out) answer (now out′))
+    ToldAs writtenCode (RelayWrites (routingResponse number (now key)) (now out) (now out′)) answer)
 banavoge-routing-response = record { asks-nothing = λ κs args. tt; gives = λ κs args answer left p. p }
 
 pub banavoge-connect-notification : Promises 1 connect-notification-kinds.ps connect-notification-kinds.r connect-notification-reads.Asked connect-notification-reads.Post
     (λ κs (number, (out, _)) answer (_, (out′, _)).
-    RelayExports (connectNotice number) (now out) answer (now out′))
+    ToldAs writtenCode (RelayWrites (connectNotice number) (now out) (now out′)) answer)
 banavoge-connect-notification = record { asks-nothing = λ κs args. tt; gives = λ κs args answer left p. p }
 
 pub banavoge-disconnect-notification : Promises 1 disconnect-notification-kinds.ps disconnect-notification-kinds.r disconnect-notification-reads.Asked disconnect-notification-reads.Post
     (λ κs (number, (out, _)) answer (_, (out′, _)).
-    RelayExports (disconnectNotice number) (now out) answer (now out′))
+    ToldAs writtenCode (RelayWrites (disconnectNotice number) (now out) (now out′)) answer)
 banavoge-disconnect-notification = record { asks-nothing = λ κs args. tt; gives = λ κs args answer left p. p }
 
 pub banavoge-drop : Promises 1 drop-kinds.ps drop-kinds.r drop-reads.Asked drop-reads.Post
     (λ κs (number, (out, _)) answer (_, (out′, _)).
-    ClientExports (dropRoute number) (now out) answer (now out′))
+    ToldAs writtenCode (ClientWrites (dropRoute number) (now out) (now out′)) answer)
 banavoge-drop = record { asks-nothing = λ κs args. tt; gives = λ κs args answer left p. p }
 
 pub banavoge-ping : Promises 1 ping-kinds.ps ping-kinds.r ping-reads.Asked ping-reads.Post
     (λ κs (n, (out, _)) answer (_, (out′, _)).
-    PingExports n (now out) answer (now out′))
+    ToldAs writtenCode (PingWrites n (now out) (now out′)) answer)
 banavoge-ping = record { asks-nothing = λ κs args. tt; gives = λ κs args answer left p. p }
 
 pub banavoge-pong : Promises 1 pong-kinds.ps pong-kinds.r pong-reads.Asked pong-reads.Post
     (λ κs (n, (out, _)) answer (_, (out′, _)).
-    PongExports n (now out) answer (now out′))
+    ToldAs writtenCode (PongWrites n (now out) (now out′)) answer)
 banavoge-pong = record { asks-nothing = λ κs args. tt; gives = λ κs args answer left p. p }
 
 pub banavoge-oob-send : Promises 3 oob-send-kinds.ps oob-send-kinds.r oob-send-reads.Asked oob-send-reads.Post
     (λ κs (key, (payload, (out, _))) answer (_, (_, (out′, _))).
-    ClientExports (oobSend (now key) (now payload)) (now out) answer (now out′))
+    ToldAs writtenCode (ClientWrites (oobSend (now key) (now payload)) (now out) (now out′)) answer)
 banavoge-oob-send = record { asks-nothing = λ κs args. tt; gives = λ κs args answer left p. p }
 
 pub banavoge-oob-received : Promises 3 oob-received-kinds.ps oob-received-kinds.r oob-received-reads.Asked oob-received-reads.Post
     (λ κs (key, (payload, (out, _))) answer (_, (_, (out′, _))).
-    RelayExports (oobReceived (now key) (now payload)) (now out) answer (now out′))
+    ToldAs writtenCode (RelayWrites (oobReceived (now key) (now payload)) (now out) (now out′)) answer)
 banavoge-oob-received = record { asks-nothing = λ κs args. tt; gives = λ κs args answer left p. p }
 
 pub banavoge-data : Promises 2 data-kinds.ps data-kinds.r data-reads.Asked data-reads.Post
     (λ κs (number, (payload, (out, _))) answer (_, (_, (out′, _))).
-    DataExports number (now payload) (now out) answer (now out′))
+    ToldAs writtenCode (DataWrites number (now payload) (now out) (now out′)) answer)
 banavoge-data = record { asks-nothing = λ κs args. tt; gives = λ κs args answer left p. p }

@@ -12,7 +12,7 @@ use Rattle.refusal.proofs.LookedUp.{looked-up}
 use Rattle.rules.specs.Room.{Key}
 use Rattle.rules.specs.Call.{Call, arrive, accepted, refused, Sent}
 use Rattle.rules.specs.Outcome.{Outcome, refuse, accept, sentBytes}
-use Rattle.rules.proofs.RefusedOrAccepted.{RefusedOrAccepted, MadeAt, refusal, acceptance}
+use Rattle.rules.specs.Accepted.{RefusedOrAccepted, MadeAt, refusal, acceptance}
 use Rattle.banavoge.specs.Answers.{refusalCode}
 use Rattle.banavoge.specs.RelayCalls.{seatCode, countCode}
 use Rattle.histories.specs.Seen.{acceptedWith, answered}

@@ -16,8 +16,8 @@ use Rattle.rules.specs.History.{Event, event}
 use Rattle.rules.specs.Transcript.{fromEmpty}
 use Rattle.rules.specs.After.{pastAfter}
 use Rattle.rules.specs.GoesOn.{DataGoesOn}
+use Rattle.rules.specs.Room.{sizesOf}
 use Rattle.rules.proofs.DataGoesOn.{data-goes-on, data-goes-on-from-empty}
-use Rattle.room_laws.proofs.TablesLaws.{sizesOf}
 use Rattle.relay.specs.Calls.{leastOutput, Sends}
 use Rattle.banavoge.specs.Answers.{ToldAs}
 use Rattle.banavoge.specs.RelayCalls.{countCode}

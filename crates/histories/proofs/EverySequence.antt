@@ -9,7 +9,7 @@ use native.Mathlib.Omega.{arith}
 use lib.ListN.{length, drop}
 use Rattle.refusal.specs.declared.Refusal.the-variants.{RoomNotWhole}
 use Rattle.rules.specs.Room.{Key}
-use Rattle.rules.specs.Call.{Call, arrive, leave, packetCall, Sent}
+use Rattle.rules.specs.Call.{Call, arrive, leave, packetCall, Sent, KeyOf32}
 use Rattle.rules.specs.Outcome.{Outcome, refuse, sentBytes, outcome}
 use Rattle.rules.specs.History.{Event}
 use Rattle.rules.proofs.QuietArrival.{arrive-sends-nothing}
@@ -17,18 +17,13 @@ use Rattle.room.specs.Layout.{fitsRoom}
 use Rattle.room.specs.View.{viewRoom}
 use Rattle.room.specs.Whole.{roomWhole}
 use Rattle.room.specs.Store.{storeAll, emptied}
-use Rattle.room_laws.proofs.OutcomeLaws.{KeyOf32}
 use Rattle.relay.specs.Calls.{Leaves, leastOutput, tested, needed, ifLong, withOutput}
 use Rattle.banavoge.specs.Rooms.{doneOr}
 use Rattle.banavoge.specs.RelayCalls.{seatCode, countCode}
 use Rattle.histories.specs.Seen.{seenAs, seen}
-use Rattle.histories.specs.Lent.{Lent, lentWith, AllLong}
-use Rattle.histories.specs.History.{Step, arrives, departs, sends, AnyChain, none, next, Chain, BeginsEmpty, AnyCalls, History, callsOf}
-
--- each arrival is by a key of 32 bytes
-abbrev pub KeysOf32 : List Call → Type 0
-KeysOf32 [] = Unit {0}
-KeysOf32 (call ∷ calls) = KeyOf32 call × KeysOf32 calls
+use Rattle.histories.specs.Lent.{AllLong}
+use Rattle.histories.specs.Sequences.{KeysOf32, lentTo, CallMade, lentsTo, callsMade, AnyChainOf, ChainOf, AnyCallsOf, HistoryOf}
+use Rattle.histories.specs.History.{Step, arrives, departs, sends, none, next, BeginsEmpty, callsOf}
 
 -- ---- one call
 
@@ -44,12 +39,6 @@ quiet s n b key = go (roomWhole s n b)
 none-written : (sent : List Sent) → sent ≡ [] → [] ≡ sentBytes sent ++ drop (length (sentBytes sent)) []
 unfolding sentBytes
 none-written sent e = rw e
-
--- an Arrive is lent no output
-abbrev pub lentTo : Call → List ℕ → Lent
-lentTo (arrive key) out = lentWith (arrive key) []
-lentTo (leave seat) out = lentWith (leave seat) out
-lentTo (packetCall seat bytes) out = lentWith (packetCall seat bytes) out
 
 -- one call has a step
 record Steps (s n : ℕ) (b : List ℕ) (call : Call) (out : List ℕ) : Type 0 where
@@ -104,26 +93,6 @@ module _ (s n : ℕ) where
 
 -- ---- calls one after the other
 
--- a call, and the output that the host has for it
-pub record CallMade : Type 0 where
-  pub call : Call
-  pub out : List ℕ
-
-unfoldable pub lentsTo : List CallMade → List Lent
-lentsTo [] = []
-lentsTo (m ∷ made) = lentTo (m .call) (m .out) ∷ lentsTo made
-
-unfoldable pub callsMade : List CallMade → List Call
-callsMade [] = []
-callsMade (m ∷ made) = m .call ∷ callsMade made
-
--- a chain with these calls and outputs
-pub record AnyChainOf (s n : ℕ) (b : List ℕ) (made : List CallMade) : Type 0 where
-  pub events : List Event
-  pub left : List ℕ
-  pub chain : AnyChain s n b (lentsTo made) events left
-  pub are : callsOf events ≡ callsMade made
-
 pub every-call-made : (s n : ℕ) (b : List ℕ) (made : List CallMade) → KeysOf32 (callsMade made) → AnyChainOf s n b made
 unfolding callsOf callsMade lentsTo
 every-call-made s n b [] k = record { events = []; left = b; chain = none; are = refl }
@@ -138,13 +107,6 @@ every-call-made s n b (m ∷ made) k =
     }
 
 -- ---- with one output for all
-
--- a chain with these calls
-pub record ChainOf (s n : ℕ) (b : List ℕ) (calls : List Call) : Type 0 where
-  pub events : List Event
-  pub left : List ℕ
-  pub chain : Chain s n b events left
-  pub are : callsOf events ≡ calls
 
 module _ (out : List ℕ) where
   unfoldable pub withOutputs : List Call → List CallMade
@@ -188,24 +150,10 @@ fits-begins s n memory fits =
       empties = record { given = true; relates = record { answers = sym fits; leaves = rw fits }; codes = refl };
     }
 
--- any calls from the empty room, these with these outputs
-pub record AnyCallsOf (s n : ℕ) (made : List CallMade) : Type 0 where
-  pub events : List Event
-  pub left : List ℕ
-  pub calls : AnyCalls s n (lentsTo made) events left
-  pub are : callsOf events ≡ callsMade made
-
 pub every-calls : (s n : ℕ) (memory : List ℕ) → fitsRoom s n memory ≡ true → (made : List CallMade) → KeysOf32 (callsMade made) → AnyCallsOf s n made
 every-calls s n memory fits made k =
     let c = every-call-made s n (emptied s n memory) made k in
     record { events = c .events; left = c .left; calls = record { room = emptied s n memory; begun = fits-begins s n memory fits; chain = c .chain }; are = c .are }
-
--- a history with these calls
-pub record HistoryOf (s n : ℕ) (calls : List Call) : Type 0 where
-  pub events : List Event
-  pub left : List ℕ
-  pub history : History s n events left
-  pub are : callsOf events ≡ calls
 
 pub every-sequence : (s n : ℕ) (memory : List ℕ) → fitsRoom s n memory ≡ true → (out : List ℕ) → leastOutput ≤ length out
     → (calls : List Call) → KeysOf32 calls → HistoryOf s n calls

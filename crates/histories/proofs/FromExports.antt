@@ -34,7 +34,8 @@ use Rattle.histories.specs.History.{Step, arrives, departs, sends, Begin
 use Rattle.histories.specs.RunSeen.{runSeen}
 use Rattle.histories.specs.ExportedCalls.{hostMemory, noPlaces, Exported}
 use Rattle.histories.specs.ExportedCalls as exported
-use Rattle.histories.proofs.RunHistories.{ThenRun, calls-then-run, history-then-run}
+use Rattle.histories.specs.Runs.{ThenRun}
+use Rattle.histories.proofs.RunHistories.{calls-then-run, history-then-run}
 
 -- `banavoge_room_empty` that answers 0 begins a history
 pub empty-begins : Gives 1 empty-kinds.ps empty-kinds.r empty-reads.Post (λ κs (room, _) answer (room′, _). answer ≡ pos 0 → BeginsEmpty 40 32 (now room′))

@@ -12,24 +12,23 @@ use native.Mathlib.Omega.{arith}
 use lib.IntN.{ℤ, pos}
 use lib.ListN.{length, drop}
 use Rattle.refusal.specs.declared.Refusal.the-variants.{OutputTooShort}
-use Rattle.rules.specs.Room.{Sizes, baseSizes, Key, Room, emptyRoom}
+use Rattle.rules.specs.Room.{Sizes, baseSizes, Key, Room, emptyRoom, sizesOf}
 use Rattle.rules.specs.Whole.{Whole}
-use Rattle.rules.specs.Call.{Call, arrive, leave, packetCall, Answer, accepted}
+use Rattle.rules.specs.Call.{Call, arrive, leave, packetCall, Answer, accepted, KeyOf32}
 use Rattle.rules.specs.Outcome.{Outcome, refuse, sentBytes, outcome, roomAfter}
 use Rattle.rules.specs.History.{Event, event, transcript}
 use Rattle.rules.specs.Transcript.{Past, Start, fromEmpty}
 use Rattle.rules.specs.After.{roomAfterAll, pastAfter, Tied}
-use Rattle.rules.proofs.RefusedOrAccepted.{MadeAt, outcome-made, leave-made-at, packet-made-at}
+use Rattle.rules.specs.Accepted.{MadeAt}
+use Rattle.rules.proofs.RefusedOrAccepted.{outcome-made, leave-made-at, packet-made-at}
 use Rattle.rules.proofs.QuietArrival.{arrive-sends-nothing}
 use Rattle.rules.proofs.Tied.{tied-empty}
 use Rattle.room.specs.Layout.{fitsRoom}
 use Rattle.room.specs.View.{viewRoom}
 use Rattle.room.specs.Whole.{roomWhole}
 use Rattle.room.specs.Store.{storeAll, emptied, MakesEmpty}
-use Rattle.room_laws.proofs.TablesLaws.{sizesOf}
 use Rattle.room_laws.proofs.WholeLaws.{whole-view}
 use Rattle.room_laws.proofs.EmptyLaws.{empty-whole, empty-view}
-use Rattle.room_laws.proofs.OutcomeLaws.{KeyOf32}
 use Rattle.relay.specs.Calls.{written, Leaves, tested, needed, withOutput, Arrives, Departs, Sends}
 use Rattle.relay.proofs.OutcomeLeaves.{made-written}
 use Rattle.relay.proofs.CallsLaws.{by-call}
@@ -39,6 +38,7 @@ use Rattle.banavoge.specs.RelayCalls.{seatCode, countCode}
 use Rattle.histories.specs.Seen.{recordsRead, seenAs, acceptedWith, answered, seen}
 use Rattle.histories.specs.Lent.{Lent, lentWith, lentOutcome, lentEvent, lentTranscript, lentRoomAfter, AllLong, callsLent}
 use Rattle.histories.specs.History.{Step, arrives, departs, sends, AnyChain, none, next, Chain, BeginsEmpty, AnyCalls, History, callsOf}
+use Rattle.histories.specs.Steps.{StepRight, EqualsSteps, Right, EqualsRules}
 use Rattle.histories.proofs.ReadBack.{all-short, written-read}
 use Rattle.histories.proofs.Answered.{seat-answered, count-answered, refusal-answered}
 use Rattle.histories.proofs.LentLaws.{long-outcome, lent-made, lent-within, lent-stored, lent-tied, long-transcript, long-room}
@@ -84,13 +84,6 @@ module _ (s n : ℕ) (b : List ℕ) where
       (sym (seat-tells (packetCall seat bytes) seat (λ count. refl) (packet-made-at (viewRoom s n b) seat bytes) out number (c .given) (c .relates .answers) (c .codes)))
 
 -- ---- one step
-
--- what the host sees is document 01's event, and the bytes left are those given with the call's changes stored: whole, and document 01's room
-pub record StepRight (s n : ℕ) (b : List ℕ) (l : Lent) (e : Event) (b′ : List ℕ) : Type 0 where
-  pub sees : e ≡ lentEvent (viewRoom s n b) l
-  pub stores : b′ ≡ storeAll s n b (lentOutcome (viewRoom s n b) l .changes)
-  pub room : viewRoom s n b′ ≡ roomAfter (sizesOf s n) (viewRoom s n b) (lentOutcome (viewRoom s n b) l)
-  pub whole : roomWhole s n b′ ≡ true
 
 module _ (s n : ℕ) (b : List ℕ) (whole : roomWhole s n b ≡ true) where
   -- on a whole room, what is left of the tests is the output's length
@@ -143,12 +136,6 @@ module _ (s n : ℕ) (b : List ℕ) (whole : roomWhole s n b ≡ true) where
       (seat-tells s n b call seat (λ count. refl) (packet-made-at (viewRoom s n b) seat bytes) out number (c .given) (c .relates .answers) (c .codes)) e q)
 
 -- ---- any calls
-
--- "every answer, refusal and record equals 01's steps", from a room on; and the bytes at the end are the room that these leave, whole
-pub record EqualsSteps (s n : ℕ) (room : Room) (lents : List Lent) (events : List Event) (b′ : List ℕ) : Type 0 where
-  pub events-are : events ≡ lentTranscript (sizesOf s n) room lents
-  pub room-is : viewRoom s n b′ ≡ lentRoomAfter (sizesOf s n) room lents
-  pub whole : roomWhole s n b′ ≡ true
 
 -- from whole bytes on
 pub any-chain-runs : (s n : ℕ) (b : List ℕ) (lents : List Lent) (events : List Event) (b′ : List ℕ) → AnyChain s n b lents events b′ → roomWhole s n b ≡ true
@@ -206,13 +193,6 @@ any-calls-tied s n lents events b′ h =
 
 -- ---- histories: the outputs are long enough
 
--- one step of a history
-pub record Right (s n : ℕ) (b : List ℕ) (e : Event) (b′ : List ℕ) : Type 0 where
-  pub sees : e ≡ event (viewRoom s n b) (e .call)
-  pub stores : b′ ≡ storeAll s n b (outcome (viewRoom s n b) (e .call) .changes)
-  pub room : viewRoom s n b′ ≡ roomAfter (sizesOf s n) (viewRoom s n b) (outcome (viewRoom s n b) (e .call))
-  pub whole : roomWhole s n b′ ≡ true
-
 pub long-step-right : (s n : ℕ) (b : List ℕ) → roomWhole s n b ≡ true → (l : Lent) (e : Event) (b′ : List ℕ) → Step s n b l e b′ → needed (l .call) ≤ l .space
     → Right s n b e b′
 unfolding lentEvent event
@@ -246,13 +226,7 @@ unfolding callsOf callsLent lentTranscript lentEvent
 calls-lent sizes room [] = refl
 calls-lent sizes room (l ∷ lents) = ap (λ (x : List Call). l .call ∷ x) (calls-lent sizes (roomAfter sizes room (lentOutcome room l)) lents)
 
--- the events are the rules' transcript from a room on, and the bytes at the end are the room that the rules leave, whole
-pub record Runs (s n : ℕ) (room : Room) (events : List Event) (b′ : List ℕ) : Type 0 where
-  pub events-are : events ≡ transcript (sizesOf s n) room (callsOf events)
-  pub room-is : viewRoom s n b′ ≡ roomAfterAll (sizesOf s n) room (callsOf events)
-  pub whole : roomWhole s n b′ ≡ true
-
-of-long : (s n : ℕ) (room : Room) (lents : List Lent) (events : List Event) (b′ : List ℕ) → AllLong lents → EqualsSteps s n room lents events b′ → Runs s n room events b′
+of-long : (s n : ℕ) (room : Room) (lents : List Lent) (events : List Event) (b′ : List ℕ) → AllLong lents → EqualsSteps s n room lents events b′ → EqualsRules s n room events b′
 of-long s n room lents events b′ long r =
     let calls : callsLent lents ≡ callsOf events = sym (ap callsOf (r .events-are) ∙ calls-lent (sizesOf s n) room lents) in
     record {
@@ -263,7 +237,7 @@ of-long s n room lents events b′ long r =
 
 -- from whole bytes on
 pub chain-runs : (s n : ℕ) (b : List ℕ) (events : List Event) (b′ : List ℕ) → Chain s n b events b′ → roomWhole s n b ≡ true
-    → Runs s n (viewRoom s n b) events b′
+    → EqualsRules s n (viewRoom s n b) events b′
 chain-runs s n b events b′ c w = of-long s n (viewRoom s n b) (c .lents) events b′ (c .long) (any-chain-runs s n b (c .lents) events b′ (c .calls) w)
 
 -- a history is some calls from the empty room
@@ -271,13 +245,13 @@ pub history-calls : (s n : ℕ) (events : List Event) (b′ : List ℕ) → (h :
 history-calls s n events b′ h = record { room = h .room; begun = h .begun; chain = h .chain .calls }
 
 -- THE THEOREM, of histories
-pub history-runs : (s n : ℕ) (events : List Event) (b′ : List ℕ) → History s n events b′ → Runs s n (emptyRoom (sizesOf s n)) events b′
+pub history-runs : (s n : ℕ) (events : List Event) (b′ : List ℕ) → History s n events b′ → EqualsRules s n (emptyRoom (sizesOf s n)) events b′
 history-runs s n events b′ h =
     of-long s n (emptyRoom (sizesOf s n)) (h .chain .lents) events b′ (h .chain .long) (any-calls-run s n (h .chain .lents) events b′ (history-calls s n events b′ h))
 
 -- document 01's own sizes
 pub base-history-runs : (events : List Event) (b′ : List ℕ) → History (baseSizes .seats) (baseSizes .numbers) events b′
-    → Runs (baseSizes .seats) (baseSizes .numbers) (emptyRoom baseSizes) events b′
+    → EqualsRules (baseSizes .seats) (baseSizes .numbers) (emptyRoom baseSizes) events b′
 base-history-runs = history-runs (baseSizes .seats) (baseSizes .numbers)
 
 -- so what is proved of each event of the rules' transcripts, each law of `rules` named `..-from-empty`, holds of each event that the host sees

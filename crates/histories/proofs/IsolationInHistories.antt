@@ -1,18 +1,17 @@
--- Demand 3, of any two histories that the host makes, each from the empty room in its own lent memory, of whatever lengths, and of any client C: "If their
--- records for C are equal and neither answers another client's request for C with 0", the packets for C in the output records are equal in both, byte for byte
--- and in order, and so are the answers to C's calls. This is a statement about what the host really calls: record, packets and answers are functions of the
--- events that the host sees. Assumes nothing.
+-- Demand 3, of any two histories that the host makes, each from the empty room in its own lent memory, of whatever lengths, and of any client C: "Suppose their
+-- records for C, listed in document 01, are equal, and neither history answers another client's request for C with 0." Then the packets for C in the output
+-- records are equal in both, byte for byte and in order, and so are the answers to C's calls. This is a statement about what the host really calls: record,
+-- packets and answers are functions of the events that the host sees. Assumes nothing.
 use mathlib.Core.Path.{_≡_, sym}
 use mathlib.Core.Bool.{false}
 use mathlib.Core.List.{List, []}
 use Prim.Native.Nat.{ℕ}
-use Rattle.rules.specs.Room.{Sizes, Key, emptyRoom}
+use Rattle.rules.specs.Room.{Sizes, Key, emptyRoom, sizesOf}
 use Rattle.rules.specs.Call.{Call}
 use Rattle.rules.specs.History.{Event, transcript}
 use Rattle.rules.specs.Transcript.{fromEmpty}
 use Rattle.rules.specs.Record.{recordFor, packetsFor, answersFor, zeroForC}
 use Rattle.rules.proofs.Isolation.{two-histories}
-use Rattle.room_laws.proofs.TablesLaws.{sizesOf}
 use Rattle.histories.specs.History.{History, callsOf}
 use Rattle.histories.proofs.Histories.{history-runs}
 

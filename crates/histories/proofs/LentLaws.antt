@@ -7,19 +7,20 @@ use native.Mathlib.Omega.{arith}
 use lib.ListN.{length}
 use borrow.Author.Tests.{le-leb}
 use Rattle.refusal.specs.declared.Refusal.the-variants.{OutputTooShort}
-use Rattle.rules.specs.Room.{Sizes, Room}
+use Rattle.rules.specs.Room.{Sizes, Room, sizesOf}
 use Rattle.rules.specs.Whole.{Whole}
 use Rattle.rules.specs.Outcome.{Outcome, applyAll, refuse, sentBytes, roomAfter, outcome}
 use Rattle.rules.specs.History.{Event, event, transcript}
 use Rattle.rules.specs.Transcript.{Past, Start}
 use Rattle.rules.specs.After.{roomAfterAll, Tied}
-use Rattle.rules.proofs.RefusedOrAccepted.{RefusedOrAccepted, refusal, outcome-made}
+use Rattle.rules.specs.Accepted.{RefusedOrAccepted, refusal}
+use Rattle.rules.specs.Call.{KeyOf32}
+use Rattle.rules.proofs.RefusedOrAccepted.{outcome-made}
 use Rattle.rules.proofs.Tied.{tied-after, tied-refused}
 use Rattle.room.specs.View.{viewRoom}
 use Rattle.room.specs.Whole.{roomWhole}
 use Rattle.room.specs.Store.{storeAll}
-use Rattle.room_laws.proofs.TablesLaws.{sizesOf}
-use Rattle.room_laws.proofs.OutcomeLaws.{KeyOf32, outcome-stored, outcome-within}
+use Rattle.room_laws.proofs.OutcomeLaws.{outcome-stored, outcome-within}
 use Rattle.relay.specs.Calls.{leastOutput, needed, ifLong}
 use Rattle.relay.proofs.CallsLaws.{by-length}
 use Rattle.histories.specs.Lent.{Lent, lentOutcome, lentEvent, lentTranscript, lentRoomAfter, AllLong, callsLent}

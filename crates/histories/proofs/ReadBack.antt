@@ -12,16 +12,7 @@ use Rattle.rules.specs.Call.{Answer, Sent}
 use Rattle.rules.specs.Outcome.{recordBytes, sentBytes}
 use Rattle.rules.proofs.SentLaws.{count-more}
 use Rattle.relay.specs.Calls.{written}
-use Rattle.histories.specs.Seen.{recordsIn, recordsRead}
-
--- lengths from here on do not fit the two bytes of a record's length
-abbrev pub tooLong : ℕ
-tooLong = 65536
-
--- the packets of records are short enough
-abbrev pub Short : List Sent → Type 0
-Short [] = Unit {0}
-Short (s ∷ rest) = (length (s .bytes) < tooLong) × Short rest
+use Rattle.histories.specs.Seen.{recordsIn, tooLong, Short, recordsRead}
 
 -- so they are where all records together are
 pub all-short : (sent : List Sent) → length (sentBytes sent) < tooLong → Short sent

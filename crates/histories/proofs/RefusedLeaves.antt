@@ -11,7 +11,8 @@ use Rattle.refusal.specs.declared.Refusal.{Refusal}
 use Rattle.refusal.specs.declared.Refusal.the-variants.{OutputTooShort, RoomNotWhole}
 use Rattle.rules.specs.Call.{Answer, accepted, refused}
 use Rattle.rules.specs.Outcome.{Outcome, refuse, accept, sentBytes}
-use Rattle.rules.proofs.RefusedOrAccepted.{RefusedOrAccepted, refusal, acceptance}
+use Rattle.rules.specs.Accepted.{RefusedOrAccepted, refusal, acceptance}
+use Rattle.rules.specs.Room.{sizesOf}
 use Rattle.room.specs.View.{viewRoom}
 use Rattle.room.specs.Whole.{roomWhole}
 use Rattle.room.specs.Store.{storeAll, emptied, MakesEmpty}
@@ -19,7 +20,6 @@ use Rattle.relay.specs.declared.play.Run as code
 use Rattle.relay.specs.Calls.{Leaves}
 use Rattle.relay.proofs.CallsLaws.{call-made}
 use Rattle.relay.specs.Play.{run, played, Playing, playing, LeavesRun, Plays}
-use Rattle.room_laws.proofs.TablesLaws.{sizesOf}
 use Rattle.banavoge.specs.Rooms.{doneOr}
 use Rattle.banavoge.specs.RelayCalls.{seatCode, countCode}
 use Rattle.banavoge.specs.Runs.{runCode, Counts, runCounts, Telling, runTold}

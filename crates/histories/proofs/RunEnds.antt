@@ -11,17 +11,16 @@ use Prim.Native.Nat.{ℕ, _+_, _-_, _*_, _≤_}
 use native.Mathlib.Omega.{arith}
 use lib.ListN.{length, length-append}
 use lib.Seq.{drop-append-seam}
-use Rattle.rules.specs.Room.{Sizes, Key, Room}
-use Rattle.rules.specs.Whole.{Whole}
+use Rattle.rules.specs.Room.{Sizes, Key, Room, sizesOf}
+use Rattle.rules.specs.Whole.{Whole, ShortKeys}
 use Rattle.rules.specs.Call.{Call, arrive, leave, packetCall}
 use Rattle.rules.specs.Outcome.{sentBytes, outcome, roomAfter}
 use Rattle.rules.specs.History.{Event, event, transcript}
 use Rattle.rules.specs.After.{roomAfterAll}
 use Rattle.rules.proofs.Whole.{whole-after}
-use Rattle.rules.proofs.WithinOutput.{ShortKeys, sent-within, keys-stay-short}
+use Rattle.rules.proofs.WithinOutput.{sent-within, keys-stay-short}
 use Rattle.room.specs.View.{viewRoom}
 use Rattle.room.specs.Whole.{roomWhole}
-use Rattle.room_laws.proofs.TablesLaws.{sizesOf}
 use Rattle.room_laws.proofs.WholeLaws.{whole-few, whole-view}
 use Rattle.room_laws.proofs.OutcomeLaws.{view-keys}
 use Rattle.stored.specs.Stored.{storedBytes, storedAll, Storable, firstCall, call}

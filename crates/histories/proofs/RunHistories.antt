@@ -16,20 +16,14 @@ use Rattle.rules.specs.Record.{recordFor, packetsFor, answersFor, zeroForC}
 use Rattle.relay.specs.Play.{Plays}
 use Rattle.banavoge.specs.Answers.{ToldAs}
 use Rattle.banavoge.specs.Runs.{Counts, Telling, runTold}
-use Rattle.histories.specs.Lent.{Lent, AllLong}
+use Rattle.histories.specs.Lent.{Lent}
 use Rattle.histories.specs.History.{none, AnyCalls, History}
 use Rattle.histories.specs.RunSeen.{runSeen}
-use Rattle.histories.specs.Runs.{RunFromEmpty}
+use Rattle.histories.specs.Runs.{RunFromEmpty, ThenRun}
 use Rattle.histories.proofs.Histories.{any-calls-run, history-calls}
 use Rattle.histories.proofs.IsolationInHistories.{isolation-in-histories}
 use Rattle.histories.proofs.RunIsChain.{any-append, long-append, run-is-chain}
 use Rattle.histories.proofs.RunSeen.{run-seen}
-
--- the run behind the calls that were made: its own calls had outputs that are long enough
-pub record ThenRun (s n : ℕ) (lents : List Lent) (events : List Event) (b′ : List ℕ) : Type 0 where
-  pub more : List Lent
-  pub calls : AnyCalls s n (lents ++ more) events b′
-  pub long : AllLong more
 
 pub calls-then-run : (s n allowance : ℕ) (stored b out : List ℕ) (before : Counts) (t : Telling) (b′ out′ : List ℕ) (lents : List Lent) (events : List Event)
     → AnyCalls s n lents events b → ToldAs (runTold before) (Plays s n allowance stored b out b′ out′) t → ThenRun s n lents (events ++ runSeen stored t out′) b′

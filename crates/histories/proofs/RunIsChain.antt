@@ -15,14 +15,13 @@ use Prim.Native.Nat.{ℕ, zero, suc, _-_, _≤_}
 use native.Mathlib.Omega.{arith}
 use lib.IntN.{pos}
 use lib.ListN.{length, drop, replicate, length-replicate}
-use Rattle.rules.specs.Room.{Sizes, Room}
+use Rattle.rules.specs.Room.{Sizes, Room, sizesOf}
 use Rattle.rules.specs.Call.{Call}
 use Rattle.rules.specs.Outcome.{outcome, roomAfter}
 use Rattle.rules.specs.History.{Event, event, transcript}
 use Rattle.room.specs.View.{viewRoom}
 use Rattle.room.specs.Whole.{roomWhole}
 use Rattle.room.specs.Store.{storeAll}
-use Rattle.room_laws.proofs.TablesLaws.{sizesOf}
 use Rattle.stored.specs.Stored.{storedBytes}
 use Rattle.relay.specs.Calls.{leastOutput}
 use Rattle.relay.specs.Play.{entryBytes, entriesBytes, Next, stops, plays, Run, goOn, run, changesAll, played, playing, LeavesRun, Plays}
@@ -34,8 +33,9 @@ use Rattle.banavoge.specs.Runs.{stopNumber, runCode, Counts, runCounts, Telling
 use Rattle.histories.specs.Lent.{Lent, AllLong}
 use Rattle.histories.specs.History.{AnyChain, none, next, Chain, callsOf}
 use Rattle.histories.specs.Runs.{InFront, runOn, runEvents, readBy, writtenFor, SameAsRun}
+use Rattle.histories.specs.Sequences.{KeysOf32}
 use Rattle.histories.proofs.Histories.{long-step-right, chain-runs}
-use Rattle.histories.proofs.EverySequence.{KeysOf32, every-chain}
+use Rattle.histories.proofs.EverySequence.{every-chain}
 
 -- ---- chains
 

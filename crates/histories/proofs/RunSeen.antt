@@ -14,13 +14,12 @@ use Rattle.refusal.specs.Numbers.{refusalNumber}
 use Rattle.refusal.proofs.LookedUp.{looked-up}
 use Rattle.wire.specs.Numbers.{numberOf, bytesOf}
 use Rattle.wire.proofs.Numbers.{length-bytesOf, number-bytesOf}
-use Rattle.rules.specs.Room.{Sizes, Room}
+use Rattle.rules.specs.Room.{Sizes, Room, sizesOf}
 use Rattle.rules.specs.Call.{Call, Answer, accepted, refused, Sent}
 use Rattle.rules.specs.Outcome.{sentBytes, outcome, roomAfter}
 use Rattle.rules.specs.History.{Event, event, transcript}
 use Rattle.room.specs.View.{viewRoom}
 use Rattle.room.specs.Whole.{roomWhole}
-use Rattle.room_laws.proofs.TablesLaws.{sizesOf}
 use Rattle.stored.specs.Stored.{storedBytes}
 use Rattle.relay.specs.Calls.{written}
 use Rattle.relay.specs.Play.{entryHead, entryBytes, entriesBytes, Plays}
@@ -28,12 +27,12 @@ use Rattle.relay.proofs.OutcomeLeaves.{made-written}
 use Rattle.relay.proofs.EntryLaws.{length-entry-head}
 use Rattle.banavoge.specs.Answers.{ToldAs}
 use Rattle.banavoge.specs.Runs.{Counts, Telling, runTold}
-use Rattle.histories.specs.Seen.{seenAs}
+use Rattle.histories.specs.Seen.{tooLong, seenAs}
 use Rattle.histories.specs.Lent.{Lent, lentOutcome, lentEvent}
 use Rattle.histories.specs.History.{AnyChain, none, next, Chain, callsOf}
-use Rattle.histories.specs.RunSeen.{callsFrom, callsIn, answerTold, answerIn, eventsIn, playedTold, runSeen}
+use Rattle.histories.specs.RunSeen.{callsFrom, callsIn, answerTold, answerIn, eventsIn, AllReadable, Readable, playedTold, runSeen}
 use Rattle.histories.specs.Runs.{InFront, runOn, runEvents}
-use Rattle.histories.proofs.ReadBack.{tooLong, all-short, written-read}
+use Rattle.histories.proofs.ReadBack.{all-short, written-read}
 use Rattle.histories.proofs.Histories.{step-right}
 use Rattle.histories.proofs.LentLaws.{lent-made, lent-within}
 use Rattle.histories.proofs.RunIsChain.{run-in-front, run-told, run-writes, run-is-chain}
@@ -54,14 +53,6 @@ answer-back (accepted seat size) behind h =
 answer-back (refused why) behind h = refusal-back why 0 (numberOf (take 2 (bytesOf 2 0 ++ behind)))
 
 -- ---- entries
-
--- the answer of an event counts the bytes of its records, and they are few enough for a length of two bytes
-abbrev pub Readable : Event → Type 0
-Readable e = (written (e .answer) ≡ length (sentBytes (e .sent))) × (length (sentBytes (e .sent)) < tooLong)
-
-abbrev pub AllReadable : List Event → Type 0
-AllReadable [] = Unit {0}
-AllReadable (e ∷ events) = Readable e × AllReadable events
 
 entry-back : (e : Event) → Readable e → (behind : List ℕ)
     → (answerIn (entryBytes e ++ behind) ≡ e .answer) × (drop 4 (entryBytes e ++ behind) ≡ sentBytes (e .sent) ++ behind)

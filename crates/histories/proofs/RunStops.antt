@@ -20,14 +20,13 @@ use lib.ListN.{length, drop, length-append, length-drop}
 use lib.Seq.{drop-drop}
 use borrow.Author.Tests.{leb-false, eqb-true, eqb-false}
 use Rattle.refusal.specs.declared.Refusal.the-variants.{RoomNotWhole}
-use Rattle.rules.specs.Room.{Sizes, Room}
+use Rattle.rules.specs.Room.{Sizes, Room, sizesOf}
 use Rattle.rules.specs.Call.{Call}
 use Rattle.rules.specs.Outcome.{outcome, roomAfter}
 use Rattle.rules.specs.History.{Event, event, transcript}
 use Rattle.rules.specs.After.{roomAfterAll}
 use Rattle.room.specs.View.{viewRoom}
 use Rattle.room.specs.Whole.{roomWhole}
-use Rattle.room_laws.proofs.TablesLaws.{sizesOf}
 use Rattle.stored.specs.Stored.{storedBytes, storedAll, First, none, call, firstCall}
 use Rattle.stored.proofs.StoredLaws.{first-within}
 use Rattle.relay.specs.declared.play.Run as code
@@ -246,27 +245,20 @@ transcript-append sizes room [] later = refl
 transcript-append sizes room (c ∷ calls) later =
     ap (λ (l : List Event). event room c ∷ l) (transcript-append sizes (roomAfter sizes room (outcome room c)) calls later)
 
-module _ (sizes : Sizes) (allowance₁ allowance₂ : ℕ) (room : Room) (stored : List ℕ) (space₁ space₂ : ℕ) where
-  -- the first run, the room and the bytes that it leaves, and the second on these
-  abbrev pub firstRun : Run
-  firstRun = run sizes allowance₁ room stored space₁
-
-  abbrev pub roomThen : Room
-  roomThen = roomAfterAll sizes room (firstRun .calls)
-
-  abbrev pub storedThen : List ℕ
-  storedThen = drop (readBy (firstRun .calls)) stored
-
-  abbrev pub secondRun : Run
-  secondRun = run sizes allowance₂ roomThen storedThen space₂
-
-  pub goes-on : InFront stored (firstRun .calls ++ secondRun .calls)
-      × (transcript sizes room (firstRun .calls ++ secondRun .calls) ≡ transcript sizes room (firstRun .calls) ++ transcript sizes roomThen (secondRun .calls))
-  goes-on = (
-    in-front-append stored (firstRun .calls) (secondRun .calls) (run-in-front sizes allowance₁ room stored space₁)
-        (run-in-front sizes allowance₂ roomThen storedThen space₂),
-    transcript-append sizes room (firstRun .calls) (secondRun .calls),
-  )
+-- the second run is on the room and the stored bytes that the first leaves
+pub goes-on : (sizes : Sizes) (allowance₁ allowance₂ : ℕ) (room : Room) (stored : List ℕ) (space₁ space₂ : ℕ)
+    → let first = run sizes allowance₁ room stored space₁ .calls in
+    let roomThen = roomAfterAll sizes room first in
+    let second = run sizes allowance₂ roomThen (drop (readBy first) stored) space₂ .calls in
+    InFront stored (first ++ second) × (transcript sizes room (first ++ second) ≡ transcript sizes room first ++ transcript sizes roomThen second)
+goes-on sizes allowance₁ allowance₂ room stored space₁ space₂ =
+    let first = run sizes allowance₁ room stored space₁ .calls in
+    let roomThen = roomAfterAll sizes room first in
+    let storedThen = drop (readBy first) stored in
+    let second = run sizes allowance₂ roomThen storedThen space₂ .calls in (
+      in-front-append stored first second (run-in-front sizes allowance₁ room stored space₁) (run-in-front sizes allowance₂ roomThen storedThen space₂),
+      transcript-append sizes room first second,
+    )
 
 -- of the export: the second run is on the room that the first left and on the stored bytes behind those that the first counts
 pub plays-go-on : (s n allowance₁ allowance₂ : ℕ) (stored b out₁ out₂ : List ℕ) (before₁ before₂ : Counts) (why : Stop) (calls read written : ℕ) (t₂ : Telling)

@@ -1,9 +1,16 @@
--- What a reader must believe of this crate, in the order to read it: `Seen`, what the host sees of a call; `Lent`, calls with the output that they are lent, and
--- document 01's steps for them; `History`, histories as the host makes them; `RunSeen`, what it sees of a run of stored calls; `Runs`, what is said of such
--- runs; `ExportedCalls`, the exports of a room and what the host lends them.
+-- What a reader must believe of this crate, in the order to read it: `Seen`, what the host sees of a call; `Lent`, calls with the output that they are lent,
+-- and document 01's steps for them; `History`, histories as the host makes them; `Steps`, what is said of calls next to document 01's steps; `Sequences`, the
+-- chains and histories of given calls; `RunSeen`, what the host sees of a run of stored calls; `Runs`, what is said of such runs; `ExportedCalls`, the exports
+-- of a room and what the host lends them; `ListHistory`, nearest lists as the host keeps them; `WrittenAndRead`, a packet or a node written by one export and
+-- read by another; `OtherExports`, the exports that write and are lent no room.
 pub mod Seen
 pub mod Lent
 pub mod History
+pub mod Steps
+pub mod Sequences
 pub mod RunSeen
 pub mod Runs
 pub mod ExportedCalls
+pub mod ListHistory
+pub mod WrittenAndRead
+pub mod OtherExports

@@ -3,18 +3,20 @@
 -- that is read: nothing here can see a room.
 use mathlib.Core.Bool.{cond}
 use mathlib.Core.List.{List, [], _∷_}
-use Prim.Native.Nat.{ℕ, zero, suc}
+use mathlib.Core.Path.{_≡_}
+use Prim.Native.Nat.{ℕ, zero, suc, _<_}
 use lib.IntN.{ℤ, pos, negsuc}
 use lib.Dec.{eqb}
 use lib.ListN.{length, getD, take, drop}
 use Rattle.refusal.specs.Numbers.{refusalOf}
 use Rattle.wire.specs.Numbers.{numberOf}
 use Rattle.rules.specs.Call.{Call, Answer, accepted, refused}
+use Rattle.rules.specs.Outcome.{sentBytes}
 use Rattle.rules.specs.History.{Event}
 use Rattle.stored.specs.Stored.{storedBytes, First, none, call, firstCall}
 use Rattle.relay.specs.Calls.{written}
 use Rattle.banavoge.specs.Runs.{Telling}
-use Rattle.histories.specs.Seen.{seenAs}
+use Rattle.histories.specs.Seen.{tooLong, seenAs}
 
 -- ---- the calls that were played
 
@@ -40,6 +42,14 @@ answerIn out = answerTold (getD out 0 0) (getD out 1 0) (numberOf (take 2 (drop 
 unfoldable pub eventsIn : List Call → List ℕ → List Event
 eventsIn [] out = []
 eventsIn (c ∷ calls) out = seenAs c (answerIn out) (drop 4 out) ∷ eventsIn calls (drop (written (answerIn out)) (drop 4 out))
+
+-- the answer of an event counts the bytes of its records, and they are few enough for a length of two bytes
+abbrev pub Readable : Event → Type 0
+Readable e = (written (e .answer) ≡ length (sentBytes (e .sent))) × (length (sentBytes (e .sent)) < tooLong)
+
+abbrev pub AllReadable : List Event → Type 0
+AllReadable [] = Unit {0}
+AllReadable (e ∷ events) = Readable e × AllReadable events
 
 -- how many calls were played: what is told, or none where the run was refused
 unfoldable pub playedTold : ℤ → ℕ → ℕ

@@ -16,7 +16,8 @@ use Rattle.relay.specs.declared.play.Stop.the-variants.{End, NoCall, Allowance,
 use Rattle.relay.specs.Play.{entriesBytes, stops, leastSpace, next, Run, run, Plays}
 use Rattle.banavoge.specs.Answers.{ToldAs}
 use Rattle.banavoge.specs.Runs.{stopNumber, Counts, Telling, telling, runTold}
-use Rattle.histories.specs.History.{Chain, BeginsEmpty, callsOf}
+use Rattle.histories.specs.Lent.{Lent, AllLong}
+use Rattle.histories.specs.History.{Chain, BeginsEmpty, AnyCalls, callsOf}
 
 -- ---- the calls of a run
 
@@ -62,6 +63,12 @@ pub record RunFromEmpty (s n : ℕ) (stored : List ℕ) (t : Telling) (b′ out�
   pub out : List ℕ
   pub before : Counts
   pub plays : ToldAs (runTold before) (Plays s n allowance stored room out b′ out′) t
+
+-- the run behind the calls that were made: its own calls had outputs that are long enough
+pub record ThenRun (s n : ℕ) (lents : List Lent) (events : List Event) (b′ : List ℕ) : Type 0 where
+  pub more : List Lent
+  pub calls : AnyCalls s n (lents ++ more) events b′
+  pub long : AllLong more
 
 -- ---- what a stop means
 

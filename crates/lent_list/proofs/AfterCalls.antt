@@ -5,12 +5,14 @@ use mathlib.Core.Bool.{Bool, true, false, cond}
 use mathlib.Core.List.{List, [], _∷_, _++_}
 use mathlib.Core.Logic.{inl, inr, ⊎-elim}
 use Prim.Native.Nat.{ℕ, zero, suc, _*_, _<_, _≤_}
+use native.Mathlib.Nat.{mod-eq-of-lt}
 use native.Mathlib.Omega.{arith}
+use lib.Dec.{leb}
 use lib.ListN.{length, take, drop, replicate, length-append, length-drop, length-replicate}
 use lib.Seq.{length-take-le}
-use Rattle.wire.specs.Numbers.{Bytes}
-use Rattle.wire.proofs.Numbers.{bytes-take, bytes-drop, bytes-getD}
-use Rattle.wire.proofs.Copy.{length-lent}
+use Rattle.wire.specs.Numbers.{Bytes, bytesOf}
+use Rattle.wire.proofs.Numbers.{bytes-append, bytes-take, bytes-drop, bytes-getD, bytes-bytesOf}
+use Rattle.wire.proofs.Copy.{length-lent, length-written}
 use Rattle.refusal.specs.declared.Refusal.the-variants.{ListSize, UnknownFamily, KeyNotHeld}
 use Rattle.key.specs.declared.Key.{Key}
 use Rattle.key.specs.Keys.{IsKey}
@@ -33,15 +35,12 @@ use Rattle.nearest.proofs.Known.{after-from}
 use Rattle.nearest.proofs.Members.{in-without}
 use Rattle.nearest.proofs.OfferLaws.{offer-taken}
 use Rattle.nearest.proofs.Kept.{length-without, offer-keeps-whole}
-use Rattle.lent_list.specs.Layout.{slotAt, slotsAt, listAt, stored, EachNode, Storable}
-use Rattle.lent_list.proofs.SlotLaws.{port-small, slots-number}
+use Rattle.lent_list.specs.Layout.{slotAt, slotsAt, listAt, slotBytes, slotsBytes, listBytes, stored, Fits, EachNode, Storable}
+use Rattle.lent_list.proofs.SlotLaws.{port-small, slots-number, length-slot}
 use Rattle.lent_list.proofs.StoreLaws.{stored-whole}
 use Rattle.lent_list.proofs.RoundTrips.{read-of-write}
 
 -- ---- nodes that a slot can hold
-
-abbrev pub Fits : Node → Type 0
-Fits n = (n .family < 256) × IsNode n
 
 each-append : (a b : List Node) → EachNode a → EachNode b → EachNode (a ++ b)
 each-append [] b p q = q
@@ -57,7 +56,7 @@ each-take zero l p = tt
 each-take (suc k) [] p = tt
 each-take (suc k) (n ∷ l) p = (p .0, p .1, each-take k l (p .2))
 
-pub each-in : (l : List Node) → EachNode l → (x : Node) → In x l → Fits x
+each-in : (l : List Node) → EachNode l → (x : Node) → In x l → Fits x
 each-in [] p x i = absurd i
 each-in (n ∷ l) p x (inl e) = subst Fits (sym e) (p .0, p .1)
 each-in (n ∷ l) p x (inr i) = each-in l (p .2) x i
@@ -198,9 +197,58 @@ module _ (l : NearestList) (s : Storable l) where
       by (answer.Refused why) e = s
       by answer.Done e = search e (holds (key .0) (held l))
 
+-- ---- the memory stays bytes
+
+bytes-slots : (ns : List Node) → EachNode ns → Bytes (slotsBytes ns)
+unfolding slotsBytes slotBytes
+bytes-slots [] e = tt
+bytes-slots (n ∷ ns) e =
+    bytes-append (slotBytes n) (slotsBytes ns)
+    (e .0, bytes-append (n .address) _ (e .1 .bytes) (bytes-append (bytesOf 2 (n .port)) (n .key .0) (bytes-bytesOf 2 (n .port)) (e .1 .key .bytes)))
+    (bytes-slots ns (e .2))
+
+pub bytes-stored : (l : NearestList) (m : List ℕ) → Storable l → Bytes m → Bytes (stored l m)
+unfolding stored listBytes
+bytes-stored l m s b = go (leb 850 (length m))
+  where
+    go : (t : Bool) → Bytes (cond t (listBytes l ++ drop 850 m) m)
+    go true =
+        bytes-append (listBytes l) (drop 850 m) (
+          subst (λ (x : ℕ). x < 256) (sym (mod-eq-of-lt (s .size))) (s .size),
+          (
+            subst (λ (x : ℕ). x < 256) (sym (mod-eq-of-lt (s .count))) (s .count),
+            bytes-append (l .target .0) (slotsBytes (l .nodes)) (s .target .bytes) (bytes-slots (l .nodes) (s .nodes)),
+          ),
+        )
+        (bytes-drop 850 m b)
+    go false = b
+
+-- ---- and keeps its length
+
+length-slots : (ns : List Node) → EachNode ns → length (slotsBytes ns) ≡ length ns * 51
+unfolding slotsBytes
+length-slots [] e = refl
+length-slots (n ∷ ns) e =
+    let a = length-append (slotBytes n) (slotsBytes ns) in
+    let b = length-slot n (e .1) in
+    let c = length-slots ns (e .2) in
+    omega arith
+
+length-list : (l : NearestList) → Storable l → length (listBytes l) ≡ 850
+unfolding listBytes
+length-list l s =
+    let a = length-append (l .target .0) (slotsBytes (l .nodes)) in
+    let b = length-slots (l .nodes) (s .nodes) in
+    let c = s .slots in
+    let d = s .target .long in
+    omega arith
+
 -- ---- what stands in the memory afterwards
 
 module _ (m : List ℕ) (room : 850 ≤ length m) where
+  pub length-stored : (l : NearestList) → Storable l → length (stored l m) ≡ length m
+  length-stored l s = ap length (stored-whole l m room) ∙ length-written (listBytes l) m 850 (length-list l s) room
+
   pub stored-read : (l : NearestList) → Storable l → listAt (stored l m) ≡ l
   stored-read l s = ap listAt (stored-whole l m room) ∙ read-of-write l (drop 850 m) s
 

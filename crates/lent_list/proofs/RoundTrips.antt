@@ -1,5 +1,5 @@
 -- Writing the list that was read gives the memory back, reading the list that was written gives the list back, and what a refused call hands back
--- is the list that stood in the memory, so that every byte is as before. Assumes nothing.
+-- is the list that stood in the memory, so that storing it changes no byte. Assumes nothing.
 use mathlib.Core.Path.{_≡_, _∙_, refl, sym, ap, ap₂}
 use mathlib.Core.Bool.{Bool, true, false, cond}
 use mathlib.Core.List.{List, _∷_, _++_, append-assoc}
@@ -118,10 +118,10 @@ module _ (l : NearestList) where
   unfolding removed
   remove-refused-same key why e = remove-after-test key (checked l) why e
 
--- so a refused offer and a refused removal leave every byte of the memory
+-- so storing what a refused offer or a refused removal hands back leaves every byte of the memory
 module _ (m : List ℕ) (b : Bytes m) (why : Refusal) where
-  pub refused-offer-leaves : (n : Node) → offered (listAt m) n .answer ≡ offer.Refused why → stored (offered (listAt m) n .list) m ≡ m
-  refused-offer-leaves n e = ap (λ (l : NearestList). stored l m) (offer-refused-same (listAt m) n why e) ∙ stored-same m b
+  pub refused-offer-stored : (n : Node) → offered (listAt m) n .answer ≡ offer.Refused why → stored (offered (listAt m) n .list) m ≡ m
+  refused-offer-stored n e = ap (λ (l : NearestList). stored l m) (offer-refused-same (listAt m) n why e) ∙ stored-same m b
 
-  pub refused-remove-leaves : (key : Key) → removed (listAt m) key .answer ≡ answer.Refused why → stored (removed (listAt m) key .list) m ≡ m
-  refused-remove-leaves key e = ap (λ (l : NearestList). stored l m) (remove-refused-same (listAt m) key why e) ∙ stored-same m b
+  pub refused-remove-stored : (key : Key) → removed (listAt m) key .answer ≡ answer.Refused why → stored (removed (listAt m) key .list) m ≡ m
+  refused-remove-stored key e = ap (λ (l : NearestList). stored l m) (remove-refused-same (listAt m) key why e) ∙ stored-same m b

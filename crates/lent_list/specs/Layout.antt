@@ -102,6 +102,10 @@ stored l memory = cond (leb listLength (length memory)) (listBytes l ++ drop lis
 
 -- ---- the lists that bytes can hold
 
+-- a node with the fields that a value of the code has
+abbrev pub Fits : Node → Type 0
+Fits n = (n .family < 256) × IsNode n
+
 abbrev pub EachNode : List Node → Type 0
 EachNode [] = Unit {0}
 EachNode (n ∷ ns) = (n .family < 256) × IsNode n × EachNode ns

@@ -3,7 +3,7 @@
 // An offer and a removal read the list, do by value what `nearest` does, its test of the whole list first, and write the list back; a refused one
 // writes nothing. Where the memory comes from, and how long it lives, stay with the host.
 ghost use mathlib.Core.Path.{_≡_};
-ghost use Rattle.lent_list.specs.Calls.{Begins, Offers, Removes, heldAt, nothingShown};
+ghost use Rattle.lent_list.specs.Calls.{shortRefusal, Begins, Offers, Removes, heldAt, nothingShown};
 
 mod layout;
 pub mod memory;
@@ -31,7 +31,7 @@ pub struct HeldNode {
 
 // Begins a list: 12, 14 for memory too short. A bad size begins the empty list of size 8 for that target.
 pub fn begin(memory: &mut [u8], target: Key, size: usize) -> Answer
-    ensures { λ r. ⌜ Begins target size (now (memory .entry)) r (now (memory .exit)) ⌝ }
+    ensures { λ r. ⌜ Begins target size (now (memory .entry)) (now (memory .exit)) r ⌝ }
 {
     let long = memory.len();
     let begun = NearestList::begin(target, size);
@@ -47,12 +47,12 @@ pub fn begin(memory: &mut [u8], target: Key, size: usize) -> Answer
     Answer::Done
 }
 
-// Offers a node: 14 for memory too short, then 12, 14, 15.
+// Offers a node: 12, 14, 15.
 pub fn offer(memory: &mut [u8], node: Node) -> OfferAnswer
-    ensures { λ r. ⌜ Offers node (now (memory .entry)) r (now (memory .exit)) ⌝ }
+    ensures { λ r. ⌜ Offers node (now (memory .entry)) (now (memory .exit)) r ⌝ }
 {
     if memory.len() < memory::BYTES {
-        return OfferAnswer::Refused(Refusal::ListNotWhole);
+        return OfferAnswer::Refused(too_short(memory));
     }
     let list = memory::load(memory);
     let offered = list.offer(node);
@@ -65,12 +65,12 @@ pub fn offer(memory: &mut [u8], node: Node) -> OfferAnswer
     answer
 }
 
-// Takes out the node of a key: 14 for memory too short, then 12, 14, 13.
+// Takes out the node of a key: 12, 14, 13.
 pub fn remove(memory: &mut [u8], key: Key) -> Answer
-    ensures { λ r. ⌜ Removes key (now (memory .entry)) r (now (memory .exit)) ⌝ }
+    ensures { λ r. ⌜ Removes key (now (memory .entry)) (now (memory .exit)) r ⌝ }
 {
     if memory.len() < memory::BYTES {
-        return Answer::Refused(Refusal::ListNotWhole);
+        return Answer::Refused(too_short(memory));
     }
     let list = memory::load(memory);
     let removed = list.remove(key);
@@ -83,12 +83,12 @@ pub fn remove(memory: &mut [u8], key: Key) -> Answer
     answer
 }
 
-// The node held at an index, nearest first: 14 for memory too short, then 12, 14.
+// The node held at an index, nearest first: 12, 14.
 pub fn held_at(memory: &[u8], index: usize) -> HeldNode
     ensures { λ r. ⌜ r ≡ heldAt (now (memory .entry)) index ⌝ }
 {
     if memory.len() < memory::BYTES {
-        return none(Held::Refused(Refusal::ListNotWhole));
+        return none(Held::Refused(too_short(memory)));
     }
     let list = memory::load(memory);
     let standing = list.check();
@@ -105,6 +105,20 @@ pub fn held_at(memory: &[u8], index: usize) -> HeldNode
         held: Held::Node,
         node,
     }
+}
+
+// Why memory too short for a list is refused. The list's test asks for its size first: 12 where the first byte is no size; else 14, as without a byte.
+fn too_short(memory: &[u8]) -> Refusal
+    ensures { λ r. ⌜ r ≡ shortRefusal (now (memory .entry)) ⌝ }
+{
+    if memory.len() == 0 {
+        return Refusal::ListNotWhole;
+    }
+    let size = memory[layout::SIZE] as usize;
+    if !NearestList::size_right(size) {
+        return Refusal::ListSize;
+    }
+    Refusal::ListNotWhole
 }
 
 // No node to show, and why.

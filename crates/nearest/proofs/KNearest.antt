@@ -5,8 +5,8 @@
 -- the `size` nearest of the distinct keys that were offered without refusal, nearest first, each with the last node so offered, or all of them
 -- when they are fewer; and the slots behind them are blank.
 --
--- `offers` is the fold of `offered`, which is what `NearestList::offer` is proved to return. `Nearest` says "exactly the nearest": `Unique` shows
--- that it leaves nothing free. The only hypotheses are that the keys are keys, 32 bytes each.
+-- `offers` is the fold of `offered`, which is what `NearestList::offer` is proved to return. What `Nearest` says leaves nothing free: `Unique`
+-- shows that. The only hypotheses are that the keys are keys, 32 bytes each.
 --
 -- The idea: each offer keeps the promise (`OneOffer`), so the fold does. Assumes nothing.
 use mathlib.Core.Path.{_≡_, _∙_, refl, sym, ap, ap₂, subst}

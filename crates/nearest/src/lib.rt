@@ -89,8 +89,8 @@ impl NearestList {
         }
     }
 
-    // Whether a list may be of this size.
-    fn size_right(size: usize) -> bool
+    // Whether a list may be of this size: 1 to 16.
+    pub fn size_right(size: usize) -> bool
         ensures { λ r. ⌜ r ≡ sizeRight size ⌝ }
     {
         if size < NearestList::SMALLEST_SIZE {

@@ -26,18 +26,14 @@ use Rattle.node.specs.declared.reader.NodeRead.{NodeRead}
 use Rattle.node.specs.declared.writer.Written.{Written}
 use Rattle.node.specs.declared.writer.Written.the-variants.{Bytes, Refused}
 use Rattle.node.specs.Families.{knownFamily, addressLength, packedLength}
-use Rattle.node.specs.Nodes.{NodeInfo, node, packedNode, nodeOf, readNode, FitsNode}
+use Rattle.node.specs.Nodes.{NodeInfo, node, packedNode, nodeOf, readNode, FitsNode, Taken}
 use Rattle.node.specs.Values.{infoOf, valueOf, settled, IsNode}
 use Rattle.node.specs.Reads.{Reads, foundOf, readOf, shownRead}
-use Rattle.node.specs.Written.{writtenAnswer, writtenOutput, Writes}
+use Rattle.node.specs.Written.{writtenAnswer, writtenOutput, Writes, WritesNode}
 use Rattle.node.proofs.FamilyLaws.{address-fits}
-use Rattle.node.proofs.NodeLaws.{Front, nothing, unknown, cut, whole, front, read-unknown, read-cut, read-whole, read-fits, length-read, packed-read, read-packed, same-info, same-value}
+use Rattle.node.proofs.NodeLaws.{Front, nothing, unknown, cut, whole, front, read-unknown, read-cut, read-whole, read-address-long, read-fits, length-read, packed-read, read-packed, same-info, same-value}
 
 -- ---- what was read
-
-pub record Taken (bytes : List ℕ) (n : NodeInfo) : Type 0 where
-  pub fits : FitsNode n
-  pub front : bytes ≡ packedNode n ++ drop (length (packedNode n)) bytes
 
 whole-taken : (family : ℕ) (rest : List ℕ) → knownFamily family ≡ true → packedLength family ≤ length (family ∷ rest) → wire.Bytes (family ∷ rest)
     → Taken (family ∷ rest) (nodeOf family rest)
@@ -49,6 +45,19 @@ whole-taken family rest k h b = record {
 nothing-read : (n : NodeInfo) → readNode [] ≡ node n → ⊥
 unfolding readNode
 nothing-read n e = let z : _≡_ {A = ℕ} 0 1 = cc in omega arith
+
+-- a node that is read is of a known family, with as many address bytes as that has
+pub read-known : (bytes : List ℕ) (n : NodeInfo) → readNode bytes ≡ node n → (knownFamily (n .family) ≡ true) × (length (n .address) ≡ addressLength (n .family))
+unfolding nodeOf
+read-known bytes n e = go bytes (front bytes) e
+  where
+    go : (bytes : List ℕ) → Front bytes → readNode bytes ≡ node n → (knownFamily (n .family) ≡ true) × (length (n .address) ≡ addressLength (n .family))
+    go [] nothing e = absurd (nothing-read n e)
+    go (family ∷ rest) (unknown k) e = let z : _≡_ {A = ℕ} 0 1 = cc (read-unknown family rest k) in absurd (omega arith)
+    go (family ∷ rest) (cut k h) e = let z : _≡_ {A = ℕ} 0 1 = cc (read-cut family rest k h) in absurd (omega arith)
+    go (family ∷ rest) (whole k h) e =
+        let q : nodeOf family rest ≡ n = cc (read-whole family rest k h) in
+        subst (λ (x : NodeInfo). (knownFamily (x .family) ≡ true) × (length (x .address) ≡ addressLength (x .family))) q (k, read-address-long family rest h)
 
 pub read-exactly : (bytes : List ℕ) (n : NodeInfo) → wire.Bytes bytes → readNode bytes ≡ node n → Taken bytes n
 read-exactly bytes n b e = go bytes (front bytes) b e
@@ -152,7 +161,7 @@ read-settled bytes at next read b is f =
 -- ---- the round trips
 
 -- the fields of a value are in range
-value-fits : (n : Node) → IsNode n → knownFamily (n .family) ≡ true → FitsNode (infoOf n)
+pub value-fits : (n : Node) → IsNode n → knownFamily (n .family) ≡ true → FitsNode (infoOf n)
 unfolding infoOf
 value-fits n is k = record {
   known = k;
@@ -162,11 +171,12 @@ value-fits n is k = record {
   key = is .key;
 }
 
-pub read-of-write : (n : Node) (out left : List ℕ) (size : ℕ) (wrote : Written) (read : NodeRead) → IsNode n → Writes (infoOf n) out wrote left → wrote ≡ Bytes size
+pub read-of-write : (n : Node) (out left : List ℕ) (size : ℕ) (wrote : Written) (read : NodeRead) → WritesNode n out left wrote → wrote ≡ Bytes size
     → Reads left 0 read → read ≡ record { found = found.Node size; node = settled n }
 unfolding shownRead infoOf
-read-of-write n out left size wrote read is writes e reads =
-    let p = count-put (infoOf n) out left wrote writes size e in
+read-of-write n out left size wrote read writes e reads =
+    let is = writes .fits in
+    let p = count-put (infoOf n) out left wrote (writes .writes) size e in
     let r : readNode (drop 0 left) ≡ node (infoOf n) = ap readNode (p .bytes) ∙ read-packed (infoOf n) (value-fits n is (p .known)) (drop size out) in
     let q : 0 + length (packedNode (infoOf n)) ≡ size = let c = p .count in omega arith in
     reads .exact ∙ ap (shownRead 0) r ∙ ap₂ {C = NodeRead} (λ (k : ℕ) (v : Node). record { found = found.Node k; node = v }) q (value-settled n (is .long))

@@ -55,3 +55,8 @@ pub record FitsNode (n : NodeInfo) : Type 0 where
   pub bytes : Bytes (n .address)
   pub port : n .port < 2 ^ 16
   pub key : IsKey (n .key)
+
+-- a node that stands at the front of bytes, packed, whatever follows it
+pub record Taken (bytes : List ℕ) (n : NodeInfo) : Type 0 where
+  pub fits : FitsNode n
+  pub front : bytes ≡ packedNode n ++ drop (length (packedNode n)) bytes

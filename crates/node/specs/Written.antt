@@ -10,6 +10,8 @@ use Rattle.node.specs.declared.writer.Written.{Written}
 use Rattle.node.specs.declared.writer.Written.the-variants.{Bytes, Refused}
 use Rattle.node.specs.Families.{knownFamily}
 use Rattle.node.specs.Nodes.{NodeInfo, packedNode}
+use Rattle.node.specs.declared.Node.{Node}
+use Rattle.node.specs.Values.{infoOf, IsNode}
 
 -- the answer: 15, or 10 where the output is under the exact length, or the byte count
 unfoldable pub writtenAnswer : NodeInfo → List ℕ → Written
@@ -27,3 +29,8 @@ writtenOutput n out =
 pub record Writes (n : NodeInfo) (out : List ℕ) (answer : Written) (left : List ℕ) : Type 0 where
   pub answers : answer ≡ writtenAnswer n out
   pub leaves : left ≡ writtenOutput n out
+
+-- the same of a node by value; its fields are as their types have them
+pub record WritesNode (n : Node) (out left : List ℕ) (answer : Written) : Type 0 where
+  pub fits : IsNode n
+  pub writes : Writes (infoOf n) out answer left

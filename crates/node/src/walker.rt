@@ -44,7 +44,7 @@ impl<'a> Walker<'a> {
     }
 }
 
-// The step of a walker at any place and count, for callers that hold no walker.
+// The step of a walker at any place and count, for callers that cannot hold a walker: a C host keeps its place and count itself.
 pub fn step_from(list: &[u8], place: usize, count: usize) -> Stepped
     ensures { λ r. ⌜ Steps (now (list .entry)) place count r ⌝ }
 {

@@ -4,7 +4,7 @@ ghost use lib.ListN.{length};
 ghost use Rattle.node.specs.Families.{packedLength};
 ghost use Rattle.node.specs.Nodes.{packedNode};
 ghost use Rattle.node.specs.Values.{infoOf};
-ghost use Rattle.node.specs.Written.{Writes};
+ghost use Rattle.node.specs.Written.{WritesNode};
 use crate::Node;
 use crate::family;
 use key::Key;
@@ -17,7 +17,7 @@ pub enum Written {
 
 // Writes the packed node: 15, 10. Of an IPv4 node's address bytes only the first 4 are looked at.
 pub fn write(node: Node, out: &mut [u8]) -> Written
-    ensures { λ r. ⌜ Writes (infoOf node) (now (out .entry)) r (now (out .exit)) ⌝ }
+    ensures { λ r. ⌜ WritesNode node (now (out .entry)) (now (out .exit)) r ⌝ }
 {
     let family = node.family;
     if !family::known(family) {

@@ -74,10 +74,10 @@ relay-reads-written p q f e = go (checks relayTakes (clientBytes p) (packet (fro
     go (fail why r) = absurd (never-both (relayRead (clientBytes p)) q why (judged-read p q e .1) r)
 
 -- the same of the output that a writer leaves: what stands at its front is read as the packet written
-pub relay-reads-output : (p : FromClient) (out left : List ℕ) (n : ℕ) → FitsClient p → ClientWrites p out (BytesWritten n) left → relayRead (take n left) ≡ packet p
-relay-reads-output p out left n f w =
-    let put = writes-put (clientJudged p) (clientBytes p) out left n w in
-    ap relayRead (put .front) ∙ relay-reads-written p (put .found) f (put .taken) .1
+pub relay-reads-output : (p : FromClient) (out left : List ℕ) (n : ℕ) → ClientWrites p out left (BytesWritten n) → relayRead (take n left) ≡ packet p
+relay-reads-output p out left n w =
+    let put = writes-put (clientJudged p) (clientBytes p) out left n (w .writes) in
+    ap relayRead (put .front) ∙ relay-reads-written p (put .found) (w .fits) (put .taken) .1
 
 -- so a packet that the writer takes has at most 2,032 bytes
 pub client-judged-size : (p q : FromClient) → clientJudged p ≡ packet q → length (clientBytes p) ≤ 2032

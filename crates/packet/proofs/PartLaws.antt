@@ -1,15 +1,17 @@
--- Laws of the places in a packet: its first byte and the rest, its tail as a part, and lists of few bytes. Assumes nothing.
+-- Laws of the places in a packet: its first byte and the rest, its tail as a part, its front, and lists of few bytes. Assumes nothing.
 use mathlib.Core.Path.{_≡_, _∙_, refl, sym, ap}
 use mathlib.Core.List.{List, [], _∷_}
-use Prim.Native.Nat.{ℕ, _-_, _<_, _≤_, _^_}
+use Prim.Native.Nat.{ℕ, _+_, _-_, _<_, _≤_, _^_}
+use native.Mathlib.Nat.{add-zero}
 use native.Mathlib.Omega.{arith}
 use lib.ListN.{length, getD, take, drop, length-drop}
 use lib.Seq.{take-all, take-length}
 use borrow.Author.Tests.{le-leb}
+use denote.Ref.{RefT}
 use Rattle.wire.specs.Numbers.{Bytes, numberOf, bytesOf}
 use Rattle.wire.proofs.Numbers.{bytesOf-number, number-bytesOf, length-bytesOf, number-lt, bytes-getD}
 use Rattle.packet.specs.Table.{kindOf, bodyOf}
-use Rattle.packet.specs.Parts.{partOf}
+use Rattle.packet.specs.Parts.{partOf, startOf}
 
 pub kind-and-body : (bytes : List ℕ) → 1 ≤ length bytes → bytes ≡ kindOf bytes ∷ bodyOf bytes
 unfolding kindOf bodyOf
@@ -26,6 +28,16 @@ unfolding partOf
 part-tail bytes at h =
     let e = length-drop at bytes in
     simp (le-leb at (length bytes) h, le-leb (length (drop at bytes)) (length bytes - at) (omega arith)) (take-length (drop at bytes))
+
+pub start-tail : (bytes : List ℕ) (at : ℕ) → at ≤ length bytes → startOf bytes (record { start = at; length = length (drop at bytes) }) ≡ at
+unfolding startOf
+start-tail bytes at h =
+    let e = length-drop at bytes in
+    simp (le-leb at (length bytes) h, le-leb (length (drop at bytes)) (length bytes - at) (omega arith))
+
+-- a packet stands at its own front
+pub at-front : (packet : RefT (List ℕ)) → packet .ptr ≡ (packet .ptr .0, packet .ptr .1 + 0)
+at-front packet = ap (λ (k : ℕ). (packet .ptr .0, k)) (sym (add-zero (packet .ptr .1)))
 
 pub one-byte : (bytes : List ℕ) → length bytes ≡ 1 → bytes ≡ getD bytes 0 0 ∷ []
 one-byte [] e = absurd (omega arith)

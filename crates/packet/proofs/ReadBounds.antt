@@ -3,7 +3,7 @@
 use mathlib.Core.Path.{_≡_, refl, subst}
 use mathlib.Core.Bool.{Bool, true, false, not, false≢true}
 use mathlib.Core.List.{List}
-use Prim.Native.Nat.{ℕ, _≤_, _<_}
+use Prim.Native.Nat.{ℕ, _<_}
 use native.Mathlib.Omega.{arith}
 use lib.Dec.{eqb}
 use lib.ListN.{length, take, length-drop}
@@ -12,19 +12,11 @@ use borrow.Author.Tests.{eqb-false}
 use Rattle.wire.specs.Numbers.{numberOf}
 use Rattle.packet.specs.Read.{packet}
 use Rattle.packet.specs.Table.{kindOf, bodyOf, relayTakes, pingRight}
-use Rattle.packet.specs.FromClient.{FromClient, routingRequest, dropRoute, ping, pong, oobSend, routedData, fromClient, relayRead}
+use Rattle.packet.specs.FromClient.{FromClient, routingRequest, fromClient, relayRead, Within}
 use Rattle.packet.proofs.KindLaws.{from-client-data, size-bounds, length-request, length-oob-send, length-two}
 use Rattle.packet.proofs.CheckLaws.{Passes, Checks, pass, fail, checks, never-both}
 use Rattle.packet.proofs.PartLaws.{length-body}
 use Rattle.packet.proofs.RelayLaws.{RelayKind, is-request, is-drop, is-ping, is-pong, is-oob, is-data, relay-kind, relay-takes}
-
-unfoldable pub Within : FromClient → Type 0
-Within (routingRequest key) = length key ≡ 32
-Within (dropRoute number) = Unit {0}
-Within (ping n) = 0 < n
-Within (pong n) = Unit {0}
-Within (oobSend key bytes) = (1 ≤ length bytes) × (length bytes ≤ 1024)
-Within (routedData number bytes) = (1 ≤ length bytes) × (length bytes ≤ 2031)
 
 not-zero : (n : ℕ) → not (eqb n 0) ≡ true → 0 < n
 not-zero n e = go (eqb n 0) refl e
@@ -42,7 +34,7 @@ module _ (bytes : List ℕ) (taken : Passes relayTakes bytes) where
       rw e (length-take-le 32 (bodyOf bytes) (omega arith))
   within (is-drop e) = rw e tt
   within (is-ping e) = rw e (not-zero (numberOf (take 8 (bodyOf bytes))) (rw e at (taken .ping)))
-  within (is-pong e) = rw e tt
+  within (is-pong e) = rw e (not-zero (numberOf (take 8 (bodyOf bytes))) (rw e at (taken .ping)))
   within (is-oob e) =
       let h = length-oob-send (kindOf bytes) (length bytes) (taken .long) e in
       let l = length-body bytes in

@@ -76,10 +76,10 @@ client-reads-written p q f e = go (client-checks (relayBytes p))
     go (turned why r) = absurd (never-both (clientRead (relayBytes p)) q why (judged-read p q e .1) r)
 
 -- the same of the output that a writer leaves: what stands at its front is read as the packet written
-pub client-reads-output : (p : FromRelay) (out left : List ℕ) (n : ℕ) → FitsRelay p → RelayWrites p out (BytesWritten n) left → clientRead (take n left) ≡ packet p
-client-reads-output p out left n f w =
-    let put = writes-put (relayJudged p) (relayBytes p) out left n w in
-    ap clientRead (put .front) ∙ client-reads-written p (put .found) f (put .taken) .1
+pub client-reads-output : (p : FromRelay) (out left : List ℕ) (n : ℕ) → RelayWrites p out left (BytesWritten n) → clientRead (take n left) ≡ packet p
+client-reads-output p out left n w =
+    let put = writes-put (relayJudged p) (relayBytes p) out left n (w .writes) in
+    ap clientRead (put .front) ∙ client-reads-written p (put .found) (w .fits) (put .taken) .1
 
 -- so a packet that the writer takes has at most 2,032 bytes
 pub relay-judged-size : (p q : FromRelay) → relayJudged p ≡ packet q → length (relayBytes p) ≤ 2032

@@ -59,6 +59,20 @@ unfoldable pub clientPayload : Read FromRelay → List ℕ
 clientPayload (packet p) = payloadFromRelay p
 clientPayload (refused why) = []
 
+-- where that payload begins in the lent packet: behind the kind and the key, or behind the number. Where there is none, the empty part is at the front.
+unfoldable pub placeFromRelay : FromRelay → ℕ
+placeFromRelay (routingResponse number key) = 0
+placeFromRelay (connectNotice number) = 0
+placeFromRelay (disconnectNotice number) = 0
+placeFromRelay (ping n) = 0
+placeFromRelay (pong n) = 0
+placeFromRelay (oobReceived key bytes) = 33
+placeFromRelay (routedData number bytes) = 1
+
+unfoldable pub clientPayloadPlace : Read FromRelay → ℕ
+clientPayloadPlace (packet p) = placeFromRelay p
+clientPayloadPlace (refused why) = 0
+
 -- the key of a packet that has one
 unfoldable pub keyFromRelay : FromRelay → List ℕ
 keyFromRelay (routingResponse number key) = key

@@ -1,9 +1,10 @@
 -- What a client sends, its bytes, and how the relay reads them. Document 01, "Relay packets"; document 001, "Encrypted payload types".
 use mathlib.Core.Bool.{cond}
 use mathlib.Core.List.{List, [], _∷_, _++_}
-use Prim.Native.Nat.{ℕ, _<_, _^_}
+use mathlib.Core.Path.{_≡_}
+use Prim.Native.Nat.{ℕ, _<_, _≤_, _^_}
 use lib.Dec.{eqb}
-use lib.ListN.{getD, take, drop}
+use lib.ListN.{length, getD, take, drop}
 use Rattle.wire.specs.Numbers.{Bytes, numberOf, bytesOf}
 use Rattle.key.specs.Keys.{IsKey}
 use Rattle.packet.specs.Read.{Read, packet}
@@ -49,3 +50,12 @@ FitsClient (ping n) = n < 2 ^ 64
 FitsClient (pong n) = n < 2 ^ 64
 FitsClient (oobSend key bytes) = IsKey key × Bytes bytes
 FitsClient (routedData number bytes) = (number < 256) × Bytes bytes
+
+-- the bounds of the table's fourth column, "Length", and of its "not 0"
+unfoldable pub Within : FromClient → Type 0
+Within (routingRequest key) = length key ≡ 32
+Within (dropRoute number) = Unit {0}
+Within (ping n) = 0 < n
+Within (pong n) = 0 < n
+Within (oobSend key bytes) = (1 ≤ length bytes) × (length bytes ≤ 1024)
+Within (routedData number bytes) = (1 ≤ length bytes) × (length bytes ≤ 2031)

@@ -56,6 +56,19 @@ unfoldable pub relayPayload : Read FromClient → List ℕ
 relayPayload (packet p) = payloadFromClient p
 relayPayload (refused why) = []
 
+-- where that payload begins in the lent packet: behind the kind and the key, or behind the number. Where there is none, the empty part is at the front.
+unfoldable pub placeFromClient : FromClient → ℕ
+placeFromClient (routingRequest key) = 0
+placeFromClient (dropRoute number) = 0
+placeFromClient (ping n) = 0
+placeFromClient (pong n) = 0
+placeFromClient (oobSend key bytes) = 33
+placeFromClient (routedData number bytes) = 1
+
+unfoldable pub relayPayloadPlace : Read FromClient → ℕ
+relayPayloadPlace (packet p) = placeFromClient p
+relayPayloadPlace (refused why) = 0
+
 -- the key of a packet that has one
 unfoldable pub keyFromClient : FromClient → List ℕ
 keyFromClient (routingRequest key) = key

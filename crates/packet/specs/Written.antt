@@ -52,30 +52,32 @@ pub record Writes {A : Type 0} (judged : Read A) (bytes out : List ℕ) (answer 
   pub answers : answer ≡ writtenAnswer judged bytes out
   pub leaves : left ≡ writtenOutput judged bytes out
 
--- bytes that nothing speaks against, put into an output
+-- bytes that are not refused, put into an output
 abbrev pub Puts : List ℕ → List ℕ → Written → List ℕ → Type 0
 Puts bytes out answer left = Writes {A = Unit {0}} (packet tt) bytes out answer left
 
--- what a client's writer and the relay's do with a packet
-abbrev pub ClientWrites : client.FromClient → List ℕ → Written → List ℕ → Type 0
-ClientWrites p out answer left = Writes (clientJudged p) (client.clientBytes p) out answer left
+-- what a client's writer and the relay's do with a packet; its fields are as the types of the parameters have them
+pub record ClientWrites (p : client.FromClient) (out left : List ℕ) (answer : Written) : Type 0 where
+  pub fits : client.FitsClient p
+  pub writes : Writes (clientJudged p) (client.clientBytes p) out answer left
 
-abbrev pub RelayWrites : relay.FromRelay → List ℕ → Written → List ℕ → Type 0
-RelayWrites p out answer left = Writes (relayJudged p) (relay.relayBytes p) out answer left
+pub record RelayWrites (p : relay.FromRelay) (out left : List ℕ) (answer : Written) : Type 0 where
+  pub fits : relay.FitsRelay p
+  pub writes : Writes (relayJudged p) (relay.relayBytes p) out answer left
 
--- both ends rule alike: one function that does what the client's writer and the relay's do
-pub record BothWrite (p : client.FromClient) (q : relay.FromRelay) (out : List ℕ) (answer : Written) (left : List ℕ) : Type 0 where
-  pub asClient : ClientWrites p out answer left
-  pub asRelay : RelayWrites q out answer left
+-- both ends judge alike: one function that does what the client's writer and the relay's do
+pub record BothWrite (p : client.FromClient) (q : relay.FromRelay) (out left : List ℕ) (answer : Written) : Type 0 where
+  pub asClient : ClientWrites p out left answer
+  pub asRelay : RelayWrites q out left answer
 
-abbrev pub PingWrites : ℕ → List ℕ → Written → List ℕ → Type 0
-PingWrites n out answer left = BothWrite (client.ping n) (relay.ping n) out answer left
+abbrev pub PingWrites : ℕ → List ℕ → List ℕ → Written → Type 0
+PingWrites n = BothWrite (client.ping n) (relay.ping n)
 
-abbrev pub PongWrites : ℕ → List ℕ → Written → List ℕ → Type 0
-PongWrites n out answer left = BothWrite (client.pong n) (relay.pong n) out answer left
+abbrev pub PongWrites : ℕ → List ℕ → List ℕ → Written → Type 0
+PongWrites n = BothWrite (client.pong n) (relay.pong n)
 
-abbrev pub DataWrites : ℕ → List ℕ → List ℕ → Written → List ℕ → Type 0
-DataWrites number bytes out answer left = BothWrite (client.routedData number bytes) (relay.routedData number bytes) out answer left
+abbrev pub DataWrites : ℕ → List ℕ → List ℕ → List ℕ → Written → Type 0
+DataWrites number bytes = BothWrite (client.routedData number bytes) (relay.routedData number bytes)
 
 -- a packet that a client's writer takes, and the bytes that it makes of it; and so for the relay's
 pub record ClientMakes (p : client.FromClient) (bytes : List ℕ) : Type 0 where

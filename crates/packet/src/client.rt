@@ -4,7 +4,8 @@ ghost use mathlib.Core.Bool.{true};
 ghost use lib.ListN.{length, drop};
 ghost use Rattle.packet.specs.FromRelay.{clientRead, fromRelay};
 ghost use Rattle.packet.specs.Table.{lengthRight};
-ghost use Rattle.packet.specs.ClientReads.{ClientReads, shownRelay, clientPayload, clientKey};
+ghost use Rattle.packet.specs.Parts.{PartAt};
+ghost use Rattle.packet.specs.ClientReads.{ClientReads, shownRelay, clientPayload, clientPayloadPlace, clientKey};
 use crate::kind;
 use crate::parts;
 use crate::parts::ConnectionNumber;
@@ -90,9 +91,9 @@ fn shown(kind: u8, packet: &[u8]) -> RelayPacket
     }
 }
 
-// The payload of a data packet or an out-of-band packet, as a part of the lent packet; the empty part where there is none.
+// The payload of a data packet or an out-of-band packet, as a part of the lent packet; the empty part at its front where there is none.
 pub fn payload(packet: &[u8]) -> &[u8]
-    ensures { λ r. ⌜ now r ≡ clientPayload (clientRead (now (packet .entry))) ⌝ }
+    ensures { λ r. ⌜ PartAt (packet .entry) (clientPayloadPlace (clientRead (now (packet .entry)))) (clientPayload (clientRead (now (packet .entry)))) r ⌝ }
 {
     let ClientRead::Packet(read) = read(packet) else {
         return &packet[..0];

@@ -1,8 +1,8 @@
 // What the readers' answers are made of: connection numbers, and places in the lent packet.
 ghost use mathlib.Core.Path.{_≡_};
-ghost use lib.ListN.{getD, drop};
+ghost use lib.ListN.{drop};
 ghost use Rattle.key.specs.Keys.{keyOf};
-ghost use Rattle.packet.specs.Parts.{partOf};
+ghost use Rattle.packet.specs.Parts.{partOf, startOf, PartAt};
 use key::Key;
 
 // A connection number: a client's own word for one of its routes. Document 01 calls it a route number; it has nothing to do with a seat.
@@ -14,9 +14,9 @@ pub struct Part {
     pub length: usize,
 }
 
-// The bytes at a part of a packet, or none where it runs past the end.
+// The bytes at a part of a packet; where it runs past the end none, at the front.
 pub(crate) fn bytes_at(packet: &[u8], part: Part) -> &[u8]
-    ensures { λ r. ⌜ now r ≡ partOf (now (packet .entry)) part ⌝ }
+    ensures { λ r. ⌜ PartAt (packet .entry) (startOf (now (packet .entry)) part) (partOf (now (packet .entry)) part) r ⌝ }
 {
     let start = part.start;
     let length = part.length;

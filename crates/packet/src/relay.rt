@@ -4,7 +4,8 @@ ghost use mathlib.Core.Bool.{true};
 ghost use lib.ListN.{length, drop};
 ghost use Rattle.packet.specs.FromClient.{relayRead, fromClient};
 ghost use Rattle.packet.specs.Table.{lengthRight};
-ghost use Rattle.packet.specs.RelayReads.{RelayReads, shownClient, relayPayload, relayKey};
+ghost use Rattle.packet.specs.Parts.{PartAt};
+ghost use Rattle.packet.specs.RelayReads.{RelayReads, shownClient, relayPayload, relayPayloadPlace, relayKey};
 use crate::kind;
 use crate::parts;
 use crate::parts::ConnectionNumber;
@@ -75,9 +76,9 @@ fn shown(kind: u8, packet: &[u8]) -> ClientPacket
     }
 }
 
-// The payload of a data packet or an out-of-band send, as a part of the lent packet; the empty part where there is none.
+// The payload of a data packet or an out-of-band send, as a part of the lent packet; the empty part at its front where there is none.
 pub fn payload(packet: &[u8]) -> &[u8]
-    ensures { λ r. ⌜ now r ≡ relayPayload (relayRead (now (packet .entry))) ⌝ }
+    ensures { λ r. ⌜ PartAt (packet .entry) (relayPayloadPlace (relayRead (now (packet .entry)))) (relayPayload (relayRead (now (packet .entry)))) r ⌝ }
 {
     let RelayRead::Packet(read) = read(packet) else {
         return &packet[..0];

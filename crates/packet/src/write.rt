@@ -1,6 +1,5 @@
 // The writers, one for each kind that an end sends. Each judges the packet that it would make as the other end's reader does, then whether the
 // output has room (10, last), and only then writes.
-ghost use mathlib.Core.Path.{_≡_};
 ghost use mathlib.Core.List.{[], _∷_, _++_};
 ghost use Rattle.wire.specs.Numbers.{bytesOf};
 ghost use Rattle.packet.specs.FromClient.{routingRequest, dropRoute, oobSend};
@@ -18,7 +17,7 @@ pub enum Written {
 
 // The client's routing request: 10.
 pub fn routing_request(key: Key, out: &mut [u8]) -> Written
-    ensures { λ r. ⌜ ClientWrites (routingRequest (key .0)) (now (out .entry)) r (now (out .exit)) ⌝ }
+    ensures { λ r. ⌜ ClientWrites (routingRequest (key .0)) (now (out .entry)) (now (out .exit)) r ⌝ }
 {
     if out.len() < 33 {
         return Written::Refused(Refusal::OutputTooShort);
@@ -30,7 +29,7 @@ pub fn routing_request(key: Key, out: &mut [u8]) -> Written
 
 // The relay's response to a routing request, with the number given or 0: 8, 10.
 pub fn routing_response(number: ConnectionNumber, key: Key, out: &mut [u8]) -> Written
-    ensures { λ r. ⌜ RelayWrites (routingResponse (number .0) (key .0)) (now (out .entry)) r (now (out .exit)) ⌝ }
+    ensures { λ r. ⌜ RelayWrites (routingResponse (number .0) (key .0)) (now (out .entry)) (now (out .exit)) r ⌝ }
 {
     if !kind::number_right(kind::RESPONSE, number.0) {
         return Written::Refused(Refusal::NoSuchRoute);
@@ -46,7 +45,7 @@ pub fn routing_response(number: ConnectionNumber, key: Key, out: &mut [u8]) -> W
 
 // The relay's connect notification: 8, 10.
 pub fn connect_notification(number: ConnectionNumber, out: &mut [u8]) -> Written
-    ensures { λ r. ⌜ RelayWrites (connectNotice (number .0)) (now (out .entry)) r (now (out .exit)) ⌝ }
+    ensures { λ r. ⌜ RelayWrites (connectNotice (number .0)) (now (out .entry)) (now (out .exit)) r ⌝ }
 {
     if number.0 < kind::FIRST_NUMBER {
         return Written::Refused(Refusal::NoSuchRoute);
@@ -56,7 +55,7 @@ pub fn connect_notification(number: ConnectionNumber, out: &mut [u8]) -> Written
 
 // The relay's disconnect notification: 8, 10.
 pub fn disconnect_notification(number: ConnectionNumber, out: &mut [u8]) -> Written
-    ensures { λ r. ⌜ RelayWrites (disconnectNotice (number .0)) (now (out .entry)) r (now (out .exit)) ⌝ }
+    ensures { λ r. ⌜ RelayWrites (disconnectNotice (number .0)) (now (out .entry)) (now (out .exit)) r ⌝ }
 {
     if number.0 < kind::FIRST_NUMBER {
         return Written::Refused(Refusal::NoSuchRoute);
@@ -66,14 +65,14 @@ pub fn disconnect_notification(number: ConnectionNumber, out: &mut [u8]) -> Writ
 
 // The client's drop, of any number, since the relay's reader judges none: 10.
 pub fn drop_route(number: ConnectionNumber, out: &mut [u8]) -> Written
-    ensures { λ r. ⌜ ClientWrites (dropRoute (number .0)) (now (out .entry)) r (now (out .exit)) ⌝ }
+    ensures { λ r. ⌜ ClientWrites (dropRoute (number .0)) (now (out .entry)) (now (out .exit)) r ⌝ }
 {
     put_pair(kind::DISCONNECT, number.0, out)
 }
 
 // Either end's ping: 7, 10.
 pub fn ping(number: u64, out: &mut [u8]) -> Written
-    ensures { λ r. ⌜ PingWrites number (now (out .entry)) r (now (out .exit)) ⌝ }
+    ensures { λ r. ⌜ PingWrites number (now (out .entry)) (now (out .exit)) r ⌝ }
 {
     if number == 0 {
         return Written::Refused(Refusal::ZeroPing);
@@ -83,7 +82,7 @@ pub fn ping(number: u64, out: &mut [u8]) -> Written
 
 // Either end's pong: 7, 10.
 pub fn pong(number: u64, out: &mut [u8]) -> Written
-    ensures { λ r. ⌜ PongWrites number (now (out .entry)) r (now (out .exit)) ⌝ }
+    ensures { λ r. ⌜ PongWrites number (now (out .entry)) (now (out .exit)) r ⌝ }
 {
     if number == 0 {
         return Written::Refused(Refusal::ZeroPing);
@@ -93,7 +92,7 @@ pub fn pong(number: u64, out: &mut [u8]) -> Written
 
 // The client's out-of-band send: 4, 6, 10.
 pub fn oob_send(key: Key, data: &[u8], out: &mut [u8]) -> Written
-    ensures { λ r. ⌜ ClientWrites (oobSend (key .0) (now («data» .entry))) (now (out .entry)) r (now (out .exit)) ⌝ }
+    ensures { λ r. ⌜ ClientWrites (oobSend (key .0) (now («data» .entry))) (now (out .entry)) (now (out .exit)) r ⌝ }
 {
     let size = 33 + data.len();
     if !kind::size_right(size) {
@@ -107,7 +106,7 @@ pub fn oob_send(key: Key, data: &[u8], out: &mut [u8]) -> Written
 
 // The relay's out-of-band packet, with the sender's key: 4, 6, 10.
 pub fn oob_received(key: Key, data: &[u8], out: &mut [u8]) -> Written
-    ensures { λ r. ⌜ RelayWrites (oobReceived (key .0) (now («data» .entry))) (now (out .entry)) r (now (out .exit)) ⌝ }
+    ensures { λ r. ⌜ RelayWrites (oobReceived (key .0) (now («data» .entry))) (now (out .entry)) (now (out .exit)) r ⌝ }
 {
     let size = 33 + data.len();
     if !kind::size_right(size) {
@@ -121,7 +120,7 @@ pub fn oob_received(key: Key, data: &[u8], out: &mut [u8]) -> Written
 
 // Either end's data under a connection number: 4, 5 for a number below 16, 6, 10.
 pub fn data(number: ConnectionNumber, data: &[u8], out: &mut [u8]) -> Written
-    ensures { λ r. ⌜ DataWrites (number .0) (now («data» .entry)) (now (out .entry)) r (now (out .exit)) ⌝ }
+    ensures { λ r. ⌜ DataWrites (number .0) (now («data» .entry)) (now (out .entry)) (now (out .exit)) r ⌝ }
 {
     let size = 1 + data.len();
     if !kind::size_right(size) {

@@ -1,15 +1,9 @@
 -- A refusal is found again by its number, and every number is above 0: so minus the number, as the exports answer it, tells the refusal. Assumes nothing.
-use mathlib.Core.Path.{_≡_, refl}
-use Prim.Native.Nat.{_≤_}
+use mathlib.Core.Path.{refl}
 use native.Mathlib.Omega.{arith}
 use Rattle.refusal.specs.declared.Refusal.{Refusal}
 use Rattle.refusal.specs.declared.Refusal.the-variants.{RoomFull, AlreadySeated, NotSeated, PacketSize, UnexpectedKind, WrongLength, ZeroPing, NoSuchRoute, NotConnected, OutputTooShort, RoomNotWhole, ListSize, KeyNotHeld, ListNotWhole, UnknownFamily, NodeCutShort, BytesAfterNodes}
-use Rattle.refusal.specs.Numbers.{refusalNumber, refusals, withNumber, refusalOf}
-
--- a refusal in the table
-pub record LookedUp (why : Refusal) : Type 0 where
-  pub positive : 1 ≤ refusalNumber why
-  pub found : refusalOf (refusalNumber why) ≡ why
+use Rattle.refusal.specs.Numbers.{refusals, withNumber, refusalOf, LookedUp}
 
 pub looked-up : (why : Refusal) → LookedUp why
 unfolding refusalOf withNumber refusals

@@ -1,7 +1,8 @@
 -- Document 01, "Refusal numbers": the table, row by row, and the table looked up by number.
 use mathlib.Core.Bool.{cond}
 use mathlib.Core.List.{List, [], _∷_}
-use Prim.Native.Nat.{ℕ}
+use mathlib.Core.Path.{_≡_}
+use Prim.Native.Nat.{ℕ, _≤_}
 use lib.Dec.{eqb}
 use Rattle.refusal.specs.declared.Refusal.{Refusal}
 use Rattle.refusal.specs.declared.Refusal.the-variants.{RoomFull, AlreadySeated, NotSeated, PacketSize, UnexpectedKind, WrongLength, ZeroPing, NoSuchRoute, NotConnected, OutputTooShort, RoomNotWhole, ListSize, KeyNotHeld, ListNotWhole, UnknownFamily, NodeCutShort, BytesAfterNodes}
@@ -72,3 +73,8 @@ withNumber number (why ∷ rest) other = cond (eqb (refusalNumber why) number) w
 -- the refusal with a number. No call answers a number that the table lacks; for such a number this is the table's first row
 unfoldable pub refusalOf : ℕ → Refusal
 refusalOf number = withNumber number refusals RoomFull
+
+-- a refusal in the table: its number is above 0, and it is found again by it
+pub record LookedUp (why : Refusal) : Type 0 where
+  pub positive : 1 ≤ refusalNumber why
+  pub found : refusalOf (refusalNumber why) ≡ why

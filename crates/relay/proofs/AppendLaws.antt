@@ -141,7 +141,7 @@ head-written out new at seat size h e =
 -- the head, and then the packet
 module _ (p q : FromRelay) (seat at n : ℕ) (out begun new : List ℕ) (answer : Written) where
   pub record-written : relayJudged p ≡ packet q → length (relayBytes p) ≡ n → at + 3 + n ≤ length out → begun ≡ appended out at (seat ∷ bytesOf 2 n)
-      → RelayWrites p (take (at + 3 + n - (at + 3)) (drop (at + 3) begun)) answer new
+      → RelayWrites p (take (at + 3 + n - (at + 3)) (drop (at + 3) begun)) new answer
       → Appends (to seat p ∷ []) out at (at + 3 + n) (take (at + 3) begun ++ (new ++ drop (at + 3 + n - (at + 3)) (drop (at + 3) begun)))
   unfolding to recordBytes
   record-written taken size room head w =
@@ -150,7 +150,7 @@ module _ (p q : FromRelay) (seat at n : ℕ) (out begun new : List ℕ) (answer 
       let lb : length begun ≡ length out = ap length head ∙ length-appended out at (seat ∷ bytesOf 2 n) (omega arith) in
       let lp : length (take (at + 3 + n - (at + 3)) (drop (at + 3) begun)) ≡ n =
       ap (λ (m : ℕ). length (take m (drop (at + 3) begun))) k ∙ length-lent begun (at + 3) n (omega arith) in
-      let full : new ≡ relayBytes p = filled (relayJudged p) (relayBytes p) _ new answer q taken (lp ∙ sym size) w in
+      let full : new ≡ relayBytes p = filled (relayJudged p) (relayBytes p) _ new answer q taken (lp ∙ sym size) (w .writes) in
       let b : sentBytes (to seat p ∷ []) ≡ (seat ∷ bytesOf 2 n) ++ relayBytes p = sent-one (to seat p) ∙ ap (λ (m : ℕ). (seat ∷ bytesOf 2 m) ++ relayBytes p) size in
       let lr = count-one (to seat p) in
       record {

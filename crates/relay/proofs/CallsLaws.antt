@@ -10,7 +10,8 @@ use Rattle.refusal.specs.declared.Refusal.{Refusal}
 use Rattle.refusal.specs.declared.Refusal.the-variants.{OutputTooShort, RoomNotWhole}
 use Rattle.rules.specs.Call.{Call, Answer, refused}
 use Rattle.rules.specs.Outcome.{Outcome, refuse, outcome}
-use Rattle.rules.proofs.RefusedOrAccepted.{RefusedOrAccepted, refusal, outcome-made}
+use Rattle.rules.specs.Accepted.{RefusedOrAccepted, refusal}
+use Rattle.rules.proofs.RefusedOrAccepted.{outcome-made}
 use Rattle.room.specs.View.{viewRoom}
 use Rattle.room.specs.Whole.{roomWhole}
 use Rattle.room.specs.Store.{storeAll}

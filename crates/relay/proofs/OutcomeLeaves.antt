@@ -7,7 +7,7 @@ use lib.ListN.{length}
 use Rattle.refusal.specs.declared.Refusal.{Refusal}
 use Rattle.rules.specs.Call.{Sent, accepted, refused}
 use Rattle.rules.specs.Outcome.{Outcome, accept, refuse, sentBytes}
-use Rattle.rules.proofs.RefusedOrAccepted.{RefusedOrAccepted, refusal, acceptance}
+use Rattle.rules.specs.Accepted.{RefusedOrAccepted, refusal, acceptance}
 use Rattle.room.specs.Store.{storeAll}
 use Rattle.relay.specs.Output.{Appends}
 use Rattle.relay.specs.Calls.{written, Leaves}

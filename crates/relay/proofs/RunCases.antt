@@ -6,15 +6,14 @@ use Prim.Native.Nat.{ℕ, suc, _+_, _-_, _≤_}
 use native.Mathlib.Nat.{zero-add, add-zero}
 use native.Mathlib.Omega.{arith}
 use lib.ListN.{length, getD, drop, length-append}
-use Rattle.rules.specs.Room.{Room}
-use Rattle.rules.specs.Call.{Call}
+use Rattle.rules.specs.Room.{Room, sizesOf}
+use Rattle.rules.specs.Call.{Call, KeyOf32}
 use Rattle.rules.specs.Outcome.{outcome, roomAfter}
 use Rattle.rules.specs.History.{event, transcript}
 use Rattle.room.specs.View.{viewRoom}
 use Rattle.room.specs.Whole.{roomWhole}
 use Rattle.room.specs.Store.{storeAll}
-use Rattle.room_laws.proofs.TablesLaws.{sizesOf}
-use Rattle.room_laws.proofs.OutcomeLaws.{KeyOf32, outcome-stored}
+use Rattle.room_laws.proofs.OutcomeLaws.{outcome-stored}
 use Rattle.stored.specs.Stored.{storedBytes, storedAll, call, firstCall}
 use Rattle.stored.proofs.StoredLaws.{Formed, arrives, leaves, sends, givenIn, first-is}
 use Rattle.relay.specs.declared.play.Run as code

@@ -28,7 +28,8 @@ impl Room {
     // The bytes of a room of these sizes; an exported function hands it out, with the definition that it equals.
     pub const BYTES: usize = 43923;
 
-    // The empty room, in memory that is long enough.
+    // Document 01: "The empty room and the empty list of size 8 are given." A room is lent bytes and no value, so it is written to them; false where they are
+    // too short, and then nothing changes.
     pub fn empty(memory: &mut [u8]) -> bool
         ensures { λ r. ⌜ MakesEmpty 40 32 (now (memory .entry)) (now (memory .exit)) r ⌝ }
     {

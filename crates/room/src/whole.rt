@@ -1,4 +1,4 @@
-// The test of a lent room, in one pass over what is in use, and the empty room.
+// The test of a lent room, in one pass over what is in use, and the empty room of any sizes.
 ghost use mathlib.Core.Path.{_≡_};
 ghost use mathlib.Core.Bool.{true};
 ghost use Prim.Native.Nat.{_<_};
@@ -75,7 +75,7 @@ pub fn is_whole(memory: &[u8], seats: usize, numbers: usize) -> bool
 }
 
 // Makes memory an empty room of these sizes, and tells whether it could: where the memory is too short nothing changes.
-pub fn make_empty(memory: &mut [u8], seats: usize, numbers: usize) -> bool
+pub(crate) fn make_empty(memory: &mut [u8], seats: usize, numbers: usize) -> bool
     ensures { λ r. ⌜ MakesEmpty seats numbers (now (memory .entry)) (now (memory .exit)) r ⌝ }
 {
     if !layout::fits(memory, seats, numbers) {

@@ -1,6 +1,6 @@
 -- What a lookup's answer tells of the place found: a seat is its place, and a connection number is its place and 16.
 use mathlib.Core.Path.{_≡_, refl, sym, ap, _∙_}
-use Prim.Native.Nat.{ℕ, _+_, _-_, _≤_}
+use Prim.Native.Nat.{ℕ, _-_, _≤_}
 use native.Mathlib.Nat.{add-sub-cancel-left}
 use native.Mathlib.Omega.{arith}
 use Rattle.packet.specs.declared.parts.ConnectionNumber.{ConnectionNumber}

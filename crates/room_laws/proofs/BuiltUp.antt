@@ -10,14 +10,14 @@ use lib.ListN.{length, getD, set, replicate, length-set, length-replicate, getD-
 use lib.Seq.{ext-getD, set-set, set-getD, getD-set-other}
 use borrow.Author.Tests.{eqb-true, eqb-false}
 use Rattle.key.proofs.Same.{same-refl}
-use Rattle.rules.specs.Room.{Sizes, Key, Route, free, wants, Seat, vacant, holds, Room, emptyRoom, seatOf, routeTo, seatAt}
+use Rattle.rules.specs.Room.{Sizes, Key, Route, free, wants, Seat, vacant, holds, Room, emptyRoom, seatOf, routeTo, seatAt, sizesOf}
 use Rattle.rules.specs.Outcome.{Change, seatTaken, seatEmptied, routeGiven, routeFreed, withRoute, apply}
 use Rattle.rules.specs.Whole.{Whole}
 use Rattle.rules.proofs.FindLaws.{Once, clash, set-default, set-all, once-set, find-clear, seat-set, held-within}
 use Rattle.rules.proofs.Whole.{key-once, wanted-once}
-use Rattle.room_laws.proofs.TablesLaws.{sizesOf}
+use Rattle.room_laws.specs.Fits.{Fit, takes, gives}
+use Rattle.room_laws.specs.Memory.{KeysAre}
 use Rattle.room_laws.proofs.RouteLaws.{wants-passes}
-use Rattle.room_laws.proofs.StoreLaws.{Fit, takes, gives}
 
 -- the key that a change brings into the room
 abbrev pub Brings : (Key → Type 0) → Change → Type 0
@@ -25,11 +25,6 @@ Brings K (seatTaken i key) = K key
 Brings K (seatEmptied i) = Unit {0}
 Brings K (routeGiven i j key) = K key
 Brings K (routeFreed i j) = Unit {0}
-
--- what each key of a room, seated or wanted, is
-pub record KeysAre (K : Key → Type 0) (room : Room) : Type 0 where
-  pub seated : (i : ℕ) (key : Key) (routes : List Route) → seatAt room i ≡ holds key routes → K key
-  pub wanted : (i : ℕ) (key : Key) (routes : List Route) → seatAt room i ≡ holds key routes → (j : ℕ) (other : Key) → getD routes j free ≡ wants other → K other
 
 -- ---- lists all of whose elements are the default
 

@@ -12,13 +12,13 @@ use Rattle.table.specs.Table.{count, listed, tableWhole}
 use Rattle.table.proofs.KeyOrder.{no}
 use Rattle.table.proofs.Listed.{whole-none}
 use Rattle.table.proofs.NoneListed.{listed-none, view-none}
-use Rattle.rules.specs.Room.{vacant, emptyRoom}
+use Rattle.rules.specs.Room.{vacant, emptyRoom, sizesOf}
 use Rattle.room.specs.Layout.{keyBytes, seatBytes, seatsBytes, fitsRoom, seatTable, routesTable}
 use Rattle.room.specs.View.{seatIn, viewRoom}
 use Rattle.room.specs.Whole.{headerRight, roomWhole}
 use Rattle.room.specs.Store.{emptied}
 use Rattle.room.proofs.LayoutLaws.{room-long}
-use Rattle.room_laws.proofs.TablesLaws.{sizesOf, fits-same}
+use Rattle.room_laws.proofs.TablesLaws.{fits-same}
 use Rattle.room_laws.proofs.WholeLaws.{make-whole}
 
 module _ (s n : ℕ) (b : List ℕ) (f : fitsRoom s n b ≡ true) where

@@ -10,31 +10,18 @@ use lib.ListN.{length, replicate, length-replicate}
 use borrow.Author.Tests.{le-leb}
 use Rattle.wire.specs.Numbers.{Bytes}
 use Rattle.key.specs.Keys.{IsKey}
-use Rattle.rules.specs.Room.{Key, Room, emptyRoom}
+use Rattle.rules.specs.Room.{Key, Room, emptyRoom, sizesOf}
 use Rattle.rules.specs.Outcome.{Change, seatTaken, seatEmptied, routeGiven, routeFreed, apply}
 use Rattle.rules.specs.Whole.{Whole}
 use Rattle.room.specs.Layout.{roomBytes, sizesRight, fitsRoom}
-use Rattle.room.specs.View.{viewRoom}
-use Rattle.room.specs.Whole.{roomWhole}
 use Rattle.room.specs.Store.{emptied, store}
 use Rattle.room.proofs.LayoutLaws.{sizes-facts}
-use Rattle.room_laws.proofs.TablesLaws.{sizesOf}
+use Rattle.room_laws.specs.Fits.{Fit}
+use Rattle.room_laws.specs.Memory.{KeysAre, HasBytes, HasMemory}
 use Rattle.room_laws.proofs.EmptyLaws.{empty-length, empty-whole, empty-view}
-use Rattle.room_laws.proofs.StoreLaws.{Fit, store-is-apply}
+use Rattle.room_laws.proofs.StoreLaws.{store-is-apply}
 use Rattle.room_laws.proofs.StoreBytes.{bytes-replicate, store-bytes, emptied-bytes}
-use Rattle.room_laws.proofs.BuiltUp.{Brings, KeysAre, every-room-built-up}
-
--- bytes that are a room
-pub record HasBytes (s n : ℕ) (room : Room) : Type 0 where
-  pub bytes : List ℕ
-  pub long : length bytes ≡ roomBytes s n
-  pub whole : roomWhole s n bytes ≡ true
-  pub is : viewRoom s n bytes ≡ room
-
--- and each is a byte
-pub record HasMemory (s n : ℕ) (room : Room) : Type 0 where
-  pub has : HasBytes s n room
-  pub each : Bytes (has .bytes)
+use Rattle.room_laws.proofs.BuiltUp.{Brings, every-room-built-up}
 
 module _ (s n : ℕ) (right : sizesRight s n ≡ true) where
   fits : fitsRoom s n (replicate (roomBytes s n) 0) ≡ true

@@ -11,27 +11,21 @@ use Rattle.packet.specs.Read.{Read}
 use Rattle.packet.specs.Read as read
 use Rattle.packet.specs.FromClient as client
 use Rattle.packet.proofs.ReadBounds.{request-key-long}
-use Rattle.rules.specs.Room.{Key, Route, free, wants, Seat, vacant, holds, Room, Found, none, at, find, seatOf, isVacant, routeTo, isFree, seatAt, routeAt, Peer, alone, joined}
-use Rattle.rules.specs.Whole.{Whole}
-use Rattle.rules.specs.Call.{Call, arrive, leave, packetCall}
+use Rattle.rules.specs.Room.{Key, Route, free, wants, Seat, vacant, holds, Room, Found, none, at, find, seatOf, isVacant, routeTo, isFree, seatAt, routeAt, Peer, alone, joined, sizesOf}
+use Rattle.rules.specs.Whole.{Whole, ShortKeys}
+use Rattle.rules.specs.Call.{Call, arrive, leave, packetCall, KeyOf32}
 use Rattle.rules.specs.Outcome.{refuse, accept, sentBytes, roomAfter, peer, arriveAt, leaveFrom, requestAt, dropAt, oobTo, carryTo, dataAt, act, actOn, packetFrom, outcome}
 use Rattle.rules.proofs.FindLaws.{find-hit, find-within, wanted-place}
-use Rattle.rules.proofs.WithinOutput.{ShortKeys, sent-within}
+use Rattle.rules.proofs.WithinOutput.{sent-within}
 use Rattle.table.specs.Table.{recordAt}
 use Rattle.room.specs.Layout.{keyBytes, seatBytes, seatTable}
 use Rattle.room.specs.View.{viewRoom}
 use Rattle.room.specs.Whole.{roomWhole}
 use Rattle.room.specs.Store.{storeAll}
-use Rattle.room_laws.proofs.TablesLaws.{sizesOf}
+use Rattle.room_laws.specs.Fits.{takes, empties, gives, frees, FitAll}
 use Rattle.room_laws.proofs.ViewLaws.{seat-holds}
 use Rattle.room_laws.proofs.WholeLaws.{whole-few, whole-view}
-use Rattle.room_laws.proofs.StoreLaws.{takes, empties, gives, frees, FitAll, store-all-is-apply-all}
-
--- a key that arrives has 32 bytes
-abbrev pub KeyOf32 : Call → Type 0
-KeyOf32 (arrive key) = length key ≡ 32
-KeyOf32 (leave seat) = Unit {0}
-KeyOf32 (packetCall seat bytes) = Unit {0}
+use Rattle.room_laws.proofs.StoreLaws.{store-all-is-apply-all}
 
 is-vacant : (x : Seat) → isVacant x ≡ true → x ≡ vacant
 unfolding isVacant

@@ -9,27 +9,19 @@ use lib.ListN.{length, getD, set}
 use lib.Dec.{ltb}
 use borrow.Author.Tests.{lt-ltb}
 use Rattle.table.specs.Table.{Table, tableWhole, putIn, freedIn}
-use Rattle.rules.specs.Room.{Key, Route, free, wants, Seat, vacant, holds, Room, none, find, seatOf, routeTo, seatAt}
+use Rattle.rules.specs.Room.{Key, Route, free, wants, Seat, holds, Room, find, routeTo, seatAt, sizesOf}
 use Rattle.rules.specs.Outcome.{Change, seatTaken, seatEmptied, routeGiven, routeFreed, withRoute, apply, applyAll}
 use Rattle.room.specs.Layout.{keyBytes, routesBytes, fitsRoom, routesTable}
 use Rattle.room.specs.View.{viewRoutes, viewRoom}
 use Rattle.room.specs.Whole.{roomWhole}
 use Rattle.room.specs.Store.{withRoutes, store, storeAll}
 use Rattle.room.proofs.LayoutLaws.{length-routes}
-use Rattle.room_laws.proofs.TablesLaws.{sizesOf}
+use Rattle.room_laws.specs.Fits.{Fit, takes, empties, gives, frees, FitAll}
 use Rattle.room_laws.proofs.ViewLaws.{seat-holds}
 use Rattle.room_laws.proofs.WholeLaws.{whole-fits, whole-routes-table, held-routes}
 use Rattle.room_laws.proofs.ReplaceLaws.{routes-view, routes-whole, routes-length}
 use Rattle.room_laws.proofs.RouteLaws.{route-put, route-out}
 use Rattle.room_laws.proofs.SeatLaws.{seat-taken, seat-emptied}
-
--- a change that fits a room
-pub data Fit (s n : ℕ) (room : Room) : Change → Type 0 where
-  takes : {i : ℕ} {key : Key} → i < s → seatAt room i ≡ vacant → find (seatOf key) room ≡ none → length key ≡ 32 → Fit s n room (seatTaken i key)
-  empties : {i : ℕ} {key : Key} {routes : List Route} → seatAt room i ≡ holds key routes → Fit s n room (seatEmptied i)
-  gives : {i j : ℕ} {key k : Key} {routes : List Route} → seatAt room i ≡ holds k routes → j < n → getD routes j free ≡ free
-      → find (routeTo key) routes ≡ none → length key ≡ 32 → Fit s n room (routeGiven i j key)
-  frees : {i j : ℕ} {k w : Key} {routes : List Route} → seatAt room i ≡ holds k routes → getD routes j free ≡ wants w → Fit s n room (routeFreed i j)
 
 module _ (s n : ℕ) (b : List ℕ) (o : roomWhole s n b ≡ true) where
   -- where the room fits and there is a seat i, a store is done
@@ -89,11 +81,6 @@ module _ (s n : ℕ) (b : List ℕ) (o : roomWhole s n b ≡ true) where
       (ap (λ (x : List Route). getD x j free) (held-view i k routes e) ∙ h)))
 
 -- ---- several changes
-
--- each fits the room that those before it leave
-abbrev pub FitAll : ℕ → ℕ → Room → List Change → Type 0
-FitAll s n room [] = Unit {0}
-FitAll s n room (change ∷ changes) = Fit s n room change × FitAll s n (apply (sizesOf s n) room change) changes
 
 pub store-all-is-apply-all : (s n : ℕ) (b : List ℕ) → roomWhole s n b ≡ true → (changes : List Change) → FitAll s n (viewRoom s n b) changes
     → (viewRoom s n (storeAll s n b changes) ≡ applyAll (sizesOf s n) (viewRoom s n b) changes)

@@ -9,12 +9,7 @@ use lib.Seq.{take-nil, take-take, drop-drop}
 use Rattle.table.specs.Table.{tableBytes, recordAt}
 use Rattle.table.proofs.Listed.{row-fits, key-drop}
 use Rattle.table.proofs.TableLaws.{key-record}
-use Rattle.rules.specs.Room.{Sizes}
 use Rattle.room.specs.Layout.{roomHeader, keyBytes, routesBytes, routesInSeat, seatBytes, seatsBytes, fitsRoom, seatTable, seatStart, routesTable}
-
--- the sizes of a room, as the rules have them
-abbrev pub sizesOf : ℕ → ℕ → Sizes
-sizesOf s n = record { seats = s; numbers = n }
 
 -- whether bytes fit a room is a matter of their length
 pub fits-same : (s n : ℕ) (c b : List ℕ) → length c ≡ length b → fitsRoom s n c ≡ fitsRoom s n b

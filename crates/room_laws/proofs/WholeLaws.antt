@@ -13,14 +13,14 @@ use Rattle.table.specs.Table.{Table, listed, recordAt, keyAt, tableWhole}
 use Rattle.table.proofs.KeyOrder.{no, both, rising-below}
 use Rattle.table.proofs.Listed.{whole-rising}
 use Rattle.table.proofs.TableLaws.{keys-apart}
-use Rattle.rules.specs.Room.{Key, Route, free, wants, holds, seatAt, firstNumber}
+use Rattle.rules.specs.Room.{Key, Route, free, wants, holds, seatAt, firstNumber, sizesOf}
 use Rattle.rules.specs.Whole.{Whole}
 use Rattle.rules.proofs.FindLaws.{wanted-high, wanted-place}
 use Rattle.room.specs.Layout.{keyBytes, routesInSeat, seatBytes, fitsRoom, seatTable, routesTable}
 use Rattle.room.specs.View.{viewRoutes, viewRoom}
 use Rattle.room.specs.Whole.{headerRight, routesWhole, roomWhole}
 use Rattle.room.proofs.LayoutLaws.{few-numbers, seats-table, routes-table}
-use Rattle.room_laws.proofs.TablesLaws.{sizesOf, routes-in-record}
+use Rattle.room_laws.proofs.TablesLaws.{routes-in-record}
 use Rattle.room_laws.proofs.ViewLaws.{view-routes-length, route-wants, view-room-length, seat-holds}
 
 -- ---- the routes of several seats, by membership

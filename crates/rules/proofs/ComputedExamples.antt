@@ -12,11 +12,11 @@ use Rattle.refusal.specs.Numbers.{refusalNumber}
 use Rattle.rules.specs.Room.{Key, baseSizes}
 use Rattle.rules.specs.Call.{Call, arrive, leave, packetCall, Answer, accepted, refused}
 use Rattle.rules.specs.Outcome.{sentBytes}
-use Rattle.rules.specs.History.{Event}
+use Rattle.rules.specs.History.{Event, happens}
 use Rattle.rules.specs.Transcript.{fromEmpty, stands}
 use Rattle.rules.specs.After.{pastAfter}
 use Rattle.rules.specs.Record.{packetsFor}
-use Rattle.rules.proofs.Computed.{ka, kb, kc, happens, opened}
+use Rattle.rules.proofs.Computed.{ka, kb, kc, opened}
 
 -- a call's answer, the refusal by its number, and its output's bytes
 pub data Shown : Type 0 where

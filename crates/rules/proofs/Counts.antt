@@ -1,26 +1,23 @@
 -- "An accepted call answers how many bytes it wrote", and "A refusal answers its number with 0 bytes written": in every room for every call, and so for
 -- every event of every history. A made-up count disagrees with the records. Assumes nothing.
-use mathlib.Core.Path.{_≡_, refl}
-use mathlib.Core.Bool.{Bool, true, _&&_}
+use mathlib.Core.Path.{_≡_, refl, sym}
+use mathlib.Core.Bool.{true}
 use mathlib.Core.List.{List, [], _∷_}
 use Prim.Native.Nat.{ℕ}
-use lib.Dec.{eqb}
 use lib.ListN.{length}
-use borrow.Author.Tests.{eq-eqb}
+use borrow.Author.Tests.{eq-eqb, eqb-true}
+use Rattle.refusal.specs.declared.Refusal.{Refusal}
 use Rattle.rules.specs.Room.{Sizes, Room}
-use Rattle.rules.specs.Call.{Call, Answer, accepted, refused}
+use Rattle.rules.specs.Call.{Call, refused}
 use Rattle.rules.specs.Outcome.{Outcome, refuse, sentBytes, accept, roomAfter, outcome}
-use Rattle.rules.specs.History.{Event, event, transcript}
-use Rattle.rules.proofs.RefusedOrAccepted.{RefusedOrAccepted, refusal, acceptance, outcome-made}
+use Rattle.rules.specs.History.{event, transcript}
+use Rattle.rules.specs.Accepted.{countIs, allCounted, RefusedOrAccepted, refusal, acceptance}
+use Rattle.rules.proofs.RefusedOrAccepted.{outcome-made}
 
--- an answer's count is that of the bytes written, a refusal's 0
-unfoldable pub countIs : Answer → ℕ → Bool
-countIs (accepted seat count) written = eqb count written
-countIs (refused why) written = eqb 0 written
-
-unfoldable pub allCounted : List Event → Bool
-allCounted [] = true
-allCounted (e ∷ events) = countIs (e .answer) (length (sentBytes (e .sent))) && allCounted events
+-- a refusal counts no byte
+pub refusal-counts-none : (why : Refusal) (written : ℕ) → countIs (refused why) written ≡ true → written ≡ 0
+unfolding countIs
+refusal-counts-none why written e = sym (eqb-true 0 written e)
 
 module _ (room : Room) where
   abbrev Counted : Outcome → Type 0

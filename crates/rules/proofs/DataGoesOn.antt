@@ -16,11 +16,11 @@ use Rattle.rules.specs.Outcome.{refuse, accept, to, Outcome, peer, carry
 use Rattle.rules.specs.History.{Event, event, transcript}
 use Rattle.rules.specs.Transcript.{Past, nobody, clientOf, Start, fromEmpty, isAccepted, sitter, stands}
 use Rattle.rules.specs.After.{pastAfter, clientIn, Tied}
-use Rattle.rules.specs.GoesOn.{Names, Connected, NoRequest, Waits, noClient, noRequest, waits, connects, Carried, DataGoesOn}
+use Rattle.rules.specs.GoesOn.{Names, Connected, NoRequest, Waits, noClient, noRequest, waits, connects, Carried, DataGoesOn, OnlyPeer}
 use Rattle.rules.proofs.FindLaws.{clash}
 use Rattle.rules.proofs.Whole.{whole-empty}
 use Rattle.rules.proofs.Tied.{tied-empty, sitter-is, wants-stands, free-stands}
-use Rattle.rules.proofs.PeerConnected.{OnlyPeer, peer-is-connected}
+use Rattle.rules.proofs.PeerConnected.{peer-is-connected}
 use Rattle.rules.proofs.EachEvent.{each-event}
 
 -- ---- the four cases, by what has happened

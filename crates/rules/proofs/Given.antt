@@ -7,59 +7,26 @@ use mathlib.Core.Path.{_≡_, refl, sym, ap, _∙_, subst}
 use mathlib.Core.Bool.{true, false, true≢false}
 use mathlib.Core.List.{List, [], _∷_, _++_}
 use mathlib.Core.Logic.{_≢_}
-use Prim.Native.Nat.{ℕ, _-_, _<_}
+use Prim.Native.Nat.{ℕ, _-_}
 use native.Mathlib.Omega.{arith}
 use lib.ListN.{getD}
 use Rattle.refusal.specs.declared.Refusal.{Refusal}
-use Rattle.refusal.specs.declared.Refusal.the-variants.{RoomFull, AlreadySeated, NotSeated, NoSuchRoute}
+use Rattle.refusal.specs.declared.Refusal.the-variants.{NotSeated}
 use Rattle.key.proofs.Same.{same-refl}
 use Rattle.packet.specs.Read as read
 use Rattle.packet.specs.FromClient as client
 use Rattle.packet.specs.FromRelay as relay
 use Rattle.rules.specs.Room.{Sizes, Key, Route, free, wants, Seat, vacant, holds, Room, emptyRoom, Found, none, at, find, seatOf, isVacant, routeTo, isFree, routesOf, seatAt, routeAt, firstNumber, numberOfPlace}
 use Rattle.rules.specs.Whole.{Whole}
-use Rattle.rules.specs.Call.{Call, arrive, leave, packetCall, Answer, accepted, refused, Sent}
+use Rattle.rules.specs.Call.{Call, arrive, leave, packetCall, refused, Sent}
 use Rattle.rules.specs.Outcome.{refuse, sentBytes, accept, to, arriveAt, leaveFrom, requestAt, dropAt, act, actOn, packetFrom, outcome}
 use Rattle.rules.specs.History.{Event, event, transcript}
 use Rattle.rules.specs.Transcript.{Past, nobody, clientOf, Start, fromEmpty, isAccepted, sitter, stands}
 use Rattle.rules.specs.After.{pastAfter, clientIn, Tied}
-use Rattle.rules.specs.GoesOn.{Names, NoRequest}
+use Rattle.rules.specs.Given.{ArriveAnswered, seated, full, takes, LeaveAnswered, empty, left, Taken, Numbered, oldNumber, noneFree, lowestFree, DropAnswered, noRoute, dropped}
 use Rattle.rules.proofs.FindLaws.{clash, find-hit, find-miss, find-within, find-before, find-none, seat-of-holds, route-to-wants, route-at-place, wanted-place}
 use Rattle.rules.proofs.Tied.{tied-here, seat-holds, sitter-is, wants-stands, free-stands}
 use Rattle.rules.proofs.EachEvent.{from-empty}
-
--- ---- the cases
-
--- "takes the lowest empty seat and answers with it", with 2 and 1
-pub data Arrives (sizes : Sizes) (start : Start) (past : Past) (key : Key) (answer : Answer) : Type 0 where
-  seated : (seat : ℕ) → sitter start past seat ≡ clientOf key → answer ≡ refused AlreadySeated → Arrives sizes start past key answer
-  full : ((seat : ℕ) → sitter start past seat ≢ clientOf key) → ((seat : ℕ) → seat < sizes .seats → sitter start past seat ≢ nobody)
-      → answer ≡ refused RoomFull → Arrives sizes start past key answer
-  takes : (seat : ℕ) → ((other : ℕ) → sitter start past other ≢ clientOf key) → seat < sizes .seats → sitter start past seat ≡ nobody
-      → ((lower : ℕ) → lower < seat → sitter start past lower ≢ nobody) → answer ≡ accepted seat 0 → Arrives sizes start past key answer
-
-pub data Leaves (start : Start) (past : Past) (seat : ℕ) (answer : Answer) : Type 0 where
-  empty : sitter start past seat ≡ nobody → answer ≡ refused NotSeated → Leaves start past seat answer
-  left : (key : Key) → sitter start past seat ≡ clientOf key → isAccepted answer ≡ true → Leaves start past seat answer
-
--- some request of the client stands under the number
-pub record Taken (start : Start) (past : Past) (key : Key) (number : ℕ) : Type 0 where
-  pub wanted : Key
-  pub asked : stands start past key number wanted ≡ true
-
--- "gets its old number again", "Otherwise the lowest free number is taken, or, with none free, the answer is 0", "A full table is the only ground for 0"
-pub data Numbered (sizes : Sizes) (start : Start) (past : Past) (key wanted : Key) (number : ℕ) : Type 0 where
-  oldNumber : stands start past key number wanted ≡ true → Numbered sizes start past key wanted number
-  noneFree : ((n : ℕ) → stands start past key n wanted ≡ false) → ((place : ℕ) → place < sizes .numbers → Taken start past key (numberOfPlace place))
-      → number ≡ 0 → Numbered sizes start past key wanted number
-  lowestFree : (place : ℕ) → ((n : ℕ) → stands start past key n wanted ≡ false) → place < sizes .numbers
-      → ((other : Key) → stands start past key (numberOfPlace place) other ≡ false)
-      → ((lower : ℕ) → lower < place → Taken start past key (numberOfPlace lower)) → number ≡ numberOfPlace place → Numbered sizes start past key wanted number
-
-pub data Drops (start : Start) (past : Past) (seat number : ℕ) (answer : Answer) : Type 0 where
-  empty : sitter start past seat ≡ nobody → answer ≡ refused NotSeated → Drops start past seat number answer
-  noRoute : NoRequest start past seat number → answer ≡ refused NoSuchRoute → Drops start past seat number answer
-  dropped : (key wanted : Key) → Names start past seat number key wanted → isAccepted answer ≡ true → Drops start past seat number answer
 
 -- ---- one call
 
@@ -85,7 +52,7 @@ module _ (sizes : Sizes) (start : Start) (past : Past) (room : Room) (whole : Wh
     taken : (seat : ℕ) → isVacant (seatAt room seat) ≡ false → sitter start past seat ≢ nobody
     taken seat h q = held-somebody (seatAt room seat) h (sym (tie .sits seat) ∙ q)
 
-    arrive-found : (held lowest : Found) → find (seatOf key) room ≡ held → find isVacant room ≡ lowest → Arrives sizes start past key (arriveAt held lowest key .answer)
+    arrive-found : (held lowest : Found) → find (seatOf key) room ≡ held → find isVacant room ≡ lowest → ArriveAnswered sizes start past key (arriveAt held lowest key .answer)
     unfolding arriveAt refuse accept sentBytes seatAt clientIn
     arrive-found (at seat) lowest h l =
         seated seat (tie .sits seat ∙ ap clientIn (seat-of-holds key (seatAt room seat) (find-hit (seatOf key) vacant room seat h))) refl
@@ -95,17 +62,17 @@ module _ (sizes : Sizes) (start : Start) (past : Past) (room : Room) (whole : Wh
         (tie .sits seat ∙ vacant-nobody (seatAt room seat) (find-hit isVacant vacant room seat l))
         (λ lower less. taken lower (find-before isVacant vacant room seat l lower less)) refl
 
-    pub arrive-answered : Arrives sizes start past key (event room (arrive key) .answer)
+    pub arrive-answered : ArriveAnswered sizes start past key (event room (arrive key) .answer)
     unfolding event outcome
     arrive-answered = arrive-found (find (seatOf key) room) (find isVacant room) refl refl
 
   module _ (seat : ℕ) where
-    leave-seat : (s : Seat) → seatAt room seat ≡ s → Leaves start past seat (leaveFrom s room seat .answer)
+    leave-seat : (s : Seat) → seatAt room seat ≡ s → LeaveAnswered start past seat (leaveFrom s room seat .answer)
     unfolding leaveFrom refuse accept clientIn isAccepted
     leave-seat vacant h = empty (tie .sits seat ∙ ap clientIn h) refl
     leave-seat (holds key routes) h = left key (tie .sits seat ∙ ap clientIn h) refl
 
-    pub leave-answered : Leaves start past seat (event room (leave seat) .answer)
+    pub leave-answered : LeaveAnswered start past seat (event room (leave seat) .answer)
     unfolding event outcome
     leave-answered = leave-seat (seatAt room seat) refl
 
@@ -127,7 +94,7 @@ module _ (sizes : Sizes) (start : Start) (past : Past) (room : Room) (whole : Wh
 
     -- a drop
     drop-route : (key : Key) (routes : List Route) → seatAt room seat ≡ holds key routes → (number : ℕ) (route : Route) → routeAt routes number ≡ route
-        → Drops start past seat number (dropAt route room seat key number .answer)
+        → DropAnswered start past seat number (dropAt route room seat key number .answer)
     unfolding dropAt refuse accept isAccepted
     drop-route key routes sits number free h =
         noRoute (record { key = key; sits = sitter-is sizes start past room whole tie seat key routes sits; asked = free-stands sizes start past room whole tie seat key routes sits number h }) refl
@@ -135,12 +102,12 @@ module _ (sizes : Sizes) (start : Start) (past : Past) (room : Room) (whole : Wh
         dropped key wanted (record { sits = sitter-is sizes start past room whole tie seat key routes sits; asked = wants-stands sizes start past room whole tie seat key routes sits number wanted h }) refl
 
     drop-seat : (number : ℕ) (bytes : List ℕ) → client.relayRead bytes ≡ read.packet (client.dropRoute number) → (s : Seat) → seatAt room seat ≡ s
-        → Drops start past seat number (packetFrom s room seat bytes .answer)
+        → DropAnswered start past seat number (packetFrom s room seat bytes .answer)
     unfolding packetFrom actOn act refuse clientIn
     drop-seat number bytes e vacant h = empty (tie .sits seat ∙ ap clientIn h) refl
     drop-seat number bytes e (holds key routes) h = rw e (drop-route key routes h number (routeAt routes number) refl)
 
-    pub drop-answered : (number : ℕ) (bytes : List ℕ) → client.relayRead bytes ≡ read.packet (client.dropRoute number) → Drops start past seat number (event room (packetCall seat bytes) .answer)
+    pub drop-answered : (number : ℕ) (bytes : List ℕ) → client.relayRead bytes ≡ read.packet (client.dropRoute number) → DropAnswered start past seat number (event room (packetCall seat bytes) .answer)
     unfolding event outcome
     drop-answered number bytes e = drop-seat number bytes e (seatAt room seat) refl
 
@@ -187,7 +154,12 @@ module _ (sizes : Sizes) (start : Start) (past : Past) (room : Room) (whole : Wh
         oldNumber (subst (λ (n : ℕ). stands start past key n wanted ≡ true) q
         (wants-stands sizes start past room whole tie seat key routes sits (numberOfPlace place) wanted (route-at-place routes place ∙ route-to-wants wanted _ (find-hit (routeTo wanted) free routes place h))))
     request-found none none h l number later s =
-        noneFree (not-asked h) (λ place within. not-free place (find-none isFree free routes l place (let n = whole .numbers seat key routes sits in omega arith))) (sym (same-number 0 number _ later s))
+        noneFree
+        (record {
+          notAsked = not-asked h;
+          full = λ place within. not-free place (find-none isFree free routes l place (let n = whole .numbers seat key routes sits in omega arith));
+        })
+        (sym (same-number 0 number _ later s))
     request-found none (at place) h l number later s =
         lowestFree place (not-asked h) (let n = whole .numbers seat key routes sits in let w = find-within isFree routes place l in omega arith) (is-free place (find-hit isFree free routes place l))
         (λ lower less. not-free lower (find-before isFree free routes place l lower less)) (sym (same-number (numberOfPlace place) number _ later s))
@@ -204,18 +176,18 @@ module _ (sizes : Sizes) (calls : List Call) (before : List Event) (e : Event) (
   of-each : (P : Past → Event → Type 0) → ((past : Past) (room : Room) → Whole sizes room → Tied fromEmpty past room → (call : Call) → P past (event room call)) → P (pastAfter [] before) e
   of-each P each = from-empty sizes P each calls before e later t
 
-  pub arrive-answered-from-empty : (key : Key) → e .call ≡ arrive key → Arrives sizes fromEmpty (pastAfter [] before) key (e .answer)
+  pub arrive-answered-from-empty : (key : Key) → e .call ≡ arrive key → ArriveAnswered sizes fromEmpty (pastAfter [] before) key (e .answer)
   unfolding event
   arrive-answered-from-empty key =
-      of-each (λ past e. e .call ≡ arrive key → Arrives sizes fromEmpty past key (e .answer))
-      (λ past room whole tie call c. subst (λ (x : Call). Arrives sizes fromEmpty past key (event room x .answer)) (sym c) (arrive-answered sizes fromEmpty past room whole tie key))
+      of-each (λ past e. e .call ≡ arrive key → ArriveAnswered sizes fromEmpty past key (e .answer))
+      (λ past room whole tie call c. subst (λ (x : Call). ArriveAnswered sizes fromEmpty past key (event room x .answer)) (sym c) (arrive-answered sizes fromEmpty past room whole tie key))
 
   module _ (seat : ℕ) where
-    pub leave-answered-from-empty : e .call ≡ leave seat → Leaves fromEmpty (pastAfter [] before) seat (e .answer)
+    pub leave-answered-from-empty : e .call ≡ leave seat → LeaveAnswered fromEmpty (pastAfter [] before) seat (e .answer)
     unfolding event
     leave-answered-from-empty =
-        of-each (λ past e. e .call ≡ leave seat → Leaves fromEmpty past seat (e .answer))
-        (λ past room whole tie call c. subst (λ (x : Call). Leaves fromEmpty past seat (event room x .answer)) (sym c) (leave-answered sizes fromEmpty past room whole tie seat))
+        of-each (λ past e. e .call ≡ leave seat → LeaveAnswered fromEmpty past seat (e .answer))
+        (λ past room whole tie call c. subst (λ (x : Call). LeaveAnswered fromEmpty past seat (event room x .answer)) (sym c) (leave-answered sizes fromEmpty past room whole tie seat))
 
     module _ (bytes : List ℕ) where
       pub nobodys-packet-from-empty : e .call ≡ packetCall seat bytes → sitter fromEmpty (pastAfter [] before) seat ≡ nobody → e .answer ≡ refused NotSeated
@@ -232,11 +204,11 @@ module _ (sizes : Sizes) (calls : List Call) (before : List Event) (e : Event) (
           (λ past room whole tie call c by. ap (λ (x : Call). event room x .answer) c ∙ unread-packet sizes fromEmpty past room whole tie seat key by bytes why r)
 
       pub drop-answered-from-empty : (number : ℕ) → client.relayRead bytes ≡ read.packet (client.dropRoute number) → e .call ≡ packetCall seat bytes
-          → Drops fromEmpty (pastAfter [] before) seat number (e .answer)
+          → DropAnswered fromEmpty (pastAfter [] before) seat number (e .answer)
       unfolding event
       drop-answered-from-empty number r =
-          of-each (λ past e. e .call ≡ packetCall seat bytes → Drops fromEmpty past seat number (e .answer))
-          (λ past room whole tie call c. subst (λ (x : Call). Drops fromEmpty past seat number (event room x .answer)) (sym c) (drop-answered sizes fromEmpty past room whole tie seat number bytes r))
+          of-each (λ past e. e .call ≡ packetCall seat bytes → DropAnswered fromEmpty past seat number (e .answer))
+          (λ past room whole tie call c. subst (λ (x : Call). DropAnswered fromEmpty past seat number (event room x .answer)) (sym c) (drop-answered sizes fromEmpty past room whole tie seat number bytes r))
 
       -- that it is answered so is `request-tells-from-empty`
       pub request-numbered-from-empty : (key wanted : Key) → client.relayRead bytes ≡ read.packet (client.routingRequest wanted) → e .call ≡ packetCall seat bytes

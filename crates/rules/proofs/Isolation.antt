@@ -1,8 +1,9 @@
 -- Demand 3, over two whole histories: "This whole sequence is equal in both histories, and so, for each call of C in turn, is the seat answered, the
--- byte count or the refusal number." The condition on 0 is demand 3's own: "If their records for C are equal and neither answers another client's request for
--- C with 0". Two histories of whatever lengths, with any sizes of the room, and any client C: where both hold, the packets handed to C are equal, byte for
--- byte and in order, and so are the answers to C's own calls. `two-histories` has it from the empty room, `two-histories-from` from any whole room with a past that says what its tables say. It is
--- proved by showing that what C is handed and answered is a function of its record alone. Assumes nothing.
+-- byte count or the refusal number." The condition on 0 is demand 3's own: "Suppose their records for C, listed in document 01, are equal, and neither history
+-- answers another client's request for C with 0." Two histories of whatever lengths, with any sizes of the room, and any client C: where both hold, the packets
+-- handed to C are equal, byte for byte and in order, and so are the answers to C's own calls. `two-histories` has it from the empty room, `two-histories-from`
+-- from any whole room with a past that says what its tables say. It is proved by showing that what C is handed and answered is a function of its record alone.
+-- Assumes nothing.
 use mathlib.Core.Path.{_≡_, refl, sym, ap, ap₂, _∙_}
 use mathlib.Core.Bool.{Bool, true, false, cond, true≢false}
 use mathlib.Core.List.{List, [], _∷_, _++_, append-assoc}

@@ -15,11 +15,11 @@ use Rattle.packet.specs.Read as read
 use Rattle.packet.specs.FromClient as client
 use Rattle.rules.specs.Room.{Sizes, Key, baseSizes, emptyRoom}
 use Rattle.rules.specs.Call.{Call, arrive, leave, packetCall, Answer, accepted, refused}
-use Rattle.rules.specs.History.{Event, transcript}
+use Rattle.rules.specs.History.{Event, transcript, happens}
 use Rattle.rules.specs.Transcript.{Past, nobody, clientOf, Start, fromEmpty, isAccepted, maker, stands}
 use Rattle.rules.specs.After.{pastAfter}
-use Rattle.rules.specs.Record.{Entry, arrived, own, toC, dataForC, when, byKey, otherPacket, otherCall, ifAccepted, madeBy, entriesBy, entries, recordFor, packetsFor, answersFor, zeroForC}
-use Rattle.rules.proofs.Computed.{ka, kb, kc, happens, opened}
+use Rattle.rules.specs.Record.{Entry, arrived, own, toC, dataForC, entryIf, byKey, otherPacket, otherCall, ifAccepted, madeBy, entriesBy, entries, recordFor, packetsFor, answersFor, zeroForC}
+use Rattle.rules.proofs.Computed.{ka, kb, kc, opened}
 
 -- ---- examples: KC is C
 
@@ -124,7 +124,7 @@ module _ (start : Start) (past : Past) (c : Key) (e : Event) where
   module _ (key : Key) (by : maker start past (e .call) ≡ clientOf key) (else : sameKey key c ≡ false) where
     -- refused call
     pub refused-adds-nothing : isAccepted (e .answer) ≡ false → entries start past c e ≡ []
-    unfolding entries entriesBy madeBy byKey when ifAccepted isAccepted
+    unfolding entries entriesBy madeBy byKey entryIf ifAccepted isAccepted
     refused-adds-nothing h = rw (by, else) (go (e .call) (e .answer) h (otherCall c key (e .call) (λ number. stands start past key number c)))
       where
         go : (call : Call) (answer : Answer) → isAccepted answer ≡ false → (es : List Entry) → (byKey key call answer ++ ifAccepted answer es) ≡ []
@@ -153,18 +153,18 @@ module _ (start : Start) (past : Past) (c : Key) (e : Event) where
 
       -- a request or an out-of-band send for another key
       pub request-adds-nothing : (wanted : Key) → client.relayRead bytes ≡ read.packet (client.routingRequest wanted) → sameKey wanted c ≡ false → entries start past c e ≡ []
-      unfolding otherPacket when
+      unfolding otherPacket entryIf
       request-adds-nothing wanted q h = adds-nothing _ q (rw h)
 
       pub oob-adds-nothing : (wanted : Key) (payload : List ℕ) → client.relayRead bytes ≡ read.packet (client.oobSend wanted payload) → sameKey wanted c ≡ false → entries start past c e ≡ []
-      unfolding otherPacket when
+      unfolding otherPacket entryIf
       oob-adds-nothing wanted payload q h = adds-nothing _ q (rw h)
 
       -- a drop or data on a number that does not name C
       pub drop-adds-nothing : (number : ℕ) → client.relayRead bytes ≡ read.packet (client.dropRoute number) → stands start past key number c ≡ false → entries start past c e ≡ []
-      unfolding otherPacket when
+      unfolding otherPacket entryIf
       drop-adds-nothing number q h = adds-nothing _ q (rw h)
 
       pub data-adds-nothing : (number : ℕ) (payload : List ℕ) → client.relayRead bytes ≡ read.packet (client.routedData number payload) → stands start past key number c ≡ false → entries start past c e ≡ []
-      unfolding otherPacket when
+      unfolding otherPacket entryIf
       data-adds-nothing number payload q h = adds-nothing _ q (rw h)

@@ -22,7 +22,7 @@ use Rattle.rules.specs.Outcome.{withRoute, apply, applyAll, Outcome, ref
 use Rattle.rules.specs.History.{Event, event}
 use Rattle.rules.specs.Transcript.{Past, Start, isAccepted, maker, numberAnswered, stands}
 use Rattle.rules.specs.After.{clientIn, Tied}
-use Rattle.rules.specs.Record.{Entry, arrived, departed, own, toC, droppedC, dataForC, when, byKey, otherPacket, otherCall, ifAccepted, madeBy, entriesBy, entries, isClient, handedIf, handed, answerIf, asksFor, turnsAway}
+use Rattle.rules.specs.Record.{Entry, arrived, departed, own, toC, droppedC, dataForC, entryIf, byKey, otherPacket, otherCall, ifAccepted, madeBy, entriesBy, entries, isClient, handedIf, handed, answerIf, asksFor, turnsAway}
 use Rattle.rules.proofs.FindLaws.{Once, find-hit, find-replicate, find-set-same, once-tail, once-first, find-clear, free-not-to, wanted-place}
 use Rattle.rules.proofs.Whole.{wanted-once, key-found}
 use Rattle.rules.proofs.AnswerLaws.{zero-answered}
@@ -331,8 +331,9 @@ module _ (sizes : Sizes) (room : Room) (whole : Whole sizes room) (c : Key) (sea
     note-request : (wanted : Key) → client.relayRead bytes ≡ read.packet (client.routingRequest wanted) → (t : Bool) → sameKey wanted c ≡ t
         → (f lowest : Found) → find (routeTo wanted) routes ≡ f → find isFree routes ≡ lowest
         → (t && eqb (numberAnswered (requestAt f lowest room seat key wanted .sent)) 0) ≡ false
-        → observeAll sizes c (project c room) (when t (toC key (packetCall seat bytes))) ≡ observedOf sizes c room (requestAt f lowest room seat key wanted) []
-    unfolding when observeAll
+        → observeAll sizes c (project c room) (entryIf t (toC key (packetCall seat bytes)))
+        ≡ observedOf sizes c room (requestAt f lowest room seat key wanted) []
+    unfolding entryIf observeAll
     note-request wanted e true hw f lowest hf hg z =
         let q = same-sound wanted c hw in
         observe-call _ (e ∙ ap (λ (k : Key). read.packet (client.routingRequest k)) q)
@@ -341,17 +342,18 @@ module _ (sizes : Sizes) (room : Room) (whole : Whole sizes room) (c : Key) (sea
     note-request wanted e false hw f lowest hf hg z = request-else wanted hw f lowest hg
 
     note-drop : (number : ℕ) (route : Route) → routeAt routes number ≡ route → Noted (read.packet (client.dropRoute number)) (dropAt route room seat key number) ≡ observedOf sizes c room (dropAt route room seat key number) []
-    unfolding otherPacket dropAt refuse accept ifAccepted observeAll roomAfter applyAll handedBy when routeTo
+    unfolding otherPacket dropAt refuse accept ifAccepted observeAll roomAfter applyAll handedBy entryIf routeTo
     note-drop number free e = refl
     note-drop number (wants wanted) e = rw (names-is number, e) (go (sameKey wanted c) refl)
       where
-        go : (t : Bool) → sameKey wanted c ≡ t → observeAll sizes c (project c room) (when t (droppedC key)) ≡ observedOf sizes c room (dropAt (wants wanted) room seat key number) []
+        go : (t : Bool) → sameKey wanted c ≡ t
+            → observeAll sizes c (project c room) (entryIf t (droppedC key)) ≡ observedOf sizes c room (dropAt (wants wanted) room seat key number) []
         go true hw = rw (same-sound wanted c hw) (observe-one sizes c (project c room) (droppedC key) ∙ drop-mine number (rw (same-sound wanted c hw) at e))
         go false hw = drop-else number wanted e hw
 
     note-data : (number : ℕ) (payload : List ℕ) (route : Route) → routeAt routes number ≡ route
         → Noted (read.packet (client.routedData number payload)) (dataAt route room seat key payload) ≡ observedOf sizes c room (dataAt route room seat key payload) []
-    unfolding otherPacket dataAt refuse ifAccepted observeAll roomAfter applyAll handedBy when routeTo
+    unfolding otherPacket dataAt refuse ifAccepted observeAll roomAfter applyAll handedBy entryIf routeTo
     note-data number payload free e = refl
     note-data number payload (wants wanted) e = rw (names-is number, e) (go (sameKey wanted c) refl)
       where
@@ -360,14 +362,15 @@ module _ (sizes : Sizes) (room : Room) (whole : Whole sizes room) (c : Key) (sea
         quiet (refused why) = refl
 
         go : (t : Bool) → sameKey wanted c ≡ t
-            → observeAll sizes c (project c room) (ifAccepted (carryTo (peer room seat key wanted) seat payload .answer) (when t (dataForC key payload)))
+            → observeAll sizes c (project c room) (ifAccepted (carryTo (peer room seat key wanted) seat payload .answer) (entryIf t (dataForC key payload)))
             ≡ observedOf sizes c room (carryTo (peer room seat key wanted) seat payload) []
         go true hw = rw (same-sound wanted c hw) (data-mine payload (peer room seat key c) refl)
         go false hw = quiet (carryTo (peer room seat key wanted) seat payload .answer) ∙ data-else payload wanted hw (peer room seat key wanted) refl
 
     note-oob : (wanted : Key) (payload : List ℕ) → client.relayRead bytes ≡ read.packet (client.oobSend wanted payload) → (t : Bool) → sameKey wanted c ≡ t
-        → observeAll sizes c (project c room) (when t (toC key (packetCall seat bytes))) ≡ observedOf sizes c room (oobTo (find (seatOf wanted) room) seat key payload) []
-    unfolding when observeAll
+        → observeAll sizes c (project c room) (entryIf t (toC key (packetCall seat bytes)))
+        ≡ observedOf sizes c room (oobTo (find (seatOf wanted) room) seat key payload) []
+    unfolding entryIf observeAll
     note-oob wanted payload e true hw =
         let q = same-sound wanted c hw in
         observe-call _ (e ∙ ap (λ (k : Key). read.packet (client.oobSend k payload)) q) ∙ rw q (oob-mine payload (find (seatOf c) room) refl)
@@ -424,7 +427,7 @@ module _ (sizes : Sizes) (start : Start) (past : Past) (room : Room) (whole : Wh
 
   arrive-by : (key : Key) (t : Bool) → sameKey key c ≡ t → (seated empty : Found) → find (seatOf key) room ≡ seated → find isVacant room ≡ empty
       → Law t key (arrive key) (arriveAt seated empty key)
-  unfolding madeBy byKey when isAccepted answerIf arriveAt refuse accept ifAccepted otherCall observeAll roomAfter applyAll handedBy
+  unfolding madeBy byKey entryIf isAccepted answerIf arriveAt refuse accept ifAccepted otherCall observeAll roomAfter applyAll handedBy
   arrive-by key true h (at seat) empty hf he =
       let q = same-sound key c h in
       rw q (observe-own sizes c (project c room) (arrive c) ∙ own-arrival sizes c room (at seat) empty (rw q at hf) he)
@@ -440,7 +443,7 @@ module _ (sizes : Sizes) (start : Start) (past : Past) (room : Room) (whole : Wh
 
   leave-by : (seat : ℕ) (key : Key) (routes : List Route) → seatAt room seat ≡ holds key routes → (t : Bool) → sameKey key c ≡ t
       → Law t key (leave seat) (leaveFrom (holds key routes) room seat)
-  unfolding madeBy byKey when isAccepted answerIf leaveFrom accept ifAccepted otherCall
+  unfolding madeBy byKey entryIf isAccepted answerIf leaveFrom accept ifAccepted otherCall
   leave-by seat key routes e true h =
       let q = same-sound key c h in
       rw q (observe-departed sizes c (project c room) (leave seat) ∙ own-leave sizes room whole c seat routes (rw q at e))

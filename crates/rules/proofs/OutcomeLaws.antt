@@ -1,11 +1,12 @@
 -- One outcome after another, as one call (`andThen`): it is accepted exactly where both are. Then the room after it is the room after the second from the
--- room after the first, and what is sent is what the first sends and then what the second sends, with the bytes of both counted. Otherwise the room is
--- as before and nothing is sent. Which two of three are put together first makes no difference, and a whole room stays whole. Assumes nothing.
+-- room after the first, and what is sent is what the first sends and then what the second sends, with the bytes of both counted. Otherwise it is refused,
+-- with the refusal of the first that is refused, the room is as before and nothing is sent. Which two of three are put together first makes no difference, and a whole room stays whole. Assumes nothing.
 use mathlib.Core.Path.{_≡_, refl, ap, ap₂, _∙_}
 use mathlib.Core.Bool.{true, false, _&&_, true≢false, false≢true}
 use mathlib.Core.List.{List, [], _∷_, _++_, append-assoc}
 use Prim.Native.Nat.{ℕ, _+_}
 use lib.ListN.{length}
+use Rattle.refusal.specs.declared.Refusal.{Refusal}
 use Rattle.rules.specs.Room.{Sizes, Room}
 use Rattle.rules.specs.Whole.{Whole}
 use Rattle.rules.specs.Call.{Answer, accepted, refused}
@@ -64,7 +65,16 @@ module _ (sizes : Sizes) (room : Room) (first : Outcome) (next : Room → Outcom
   bytes-of-both seat seat′ count count′ e e′ =
       ap₂ (λ (a b : Answer). joinOutcomes a b first second .answer) e e′ ∙ ap (accepted seat′) (count-append (first .sent) (second .sent))
 
-  -- one refused: nothing happens
+  -- one refused: the whole is, with that refusal
+  pub refused-first : (why : Refusal) → first .answer ≡ refused why → together ≡ refuse why
+  unfolding andThen joinOutcomes
+  refused-first why e = ap (λ (a : Answer). joinOutcomes a (second .answer) first second) e
+
+  pub refused-second : (seat count : ℕ) (why : Refusal) → first .answer ≡ accepted seat count → second .answer ≡ refused why → together ≡ refuse why
+  unfolding andThen joinOutcomes
+  refused-second seat count why e e′ = ap₂ (λ (a b : Answer). joinOutcomes a b first second) e e′
+
+  -- and nothing happens
   pub refused-changes-nothing : isAccepted (together .answer) ≡ false → (roomAfter sizes room together ≡ room) × (together .sent ≡ [])
   unfolding andThen joinOutcomes isAccepted refuse accept roomAfter applyAll
   refused-changes-nothing = go (first .answer) (second .answer)

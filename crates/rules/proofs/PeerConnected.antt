@@ -10,17 +10,10 @@ use Rattle.rules.specs.Whole.{Whole}
 use Rattle.rules.specs.Outcome.{peer}
 use Rattle.rules.specs.Transcript.{Past, Start, stands}
 use Rattle.rules.specs.After.{Tied}
-use Rattle.rules.specs.GoesOn.{Connected}
+use Rattle.rules.specs.GoesOn.{Connected, OnlyPeer}
 use Rattle.rules.proofs.FindLaws.{clash, wanted-high}
 use Rattle.rules.proofs.PeerLaws.{PeerHas, peer-has, has-peer}
 use Rattle.rules.proofs.Tied.{seat-holds, sitter-is, stands-wants, wants-stands}
-
--- on `number` of the client in `seat`: nobody is connected, or this one is and no other
-unfoldable pub OnlyPeer : Start → Past → ℕ → ℕ → Peer → Type 0
-OnlyPeer start past seat number alone = (other number′ : ℕ) → Connected start past seat number other number′ → ⊥
-OnlyPeer start past seat number (joined other place) =
-    Connected start past seat number other (numberOfPlace place)
-    × ((other′ number′ : ℕ) → Connected start past seat number other′ number′ → (other ≡ other′) × (numberOfPlace place ≡ number′))
 
 -- who is connected on a number asked under it
 pub connected-asks : (sizes : Sizes) (start : Start) (past : Past) (room : Room) (whole : Whole sizes room) (tie : Tied start past room)

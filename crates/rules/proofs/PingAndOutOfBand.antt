@@ -4,36 +4,27 @@
 use mathlib.Core.Path.{_≡_, refl, sym, ap, _∙_, subst}
 use mathlib.Core.Bool.{true}
 use mathlib.Core.List.{List, [], _∷_, _++_}
-use mathlib.Core.Logic.{_≢_}
 use Prim.Native.Nat.{ℕ}
 use Rattle.packet.specs.Read as read
 use Rattle.packet.specs.FromClient as client
 use Rattle.packet.specs.FromRelay as relay
 use Rattle.rules.specs.Room.{Sizes, Key, Route, vacant, holds, Room, emptyRoom, Found, none, at, find, seatOf, routesOf, seatAt}
 use Rattle.rules.specs.Whole.{Whole}
-use Rattle.rules.specs.Call.{Call, packetCall, Sent}
+use Rattle.rules.specs.Call.{Call, packetCall}
 use Rattle.rules.specs.Outcome.{accept, to, oobTo, act, actOn, packetFrom, outcome}
 use Rattle.rules.specs.History.{Event, event, transcript}
 use Rattle.rules.specs.Transcript.{Past, clientOf, Start, fromEmpty, isAccepted, sitter}
 use Rattle.rules.specs.After.{pastAfter, clientIn, Tied}
+use Rattle.rules.specs.PingAndOutOfBand.{Accepted, OutOfBand, reaches, nowhere}
 use Rattle.rules.proofs.FindLaws.{find-hit, seat-of-holds}
 use Rattle.rules.proofs.Tied.{seat-holds}
 use Rattle.rules.proofs.EachEvent.{from-empty}
 use Rattle.rules.proofs.Given.{sits-nowhere}
 
--- what an out-of-band send of the client `key` to the key `wanted` sends
-pub data OutOfBand (start : Start) (past : Past) (key wanted : Key) (payload : List ℕ) (sent : List Sent) : Type 0 where
-  reaches : (other : ℕ) → sitter start past other ≡ clientOf wanted → sent ≡ to other (relay.oobReceived key payload) ∷ [] → OutOfBand start past key wanted payload sent
-  nowhere : ((other : ℕ) → sitter start past other ≢ clientOf wanted) → sent ≡ [] → OutOfBand start past key wanted payload sent
-
 -- ---- one call
 
 module _ (sizes : Sizes) (start : Start) (past : Past) (room : Room) (whole : Whole sizes room) (tie : Tied start past room) (seat : ℕ) (key : Key)
     (routes : List Route) (sits : seatAt room seat ≡ holds key routes) (bytes : List ℕ) where
-  -- a packet of the client is accepted, and of what it sends this holds
-  abbrev Accepted : (List Sent → Type 0) → Event → Type 0
-  Accepted P e = (isAccepted (e .answer) ≡ true) × P (e .sent)
-
   oob-found : (wanted : Key) (payload : List ℕ) (f : Found) → find (seatOf wanted) room ≡ f
       → (isAccepted (oobTo f seat key payload .answer) ≡ true) × OutOfBand start past key wanted payload (oobTo f seat key payload .sent)
   unfolding oobTo accept isAccepted clientIn seatAt

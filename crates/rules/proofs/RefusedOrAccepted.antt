@@ -4,24 +4,15 @@ use mathlib.Core.Path.{_≡_, refl, sym, ap, _∙_}
 use mathlib.Core.Bool.{false, true≢false}
 use mathlib.Core.List.{List, [], _∷_}
 use Prim.Native.Nat.{ℕ}
-use Rattle.refusal.specs.declared.Refusal.{Refusal}
 use Rattle.refusal.specs.declared.Refusal.the-variants.{RoomFull, AlreadySeated, NotSeated, NoSuchRoute, NotConnected}
 use Rattle.packet.specs.Read.{Read}
 use Rattle.packet.specs.Read as read
 use Rattle.packet.specs.FromClient as client
 use Rattle.rules.specs.Room.{Sizes, Key, Route, free, wants, Seat, vacant, holds, Room, Found, none, at, find, seatOf, isVacant, routeTo, isFree, seatAt, routeAt, Peer, alone, joined}
-use Rattle.rules.specs.Call.{Call, arrive, leave, packetCall, Sent}
-use Rattle.rules.specs.Outcome.{Change, seatTaken, applyAll, Outcome, refuse, accept, roomAfter, peer, arriveAt, leaveFrom, requestAt, dropAt, oobTo, carryTo, dataAt, act, actOn, packetFrom, outcome}
+use Rattle.rules.specs.Call.{Call, arrive, leave, packetCall}
+use Rattle.rules.specs.Outcome.{seatTaken, applyAll, Outcome, refuse, accept, roomAfter, peer, arriveAt, leaveFrom, requestAt, dropAt, oobTo, carryTo, dataAt, act, actOn, packetFrom, outcome}
 use Rattle.rules.specs.Transcript.{isAccepted}
-
-pub data RefusedOrAccepted (o : Outcome) : Type 0 where
-  refusal : (why : Refusal) → o ≡ refuse why → RefusedOrAccepted o
-  acceptance : (seat : ℕ) (changes : List Change) (sent : List Sent) → o ≡ accept seat changes sent → RefusedOrAccepted o
-
--- the same of a call made in a seat: where it is accepted, it answers that seat
-pub data MadeAt (seat : ℕ) (o : Outcome) : Type 0 where
-  refusal : (why : Refusal) → o ≡ refuse why → MadeAt seat o
-  acceptance : (changes : List Change) (sent : List Sent) → o ≡ accept seat changes sent → MadeAt seat o
+use Rattle.rules.specs.Accepted.{RefusedOrAccepted, MadeAt, refusal, acceptance}
 
 made-at : (seat : ℕ) (o : Outcome) → MadeAt seat o → RefusedOrAccepted o
 made-at seat o (refusal why e) = refusal why e

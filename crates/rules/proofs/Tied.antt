@@ -30,7 +30,7 @@ use Rattle.rules.proofs.AnswerLaws.{zero-answered, place-answered}
 
 -- ---- tests
 
-either : {A : Type 0} (t : Bool) (x : A) → cond t x x ≡ x
+pub either : {A : Type 0} (t : Bool) (x : A) → cond t x x ≡ x
 either true x = refl
 either false x = refl
 

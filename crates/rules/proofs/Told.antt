@@ -6,7 +6,7 @@
 use mathlib.Core.Path.{_≡_, refl, sym, ap, _∙_, subst}
 use mathlib.Core.Bool.{Bool, true, false, true≢false}
 use mathlib.Core.List.{List, [], _∷_, _++_}
-use mathlib.Core.Logic.{_↔_, _≢_}
+use mathlib.Core.Logic.{_≢_}
 use Prim.Native.Nat.{ℕ, zero, suc, _+_, _-_, _<_, _≤_}
 use native.Mathlib.Omega.{arith}
 use lib.Dec.{eqb}
@@ -23,25 +23,15 @@ use Rattle.rules.specs.Outcome.{withRoute, apply, applyAll, refuse, acce
 use Rattle.rules.specs.History.{Event, event, transcript}
 use Rattle.rules.specs.Transcript.{Past, nobody, clientOf, Start, fromEmpty, sitter, stands}
 use Rattle.rules.specs.After.{pastAfter, clientIn, Tied}
-use Rattle.rules.specs.GoesOn.{Connected}
+use Rattle.rules.specs.GoesOn.{Connected, OnlyPeer}
+use Rattle.rules.specs.Told.{peerIs, noPeer, Disconnects, InTurn, LeaveTells, Connects, RequestTells}
 use Rattle.rules.proofs.FindLaws.{clash, find-hit, find-miss, find-within, find-set-same, find-once, seat-set, seat-set-other, held-within, route-to-wants, route-at-place, wanted-high, wanted-place, route-set}
 use Rattle.rules.proofs.Whole.{wanted-once, whole-after}
 use Rattle.rules.proofs.Tied.{tied-after, seat-holds, stands-wants, wants-stands}
-use Rattle.rules.proofs.PeerConnected.{OnlyPeer, connected-asks, peer-is-connected}
+use Rattle.rules.proofs.PeerConnected.{connected-asks, peer-is-connected}
 use Rattle.rules.proofs.EachEvent.{from-empty}
 
 -- ---- what is told at a disconnect
-
--- on `number` of the client in `seat`, one of these is so
-pub data PeerOrNone (start : Start) (past : Past) (seat number : ℕ) : Type 0 where
-  peerIs : (other number′ : ℕ) → Connected start past seat number other number′ → PeerOrNone start past seat number
-  noPeer : ((other number′ : ℕ) → Connected start past seat number other number′ → ⊥) → PeerOrNone start past seat number
-
--- one disconnect notification for the connected peer, under the peer's number, exactly where there is one; else nothing
-pub record Disconnects (start : Start) (past : Past) (seat number : ℕ) (sent : List Sent) : Type 0 where
-  pub decided : PeerOrNone start past seat number
-  pub told : (other number′ : ℕ) → (sent ≡ to other (relay.disconnectNotice number′) ∷ []) ↔ Connected start past seat number other number′
-  pub otherwise : ((other number′ : ℕ) → Connected start past seat number other number′ → ⊥) → sent ≡ []
 
 -- a record tells its seat and its number
 same-notice : (i j n m : ℕ) → _≡_ {A = List Sent} (to i (relay.disconnectNotice n) ∷ []) (to j (relay.disconnectNotice m) ∷ []) → (i ≡ j) × (n ≡ m)
@@ -99,24 +89,6 @@ module _ (sizes : Sizes) (start : Start) (past : Past) (room : Room) (whole : Wh
 
 -- ---- a leave
 
--- in two parts, of which one holds of the first and one of the rest
-pub record Parts (First Rest : List Sent → Type 0) (sent : List Sent) : Type 0 where
-  pub front : List Sent
-  pub back : List Sent
-  pub both : sent ≡ front ++ back
-  pub first : First front
-  pub rest : Rest back
-
--- on each number in turn, from `number` on, so many
-unfoldable pub InTurn : Start → Past → ℕ → ℕ → ℕ → List Sent → Type 0
-InTurn start past seat number zero sent = sent ≡ []
-InTurn start past seat number (suc many) sent = Parts (Disconnects start past seat number) (InTurn start past seat (suc number) many) sent
-
--- what a leave tells: on each of the seat's numbers in turn, and those are all that can be connected
-pub record LeaveTells (sizes : Sizes) (start : Start) (past : Past) (seat : ℕ) (sent : List Sent) : Type 0 where
-  pub inTurn : InTurn start past seat firstNumber (sizes .numbers) sent
-  pub all : (number other number′ : ℕ) → Connected start past seat number other number′ → (firstNumber ≤ number) × (number < firstNumber + sizes .numbers)
-
 module _ (sizes : Sizes) (start : Start) (past : Past) (room : Room) (whole : Whole sizes room) (tie : Tied start past room) (seat : ℕ) where
   none-in-turn : ((number other number′ : ℕ) → Connected start past seat number other number′ → ⊥) → (number many : ℕ) → InTurn start past seat number many []
   unfolding InTurn
@@ -170,25 +142,6 @@ module _ (sizes : Sizes) (start : Start) (past : Past) (room : Room) (whole : Wh
   leave-tells = leave-seat (seatAt room seat) refl
 
 -- ---- a request
-
--- "if the two are now connected, connected is sent to the asker, then to the peer, each with its own number"; else nothing
-pub record Connects (start : Start) (past : Past) (seat number : ℕ) (sent : List Sent) : Type 0 where
-  pub decided : PeerOrNone start past seat number
-  pub told : (other number′ : ℕ) → (sent ≡ to seat (relay.connectNotice number) ∷ to other (relay.connectNotice number′) ∷ []) ↔ Connected start past seat number other number′
-  pub otherwise : ((other number′ : ℕ) → Connected start past seat number other number′ → ⊥) → sent ≡ []
-
--- what the client `key` in `seat` and its peer are told where it asks for `wanted`: `e` is the event, so that `e ∷ past` is now
-pub record RequestTells (start : Start) (past : Past) (seat : ℕ) (key wanted : Key) (e : Event) : Type 0 where
-  pub number : ℕ
-  pub later : List Sent
-  -- the answer comes first
-  pub answered : e .sent ≡ to seat (relay.routingResponse number wanted) ∷ later
-  -- "a key already named by this seat gets its old number again and nothing else happens"
-  pub old : (n : ℕ) → stands start past key n wanted ≡ true → (number ≡ n) × (later ≡ [])
-  -- "with none free, the answer is 0"
-  pub zero : number ≡ 0 → later ≡ []
-  -- a number that is new
-  pub new : ((n : ℕ) → stands start past key n wanted ≡ false) → number ≢ 0 → Connects start (e ∷ past) seat number later
 
 same-notices : (seat number i j n m : ℕ)
     → _≡_ {A = List Sent} (to seat (relay.connectNotice number) ∷ to i (relay.connectNotice n) ∷ []) (to seat (relay.connectNotice number) ∷ to j (relay.connectNotice m) ∷ []) → (i ≡ j) × (n ≡ m)

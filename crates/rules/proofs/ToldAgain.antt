@@ -13,20 +13,16 @@ use Rattle.key.proofs.Same.{same-refl}
 use Rattle.packet.specs.Read as read
 use Rattle.packet.specs.FromClient as client
 use Rattle.packet.specs.FromRelay as relay
-use Rattle.rules.specs.Room.{Sizes, Key, Route, free, wants, Seat, vacant, holds, Room, Found, none, at, orLater, find, seatOf, isVacant, routeTo, isFree, seatAt, routeAt, firstNumber, numberOfPlace, alone}
+use Rattle.rules.specs.Room.{Sizes, Key, Route, free, wants, Seat, vacant, holds, Room, Found, none, at, orLater, find, seatOf, isVacant, routeTo, isFree, seatAt, routeAt, firstNumber, numberOfPlace}
 use Rattle.rules.specs.Whole.{Whole}
 use Rattle.rules.specs.Call.{arrive, leave, packetCall, accepted}
-use Rattle.rules.specs.Outcome.{withRoute, apply, applyAll, Outcome, refuse, accept, to, roomAfter, arriveAt, leaveFrom, tellBoth, requestAt, dropAt, act, actOn, packetFrom, outcome}
+use Rattle.rules.specs.Outcome.{withRoute, apply, applyAll, refuse, accept, to, roomAfter, arriveAt, leaveFrom, tellBoth, requestAt, dropAt, act, actOn, packetFrom, outcome}
 use Rattle.rules.specs.Transcript.{isAccepted}
+use Rattle.rules.specs.Told.{BothTold}
 use Rattle.rules.proofs.FindLaws.{clash, Once, find-hit, find-miss, find-within, find-once, find-clear, find-replicate, seat-set, held-within, wanted-high, wanted-place}
 use Rattle.rules.proofs.Whole.{key-once, wanted-once, whole-after}
 use Rattle.rules.proofs.PeerLaws.{has-peer}
 use Rattle.rules.proofs.OtherSeats.{packet-keeps-others, leave-keeps-others, arrive-keeps-others}
-
--- the asker, in `seat`, is answered with a number, and it and then the one in `other` are told connected, each with its own number
-pub record BothTold (o : Outcome) (seat other number : ℕ) (wanted : Key) : Type 0 where
-  pub own : ℕ
-  pub sent : o .sent ≡ to seat (relay.routingResponse own wanted) ∷ to seat (relay.connectNotice own) ∷ to other (relay.connectNotice number) ∷ []
 
 -- it has no request for the other's key, which has one for its own under `number`, and a number is free
 module _ (sizes : Sizes) (room : Room) (whole : Whole sizes room) (seat other : ℕ) (ne : seat ≢ other) (key wanted : Key) (routes routes′ : List Route)

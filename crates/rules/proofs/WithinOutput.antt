@@ -13,10 +13,11 @@ use Rattle.wire.proofs.Numbers.{length-bytesOf}
 use Rattle.packet.specs.Read.{Read}
 use Rattle.packet.specs.Read as read
 use Rattle.packet.specs.FromClient as client
+use Rattle.packet.specs.FromClient.{Within}
 use Rattle.packet.specs.FromRelay as relay
-use Rattle.packet.proofs.ReadBounds.{Within, read-within}
+use Rattle.packet.proofs.ReadBounds.{read-within}
 use Rattle.rules.specs.Room.{Sizes, Key, Route, free, wants, Seat, vacant, holds, Room, Found, none, at, find, seatOf, routeTo, isFree, seatAt, routeAt, numberOfPlace, Peer, alone, joined}
-use Rattle.rules.specs.Whole.{Whole}
+use Rattle.rules.specs.Whole.{Whole, ShortKeys}
 use Rattle.rules.specs.Call.{Call, arrive, leave, packetCall, Answer, accepted, refused, Sent}
 use Rattle.rules.specs.Outcome.{refuse, accept, sentBytes, roomAfter, peer, toPeer, to, tellPeer, tellPeers, leaveFrom, tellBoth, requestAt, dropAt, oobTo, carryTo, dataAt, act, actOn, packetFrom, outcome}
 use Rattle.rules.specs.History.{event}
@@ -49,10 +50,6 @@ both-within seat number (joined other place) =
     omega (arith, count-more (to seat (relay.connectNotice number)) (theirs ∷ []), count-one theirs)
 
 -- ---- each call
-
--- each seated key has 32 bytes at most
-abbrev pub ShortKeys : Room → Type 0
-ShortKeys room = (seat : ℕ) (key : Key) (routes : List Route) → seatAt room seat ≡ holds key routes → length key ≤ 32
 
 module _ (room : Room) where
   -- for one number of a client that leaves

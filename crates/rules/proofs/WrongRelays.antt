@@ -5,7 +5,7 @@
 -- its events are those of the rules, for every history. Each wrong relay is any that has the fault named, and a history of one or two calls shows it.
 -- A relay that takes the steps isolates its clients (demand 3), and so does one that answers every call alike and never sends. Assumes nothing.
 use mathlib.Core.Path.{_≡_, refl, sym, ap, ap₂, _∙_}
-use mathlib.Core.Bool.{Bool, true, false, _&&_, not, true≢false}
+use mathlib.Core.Bool.{Bool, true, false, true≢false}
 use mathlib.Core.List.{List, [], _∷_, _++_, map}
 use Prim.Native.Nat.{ℕ}
 use native.Mathlib.Omega.{arith}
@@ -16,42 +16,18 @@ use Rattle.packet.specs.Read.{Read}
 use Rattle.packet.specs.Read as read
 use Rattle.packet.specs.FromClient as client
 use Rattle.rules.specs.Room.{Key, baseSizes, emptyRoom}
-use Rattle.rules.specs.Call.{Call, arrive, leave, packetCall, Answer, accepted, refused, Sent}
-use Rattle.rules.specs.History.{Event, event, transcript}
+use Rattle.rules.specs.Call.{Call, arrive, leave, packetCall, Answer, accepted, refused}
+use Rattle.rules.specs.History.{Event, transcript, happens}
 use Rattle.rules.specs.Transcript.{Past, Maker, nobody, clientOf, Start, fromEmpty, isAccepted, maker, stands}
-use Rattle.rules.specs.Record.{Entry, arrived, departed, own, toC, droppedC, dataForC, when, byKey, otherPacket, otherCall, ifAccepted, madeBy, entriesBy, entries, recordFor, isClient, handed, packetsFor, answerIf, answersFor, zeroForC}
-use Rattle.rules.proofs.Computed.{ka, kb, happens, opened}
-use Rattle.rules.proofs.Counts.{allCounted, history-counted}
+use Rattle.rules.specs.Record.{Entry, arrived, departed, own, toC, droppedC, dataForC, entryIf, byKey, otherPacket, otherCall, ifAccepted, madeBy, entriesBy, entries, recordFor, isClient, handed, packetsFor, answerIf, answersFor}
+use Rattle.rules.specs.Relays.{Relay, TakesSteps, Isolates, answersOf, sentOf, allRefused, firstOnly, silent}
+use Rattle.rules.specs.Accepted.{allCounted}
+use Rattle.rules.proofs.Computed.{ka, kb, opened}
+use Rattle.rules.proofs.Counts.{history-counted}
 use Rattle.rules.proofs.Isolation.{two-histories}
-
-abbrev pub Relay : Type 0
-Relay = List Call → List Event
-
--- demand 2, for any sequence of calls from the empty room: every answer, refusal and record is as the steps have it
-abbrev pub TakesSteps : Relay → Type 0
-TakesSteps relay = (calls : List Call) → relay calls ≡ happens baseSizes calls
-
--- demand 3, of any relay
-abbrev pub Isolates : Relay → Type 0
-Isolates relay = (c : Key) (h₁ h₂ : List Call) → zeroForC fromEmpty [] c (relay h₁) ≡ false → zeroForC fromEmpty [] c (relay h₂) ≡ false
-    → recordFor fromEmpty [] c (relay h₁) ≡ recordFor fromEmpty [] c (relay h₂)
-    → (packetsFor fromEmpty [] c (relay h₁) ≡ packetsFor fromEmpty [] c (relay h₂)) × (answersFor fromEmpty [] c (relay h₁) ≡ answersFor fromEmpty [] c (relay h₂))
 
 pub steps-isolate : (relay : Relay) → TakesSteps relay → Isolates relay
 steps-isolate relay steps c h₁ h₂ = rw (steps h₁, steps h₂) (two-histories baseSizes c h₁ h₂)
-
--- ---- of events
-
-unfoldable pub answersOf : List Event → List Answer
-answersOf events = map (λ (e : Event). e .answer) events
-
-unfoldable pub sentOf : List Event → List Sent
-sentOf [] = []
-sentOf (e ∷ events) = e .sent ++ sentOf events
-
-unfoldable pub allRefused : List Event → Bool
-allRefused [] = true
-allRefused (e ∷ events) = not (isAccepted (e .answer)) && allRefused events
 
 -- ---- histories that tell
 
@@ -118,11 +94,7 @@ module _ (relay : Relay) (steps : TakesSteps relay) where
   pub not-made-up-count : (calls : List Call) → allCounted (relay calls) ≡ false → ⊥
   not-made-up-count calls wrong = true≢false (sym (ap allCounted (steps calls) ∙ history-counted baseSizes (emptyRoom baseSizes) calls) ∙ wrong)
 
--- one call is not enough to tell: this relay is right on every first call, and idle on later ones
-pub firstOnly : Relay
-firstOnly [] = []
-firstOnly (call ∷ calls) = event (emptyRoom baseSizes) call ∷ map (λ (later : Call). record { call = later; answer = accepted 0 0; sent = [] }) calls
-
+-- one call is not enough to tell
 pub right-on-the-first : (call : Call) → firstOnly (call ∷ []) ≡ happens baseSizes (call ∷ [])
 unfolding transcript firstOnly
 right-on-the-first call = refl
@@ -140,11 +112,6 @@ not-on-later steps = not-idle-later firstOnly steps idle
     idle (call ∷ calls) = nothing calls
 
 -- ---- demand 3 alone would suit a silent relay
-
--- a relay that answers every call alike and sends nothing
-pub silent : Answer → Relay
-silent a [] = []
-silent a (call ∷ calls) = record { call = call; answer = a; sent = [] } ∷ silent a calls
 
 nothing-handed : (a : Answer) (start : Start) (past : Past) (c : Key) (calls : List Call) → packetsFor start past c (silent a calls) ≡ []
 unfolding silent packetsFor handed
@@ -172,25 +139,25 @@ own-append a (droppedC key ∷ es) es′ = own-append a es es′
 own-append a (dataForC key bytes ∷ es) es′ = own-append a es es′
 
 module _ (a : Answer) where
-  when-none : (b : Bool) (e : Entry) → ownAnswers a (e ∷ []) ≡ [] → ownAnswers a (when b e) ≡ []
-  unfolding when ownAnswers
-  when-none true e h = h
-  when-none false e h = refl
+  entry-none : (b : Bool) (e : Entry) → ownAnswers a (e ∷ []) ≡ [] → ownAnswers a (entryIf b e) ≡ []
+  unfolding entryIf ownAnswers
+  entry-none true e h = h
+  entry-none false e h = refl
 
   by-key-none : (key : Key) (call : Call) (answer : Answer) → ownAnswers a (byKey key call answer) ≡ []
   unfolding byKey ownAnswers
-  by-key-none key (arrive k) answer = when-none (isAccepted answer) (arrived key) refl
-  by-key-none key (leave seat) answer = when-none (isAccepted answer) (departed key) refl
+  by-key-none key (arrive k) answer = entry-none (isAccepted answer) (arrived key) refl
+  by-key-none key (leave seat) answer = entry-none (isAccepted answer) (departed key) refl
   by-key-none key (packetCall seat bytes) answer = refl
 
   packet-none : (c key : Key) (call : Call) (names : ℕ → Bool) (r : Read client.FromClient) → ownAnswers a (otherPacket c key call names r) ≡ []
   unfolding otherPacket ownAnswers
-  packet-none c key call names (read.packet (client.routingRequest wanted)) = when-none (sameKey wanted c) (toC key call) refl
-  packet-none c key call names (read.packet (client.dropRoute number)) = when-none (names number) (droppedC key) refl
+  packet-none c key call names (read.packet (client.routingRequest wanted)) = entry-none (sameKey wanted c) (toC key call) refl
+  packet-none c key call names (read.packet (client.dropRoute number)) = entry-none (names number) (droppedC key) refl
   packet-none c key call names (read.packet (client.ping n)) = refl
   packet-none c key call names (read.packet (client.pong n)) = refl
-  packet-none c key call names (read.packet (client.oobSend wanted bytes)) = when-none (sameKey wanted c) (toC key call) refl
-  packet-none c key call names (read.packet (client.routedData number bytes)) = when-none (names number) (dataForC key bytes) refl
+  packet-none c key call names (read.packet (client.oobSend wanted bytes)) = entry-none (sameKey wanted c) (toC key call) refl
+  packet-none c key call names (read.packet (client.routedData number bytes)) = entry-none (names number) (dataForC key bytes) refl
   packet-none c key call names (read.refused why) = refl
 
   other-none : (c key : Key) (call : Call) (names : ℕ → Bool) → ownAnswers a (otherCall c key call names) ≡ []

@@ -1,6 +1,8 @@
 -- What is asked of the relay, and what it answers. Document 01, "The room".
 use mathlib.Core.List.{List}
+use mathlib.Core.Path.{_≡_}
 use Prim.Native.Nat.{ℕ}
+use lib.ListN.{length}
 use Rattle.refusal.specs.declared.Refusal.{Refusal}
 use Rattle.rules.specs.Room.{Key}
 
@@ -8,6 +10,12 @@ pub data Call : Type 0 where
   arrive : Key → Call
   leave : ℕ → Call
   packetCall : ℕ → List ℕ → Call
+
+-- "A key is 32 bytes.": so has one that arrives. (One that is asked for has, by the packet's length)
+abbrev pub KeyOf32 : Call → Type 0
+KeyOf32 (arrive key) = length key ≡ 32
+KeyOf32 (leave seat) = Unit {0}
+KeyOf32 (packetCall seat bytes) = Unit {0}
 
 -- an accepted call answers a seat and how many bytes it wrote. An Arrive's seat is the one it takes, and its count 0; document 01 has no seat in the answer
 -- of a Leave or a packet: there it is the call's own

@@ -8,7 +8,7 @@ use Prim.Native.Nat.{ℕ}
 use lib.ListN.{length}
 use Rattle.refusal.specs.declared.Refusal.the-variants.{NotSeated, NoSuchRoute, NotConnected}
 use Rattle.packet.specs.FromRelay as relay
-use Rattle.rules.specs.Room.{Key}
+use Rattle.rules.specs.Room.{Key, numberOfPlace, Peer, alone, joined}
 use Rattle.rules.specs.Call.{accepted, refused}
 use Rattle.rules.specs.Outcome.{sentBytes, to}
 use Rattle.rules.specs.History.{Event}
@@ -41,6 +41,13 @@ pub record Waits (start : Start) (past : Past) (seat number : ℕ) : Type 0 wher
   pub wanted : Key
   pub here : Names start past seat number key wanted
   pub alone : (other number′ : ℕ) → Connected start past seat number other number′ → ⊥
+
+-- what a search for the peer on `number` of the client in `seat` is to find: where nobody is connected nobody, else the one that is, and no other is
+unfoldable pub OnlyPeer : Start → Past → ℕ → ℕ → Peer → Type 0
+OnlyPeer start past seat number alone = (other number′ : ℕ) → Connected start past seat number other number′ → ⊥
+OnlyPeer start past seat number (joined other place) =
+    Connected start past seat number other (numberOfPlace place)
+    × ((other′ number′ : ℕ) → Connected start past seat number other′ number′ → (other ≡ other′) × (numberOfPlace place ≡ number′))
 
 -- one of these is so
 pub data OnNumber (start : Start) (past : Past) (seat number : ℕ) : Type 0 where

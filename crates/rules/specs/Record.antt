@@ -25,24 +25,25 @@ pub data Entry : Type 0 where
   droppedC : Key → Entry
   dataForC : Key → List ℕ → Entry
 
-unfoldable pub when : Bool → Entry → List Entry
-when true e = e ∷ []
-when false e = []
+-- one entry where a test holds, else none
+unfoldable pub entryIf : Bool → Entry → List Entry
+entryIf true e = e ∷ []
+entryIf false e = []
 
 -- an accepted arrival or a departure of the client `key`
 unfoldable pub byKey : Key → Call → Answer → List Entry
-byKey key (arrive k) answer = when (isAccepted answer) (arrived key)
-byKey key (leave seat) answer = when (isAccepted answer) (departed key)
+byKey key (arrive k) answer = entryIf (isAccepted answer) (arrived key)
+byKey key (leave seat) answer = entryIf (isAccepted answer) (departed key)
 byKey key (packetCall seat bytes) answer = []
 
 -- an accepted packet of another client, `key`
 unfoldable pub otherPacket : Key → Key → Call → (ℕ → Bool) → Read client.FromClient → List Entry
-otherPacket c key call namesC (read.packet (client.routingRequest wanted)) = when (sameKey wanted c) (toC key call)
-otherPacket c key call namesC (read.packet (client.dropRoute number)) = when (namesC number) (droppedC key)
+otherPacket c key call namesC (read.packet (client.routingRequest wanted)) = entryIf (sameKey wanted c) (toC key call)
+otherPacket c key call namesC (read.packet (client.dropRoute number)) = entryIf (namesC number) (droppedC key)
 otherPacket c key call namesC (read.packet (client.ping n)) = []
 otherPacket c key call namesC (read.packet (client.pong n)) = []
-otherPacket c key call namesC (read.packet (client.oobSend wanted bytes)) = when (sameKey wanted c) (toC key call)
-otherPacket c key call namesC (read.packet (client.routedData number bytes)) = when (namesC number) (dataForC key bytes)
+otherPacket c key call namesC (read.packet (client.oobSend wanted bytes)) = entryIf (sameKey wanted c) (toC key call)
+otherPacket c key call namesC (read.packet (client.routedData number bytes)) = entryIf (namesC number) (dataForC key bytes)
 otherPacket c key call namesC (read.refused why) = []
 
 unfoldable pub otherCall : Key → Key → Call → (ℕ → Bool) → List Entry
@@ -100,8 +101,8 @@ unfoldable pub answersFor : Start → Past → Key → List Event → List Answe
 answersFor start past c [] = []
 answersFor start past c (e ∷ events) = answerIf (isClient c (maker start past (e .call))) (e .answer) ++ answersFor start (e ∷ past) c events
 
--- ---- the condition on 0, which is demand 3's and not document 01's. Demand 3: "If their records for C are equal and neither answers another client's request
--- for C with 0"
+-- ---- the condition on 0, which is demand 3's and not document 01's. Demand 3: "Suppose their records for C, listed in document 01, are equal, and neither
+-- history answers another client's request for C with 0."
 
 unfoldable pub asksFor : Key → Read client.FromClient → Bool
 asksFor c (read.packet (client.routingRequest wanted)) = sameKey wanted c

@@ -16,6 +16,10 @@ pub record Sizes : Type 0 where
 abbrev pub baseSizes : Sizes
 baseSizes = record { seats = 40; numbers = 32 }
 
+-- the sizes of a room of s seats with n numbers each
+abbrev pub sizesOf : ℕ → ℕ → Sizes
+sizesOf s n = record { seats = s; numbers = n }
+
 -- a key is its bytes: any list here, so what holds of all lists holds of document 01's 32 bytes
 abbrev pub Key : Type 0
 Key = List ℕ

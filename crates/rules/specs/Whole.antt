@@ -2,7 +2,7 @@
 -- seat is `vacant`, which has no place for a route.
 use mathlib.Core.List.{List}
 use mathlib.Core.Path.{_≡_}
-use Prim.Native.Nat.{ℕ}
+use Prim.Native.Nat.{ℕ, _≤_}
 use lib.ListN.{length}
 use Rattle.rules.specs.Room.{Sizes, Key, Route, wants, holds, Room, seatAt, routeAt}
 
@@ -15,3 +15,7 @@ pub record Whole (sizes : Sizes) (room : Room) : Type 0 where
   -- "the wanted keys of one seat differ": a key is wanted under one number
   pub wanted : (seat : ℕ) (key : Key) (routes : List Route) → seatAt room seat ≡ holds key routes
       → (other : Key) (i j : ℕ) → routeAt routes i ≡ wants other → routeAt routes j ≡ wants other → i ≡ j
+
+-- "A key is 32 bytes.": each seated key has 32 at most, which is all that the bound on a call's output asks
+abbrev pub ShortKeys : Room → Type 0
+ShortKeys room = (seat : ℕ) (key : Key) (routes : List Route) → seatAt room seat ≡ holds key routes → length key ≤ 32

@@ -8,7 +8,7 @@ use Prim.Native.Nat.{ℕ}
 use lib.Dec.{eqb}
 use lib.ListN.{length}
 use borrow.Author.Tests.{eqb-true}
-use Rattle.wire.specs.Numbers.{numberOf}
+use Rattle.wire.specs.Numbers.{numberOf, bytesOf}
 use Rattle.key.specs.Keys.{sameKey, xorBytes, distance, nearer}
 use Rattle.key.proofs.Same.{same-sound}
 use Rattle.node.specs.declared.Node.{Node}
@@ -135,7 +135,8 @@ row-holds (roomRow before call answer bytes) h = ends-sound (rowEvents before ca
 row-holds (nodeRow bytes size n) h =
     record {
       long = eqb-true (length bytes) size (first (eqb (length bytes) size) _ h);
-      reads = read-sound (nodes.readNode bytes) n (second (eqb (length bytes) size) _ h);
+      reads = read-sound (nodes.readNode bytes) n (first (testRead (nodes.readNode bytes) n) _ (second (eqb (length bytes) size) _ h));
+      packs = same-sound (nodes.packedNode n) bytes (second (testRead (nodes.readNode bytes) n) _ (second (eqb (length bytes) size) _ h));
     }
 row-holds (listRow target size news holding answers) h =
     let now = held (offers (begun target size .list) news) in
@@ -153,7 +154,7 @@ all-hold (other ∷ rows) h r (later i) = all-hold rows (second (testRow other) 
 
 -- the fact: every row of the table passes, computed
 pub examples-pass : testAll examples ≡ true
-unfolding opened given ka kb kc afterP2 afterP4 afterP5 keyEnding nodeEnding examples offerAnswers rowEvents sameGiven testEvents sameInfo testRead sameNode sameNodes sameAnswer sameAnswers testRow testAll nodes.readNode nodes.check nodes.nodeOf knownFamily packedLength addressLength offers begun checked offerAnswer taken offeredAfter offered blankNode holding emptyOf sizeRight allKnown risingAfter rising keepsRules holds replace insert without lastKey furthest effect afterEffect kept sameKey xorBytes distance nearer numberOf
+unfolding opened given ka kb kc afterP2 afterP4 afterP5 keyEnding nodeEnding examples offerAnswers rowEvents sameGiven testEvents sameInfo testRead sameNode sameNodes sameAnswer sameAnswers testRow testAll nodes.readNode nodes.check nodes.nodeOf nodes.packedNode bytesOf knownFamily packedLength addressLength offers begun checked offerAnswer taken offeredAfter offered blankNode holding emptyOf sizeRight allKnown risingAfter rising keepsRules holds replace insert without lastKey furthest effect afterEffect kept sameKey xorBytes distance nearer numberOf
 examples-pass = refl
 
 -- THE JOINT STATEMENT: each row of the table says what is so

@@ -123,10 +123,11 @@ offerAnswers l (n ∷ ns) = offered l n .answer ∷ offerAnswers (offered l n .l
 unfoldable pub rowEvents : List Call → Call → List Event
 rowEvents before call = transcript baseSizes (emptyRoom baseSizes) (before ++ (call ∷ []))
 
--- a node row: so many bytes, which read as that node
+-- a node row: so many bytes, which read as that node and are what it is packed into
 pub record ReadsAs (bytes : List ℕ) (size : ℕ) (n : nodes.NodeInfo) : Type 0 where
   pub long : length bytes ≡ size
   pub reads : nodes.readNode bytes ≡ nodes.node n
+  pub packs : nodes.packedNode n ≡ bytes
 
 -- a list row: what the list holds after the offers, and their answers
 pub record Keeps (target : code.Key) (size : ℕ) (news holding : List Node) (answers : List OfferAnswer) : Type 0 where
@@ -192,7 +193,7 @@ sameAnswers (a ∷ rest) (b ∷ bs) = sameAnswer a b && sameAnswers rest bs
 
 unfoldable pub testRow : Row → Bool
 testRow (roomRow before call answer bytes) = testEvents (rowEvents before call) answer bytes
-testRow (nodeRow bytes size n) = eqb (length bytes) size && testRead (nodes.readNode bytes) n
+testRow (nodeRow bytes size n) = eqb (length bytes) size && (testRead (nodes.readNode bytes) n && sameKey (nodes.packedNode n) bytes)
 testRow (listRow target size news holding answers) =
     sameNodes (held (offers (begun target size .list) news)) holding && sameAnswers (offerAnswers (begun target size .list) news) answers
 

@@ -74,12 +74,16 @@ fn node_in(slot: &[u8]) -> Node {
     }
 }
 
-/// The list that stands in memory, if the memory is long enough for one. A
-/// count may tell of more nodes than there are slots; those behind the slots
-/// are made up, since such a list is longer than any size.
-pub fn list_in(memory: &[u8]) -> Option<List> {
+/// The list that stands in memory. Memory too short for one is 14, or 12 where
+/// its first byte is there and is no size: 12 is judged first. A count may tell
+/// of more nodes than there are slots; those behind the slots are made up,
+/// since such a list is longer than any size.
+pub fn list_in(memory: &[u8]) -> Result<List, u8> {
     if memory.len() < LIST_BYTES {
-        return None;
+        return match memory.get(SIZE_PLACE) {
+            None | Some(1..=16) => Err(14),
+            Some(_) => Err(12),
+        };
     }
     let made_up = Node {
         family: 2,
@@ -92,7 +96,7 @@ pub fn list_in(memory: &[u8]) -> Option<List> {
         0..SLOTS => node_in(&memory[slot(index)]),
         _ => made_up.clone(),
     });
-    Some(List {
+    Ok(List {
         target: memory[TARGET_PLACE..SLOTS_PLACE]
             .try_into()
             .expect("32 key bytes"),
@@ -163,8 +167,8 @@ impl Tallies {
     fn offer(&mut self, memory: &mut Output, node: &Node) {
         let mut expected = memory.clone();
         let outcome = match list_in(expected.lent()) {
-            None => Err(14),
-            Some(list) => {
+            Err(number) => Err(number),
+            Ok(list) => {
                 let (after, outcome) = nearest::offer(&list, node);
                 if outcome.is_ok() {
                     put_list(expected.lent(), &after, list.nodes.len());
@@ -188,8 +192,8 @@ impl Tallies {
     fn remove(&mut self, memory: &mut Output, key: &Key) {
         let mut expected = memory.clone();
         let outcome = match list_in(expected.lent()) {
-            None => Err(14),
-            Some(list) => {
+            Err(number) => Err(number),
+            Ok(list) => {
                 let (after, outcome) = nearest::remove(&list, key);
                 if outcome.is_ok() {
                     put_list(expected.lent(), &after, list.nodes.len());
@@ -212,8 +216,8 @@ impl Tallies {
         let far = FAR_INDEXES[(self.read.total() % 5) as usize];
         for index in (0..=count + 1).chain([far]) {
             let expected = match &list {
-                None => Err(14),
-                Some(list) => nearest::check(list).map(|()| list.nodes.get(index)),
+                Err(number) => Err(*number),
+                Ok(list) => nearest::check(list).map(|()| list.nodes.get(index)),
             };
             let mut shown = NODE_BEFORE;
             let answer = raw::nearest::node(memory.lent(), index, &mut shown);
@@ -347,13 +351,17 @@ pub fn damaged(generator: &mut Generator, memory: &Output) -> Output {
     memory
 }
 
-/// The front of the memory, too short for a list.
+/// The front of the memory, too short for a list; now and then with a first
+/// byte that is no size.
 pub fn too_short(generator: &mut Generator, memory: &Output) -> Output {
     let any_length = generator.below(LIST_BYTES);
     let length = generator.pick(&[0, 1, 2, 34, LIST_BYTES - 1, LIST_BYTES - 51, any_length]);
     let mut short = Output::new(length, generator.byte());
     let mut whole = memory.clone();
     short.lent().copy_from_slice(&whole.lent()[..length]);
+    if let (Some(size), 0) = (short.lent().first_mut(), generator.below(3)) {
+        *size = generator.pick(&[0, 17, 18, 128, 255]);
+    }
     short
 }
 

@@ -38,10 +38,7 @@ fn known_node(generator: &mut Generator, keys: &[[u8; 32]]) -> Node {
 /// What is made from bytes is the list that stands there, where the second
 /// program finds nothing wrong with it.
 fn compare_from_bytes(bytes: &[u8], made: &mut Tally) {
-    let outcome = match list_in(bytes) {
-        None => Err(14),
-        Some(list) => nearest::check(&list).map(|()| list),
-    };
+    let outcome = list_in(bytes).and_then(|list| nearest::check(&list).map(|()| list));
     made.add(&outcome);
     match (NearestList::from_bytes(bytes), outcome) {
         (Ok(list), Ok(expected)) => {
@@ -124,5 +121,5 @@ fn sizes_of_lists_that_own_their_memory() {
     }
     let given = nearest::begin(&target, 0).0;
     let list = NearestList::empty(&Key(target));
-    assert_eq!(list_in(list.as_bytes()), Some(given));
+    assert_eq!(list_in(list.as_bytes()), Ok(given));
 }

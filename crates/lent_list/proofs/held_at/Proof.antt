@@ -7,11 +7,16 @@ use Rattle.lent_list.proofs.CallLaws.{held-short, held-refused, held-no
 use Rattle.lent_list.proofs.held_at.Statement.{statement}
 use Rattle.lent_list.proofs.held_at.Tie as tie
 
+too-short-requires : tie.Need-too-short-requires
+too-short-requires c κs = search needs
+
 none-requires : tie.Need-none-requires
 none-requires c κs = search needs
 
 returns : tie.Need-returns
-returns c = let a = c .before .before .before .args in c .none .ensures ∙ held-short (a .memory .now) (a .index) (omega (arith, c .before .if1 .taken))
+returns c =
+    let a = c .before .before .before .before .args in
+    c .none .ensures ∙ held-short (a .memory .now) (a .index) _ (c .before .too-short .ensures) (omega (arith, c .before .before .if1 .taken))
 
 load-requires : tie.Need-load-requires
 load-requires c κs = search needs
@@ -72,6 +77,7 @@ pub held-at-spec : {M : Type 1} → statement M
 held-at-spec =
     tie.close
     (tie.spec
+    too-short-requires
     none-requires
     returns
     load-requires

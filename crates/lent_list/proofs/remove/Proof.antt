@@ -10,8 +10,17 @@ use Rattle.lent_list.proofs.CallLaws.{removes-short, removes-refused, r
 use Rattle.lent_list.proofs.remove.Statement.{statement}
 use Rattle.lent_list.proofs.remove.Tie as tie
 
+too-short-requires : tie.Need-too-short-requires
+too-short-requires c κs = search needs
+
+same-length : tie.Need-same-length
+same-length c = search needs
+
 returns : tie.Need-returns
-returns c = let a = c .before .before .args in let h = c .if1 .taken in removes-short (a .key) (a .memory .now) (omega arith)
+returns c =
+    let a = c .before .before .before .before .args in
+    let h = c .before .before .if1 .taken in
+    removes-short (a .key) (a .memory .now) (bytes-each (a .memory .now) (λ i. c .before .before .before .slice-known .given i .fits)) _ (c .too-short .ensures) (omega arith)
 
 load-requires : tie.Need-load-requires
 load-requires c κs = search needs
@@ -22,16 +31,17 @@ remove-requires c κs = search needs
 enum-known-answer : tie.Need-enum-known-answer
 enum-known-answer c = search needs
 
-same-length : tie.Need-same-length
-same-length c = search needs
+same-length-2 : tie.Need-same-length-2
+same-length-2 c = search needs
 
 returns-2 : tie.Need-returns-2
 returns-2 c =
     let a = c .before .before .before .before .before .before .before .before .before .args in
     let h = c .before .before .before .before .before .before .before .if1 .left in
-    removes-refused (a .key) (a .memory .now) (omega arith) (c .before .before .before .before .remove .result)
+    removes-refused (a .key) (a .memory .now)
+    (bytes-each (a .memory .now) (λ i. c .before .before .before .before .before .before .before .before .slice-known .given i .fits)) (omega arith) (c .before .before .before .before .remove .result)
     (c .before .before .before .before .remove .ensures ∙ ap (λ (n : NearestList). removed n (a .key)) (c .before .before .before .before .before .load .ensures ∙ loaded-whole (a .memory .now) (omega arith)))
-    (bytes-each (a .memory .now) (λ i. c .before .before .before .before .before .before .before .before .slice-known .given i .fits)) _ (c .before .answer .given .1)
+    _ (c .before .answer .given .1)
 
 enum-told : tie.Need-enum-told
 enum-told c = search needs
@@ -39,14 +49,15 @@ enum-told c = search needs
 store-requires : tie.Need-store-requires
 store-requires c κs = search needs
 
-same-length-2 : tie.Need-same-length-2
-same-length-2 c = search needs
+same-length-3 : tie.Need-same-length-3
+same-length-3 c = search needs
 
 returns-3 : tie.Need-returns-3
 returns-3 c =
     let a = c .before .before .before .before .before .before .before .before .before .before .before .before .args in
     let h = c .before .before .before .before .before .before .before .before .before .before .if1 .left in
-    removes-done (a .key) (a .memory .now) (omega arith) (c .before .before .before .before .before .before .before .remove .result)
+    removes-done (a .key) (a .memory .now)
+    (bytes-each (a .memory .now) (λ i. c .before .before .before .before .before .before .before .before .before .before .before .slice-known .given i .fits)) (omega arith) (c .before .before .before .before .before .before .before .remove .result)
     (c .before .before .before .before .before .before .before .remove .ensures ∙ ap (λ (n : NearestList). removed n (a .key)) (c .before .before .before .before .before .before .before .before .load .ensures ∙ loaded-whole (a .memory .now) (omega arith)))
     _ (c .before .before .store .ensures)
 
@@ -54,13 +65,15 @@ pub remove-spec : {M : Type 1} → statement M
 remove-spec =
     tie.close
     (tie.spec
+    too-short-requires
+    same-length
     returns
     load-requires
     remove-requires
     enum-known-answer
-    same-length
+    same-length-2
     returns-2
     enum-told
     store-requires
-    same-length-2
+    same-length-3
     returns-3)

@@ -1,9 +1,8 @@
 -- `banavoge_nearest_offer` meets its contract: that of `lent_list`, with its answer as one number. Assumes nothing.
 use borrow.Author.Needs.{needs}
-use mathlib.Core.Path.{_∙_, ap}
+use mathlib.Core.Path.{_∙_}
 use mir.Syntax.{w32}
 use mir.ValLaws.{toZ-ofZ}
-use Rattle.banavoge.specs.Nearest.{keptCode}
 use Rattle.banavoge.proofs.nearest_lists.banavoge_nearest_offer.Statement.{statement}
 use Rattle.banavoge.proofs.nearest_lists.banavoge_nearest_offer.Tie as tie
 
@@ -18,8 +17,11 @@ same-length c = search needs
 
 returns : tie.Need-returns
 returns c =
-    let r = c .before .before .before .offer .ensures in
-    record { answers = toZ-ofZ w32 (c .kept .result) (record { sfits = c .kept .ok }) ∙ c .kept .ensures ∙ ap keptCode (r .answers); leaves = r .leaves }
+    record {
+      given = c .before .before .before .offer .result;
+      relates = c .before .before .before .offer .ensures;
+      codes = toZ-ofZ w32 (c .kept .result) (record { sfits = c .kept .ok }) ∙ c .kept .ensures;
+    }
 
 pub banavoge-nearest-offer-spec : {M : Type 1} → statement M
 banavoge-nearest-offer-spec = tie.close (tie.spec offer-requires kept-requires same-length returns)

@@ -1,9 +1,8 @@
 -- `banavoge_nearest_remove` meets its contract: that of `lent_list`, with its answer as one number. Assumes nothing.
 use borrow.Author.Needs.{needs}
-use mathlib.Core.Path.{_∙_, ap}
+use mathlib.Core.Path.{_∙_}
 use mir.Syntax.{w32}
 use mir.ValLaws.{toZ-ofZ}
-use Rattle.banavoge.specs.Nearest.{doneCode}
 use Rattle.banavoge.proofs.nearest_lists.banavoge_nearest_remove.Statement.{statement}
 use Rattle.banavoge.proofs.nearest_lists.banavoge_nearest_remove.Tie as tie
 
@@ -18,8 +17,11 @@ same-length c = search needs
 
 returns : tie.Need-returns
 returns c =
-    let r = c .before .before .before .remove .ensures in
-    record { answers = toZ-ofZ w32 (c .done .result) (record { sfits = c .done .ok }) ∙ c .done .ensures ∙ ap doneCode (r .answers); leaves = r .leaves }
+    record {
+      given = c .before .before .before .remove .result;
+      relates = c .before .before .before .remove .ensures;
+      codes = toZ-ofZ w32 (c .done .result) (record { sfits = c .done .ok }) ∙ c .done .ensures;
+    }
 
 pub banavoge-nearest-remove-spec : {M : Type 1} → statement M
 banavoge-nearest-remove-spec =

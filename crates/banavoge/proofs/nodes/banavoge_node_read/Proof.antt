@@ -4,6 +4,7 @@ use mathlib.Core.Path.{_∙_}
 use mir.Syntax.{w32}
 use mir.ValLaws.{toZ-ofZ}
 use lib.ListN.{drop}
+use Rattle.wire.proofs.Numbers.{bytes-each}
 use Rattle.node.specs.Nodes.{readNode}
 use Rattle.banavoge.proofs.NodeTelling.{node-told, node-turned}
 use Rattle.banavoge.proofs.nodes.banavoge_node_read.Statement.{statement}
@@ -26,11 +27,19 @@ refused-requires c κs = search needs
 
 returns : tie.Need-returns
 returns c =
-    node-told (c .before .before .before .before .before .before .before .before .before .before .before .before .args .at) (c .before .before .before .before .before .before .before .before .before .before .read .result) (readNode (drop (c .before .before .before .before .before .before .before .before .before .before .before .before .args .at) (c .before .before .before .before .before .before .before .before .before .before .before .before .args .bytes .now))) (c .before .before .before .before .before .before .before .found .given .0 .0) _ _ (c .before .before .before .before .before .before .before .before .before .before .read .ensures .exact) (c .before .before .before .before .before .before .before .found .given .1) (c .tell-node .ensures)
+    record {
+      bytes = bytes-each (c .before .before .before .before .before .before .before .before .before .before .before .before .args .bytes .now) (λ i. c .before .before .before .before .before .before .before .before .before .before .before .shared-slice-known .given i .fits);
+      does =
+          node-told (c .before .before .before .before .before .before .before .before .before .before .before .before .args .at) (c .before .before .before .before .before .before .before .before .before .before .read .result) (readNode (drop (c .before .before .before .before .before .before .before .before .before .before .before .before .args .at) (c .before .before .before .before .before .before .before .before .before .before .before .before .args .bytes .now))) (c .before .before .before .before .before .before .before .found .given .0 .0) _ _ (c .before .before .before .before .before .before .before .before .before .before .read .ensures .exact) (c .before .before .before .before .before .before .before .found .given .1) (c .tell-node .ensures);
+    }
 
 returns-2 : tie.Need-returns-2
 returns-2 c =
-    node-turned (c .before .before .before .before .before .before .before .args .at) (c .before .before .before .before .before .read .result) (readNode (drop (c .before .before .before .before .before .before .before .args .at) (c .before .before .before .before .before .before .before .args .bytes .now))) (c .before .before .found2 .given .0 .0) _ _ (c .before .before .before .before .before .read .ensures .exact) (c .before .before .found2 .given .1) (toZ-ofZ w32 (c .refused .result) (record { sfits = c .refused .ok }) ∙ c .refused .ensures)
+    record {
+      bytes = bytes-each (c .before .before .before .before .before .before .before .args .bytes .now) (λ i. c .before .before .before .before .before .before .shared-slice-known .given i .fits);
+      does =
+          node-turned (c .before .before .before .before .before .before .before .args .at) (c .before .before .before .before .before .read .result) (readNode (drop (c .before .before .before .before .before .before .before .args .at) (c .before .before .before .before .before .before .before .args .bytes .now))) (c .before .before .found2 .given .0 .0) _ _ (c .before .before .before .before .before .read .ensures .exact) (c .before .before .found2 .given .1) (toZ-ofZ w32 (c .refused .result) (record { sfits = c .refused .ok }) ∙ c .refused .ensures);
+    }
 
 pub banavoge-node-read-spec : {M : Type 1} → statement M
 banavoge-node-read-spec =

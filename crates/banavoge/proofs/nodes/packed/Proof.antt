@@ -1,21 +1,12 @@
 -- `banavoge::nodes::packed` meets its contract: the writer's promise, with its answer as one number. Assumes nothing.
 use borrow.Author.Needs.{needs}
-use mathlib.Core.Path.{_≡_, _∙_, sym, ap}
+use mathlib.Core.Path.{_∙_, sym, ap}
 use mir.Syntax.{w32}
 use mir.ValLaws.{toZ-ofZ}
-use lib.ListN.{length, length-map}
-use Rattle.node.specs.Values.{infoOf}
 use Rattle.banavoge.specs.Nodes.{nodeWrittenCode}
-use Rattle.banavoge.proofs.NodeTelling.{node-exported, node-counted}
+use Rattle.banavoge.proofs.NodeTelling.{node-counted}
 use Rattle.banavoge.proofs.nodes.packed.Statement.{statement}
 use Rattle.banavoge.proofs.nodes.packed.Tie as tie
-
--- a node by value has 16 address bytes and a key of 32
-address-long : (s : tie.Start) → length (s .args .node .address) ≡ 16
-address-long s = sym (length-map (s .args .node .address) _) ∙ s .good .0 .1 .1 .1 .0 .1 .0 .1
-
-key-long : (s : tie.Start) → length (s .args .node .key .0) ≡ 32
-key-long s = sym (length-map (s .args .node .key .0) _) ∙ s .good .0 .1 .1 .1 .1 .1 .0 .1 .1 .0 .1 .0 .1
 
 write-requires : tie.Need-write-requires
 write-requires c κs = search needs
@@ -24,7 +15,7 @@ enum-known-bytes : tie.Need-enum-known-bytes
 enum-known-bytes c = search needs
 
 count-requires : tie.Need-count-requires
-count-requires c κs = node-counted (c .before .before .before .before .before .before .before .before .args .node) (c .before .before .before .before .before .before .before .before .args .out .now) _ _ _ (address-long (c .before .before .before .before .before .before .before .before)) (key-long (c .before .before .before .before .before .before .before .before)) (c .before .before .before .before .before .write .ensures) (c .before .bytes .given .1)
+count-requires c κs = node-counted (c .before .before .before .before .before .before .before .before .args .node) (c .before .before .before .before .before .before .before .before .args .out .now) _ _ _ (c .before .before .before .before .before .write .ensures) (c .before .bytes .given .1)
 
 enum-known-why : tie.Need-enum-known-why
 enum-known-why c = search needs
@@ -38,8 +29,11 @@ same-length c = search needs
 returns : tie.Need-returns
 unfolding nodeWrittenCode
 returns c =
-    node-exported (infoOf (c .before .before .before .before .before .before .before .before .before .args .node)) (c .before .before .before .before .before .before .before .before .before .args .out .now) (c .before .before .before .before .before .before .write .result) _ _ (c .before .before .before .before .before .before .write .ensures)
-    (toZ-ofZ w32 (c .count .result) (record { sfits = c .count .ok }) ∙ c .count .ensures ∙ sym (ap nodeWrittenCode (c .before .before .bytes .given .1)))
+    record {
+      given = c .before .before .before .before .before .before .write .result;
+      relates = c .before .before .before .before .before .before .write .ensures;
+      codes = toZ-ofZ w32 (c .count .result) (record { sfits = c .count .ok }) ∙ c .count .ensures ∙ sym (ap nodeWrittenCode (c .before .before .bytes .given .1));
+    }
 
 same-length-2 : tie.Need-same-length-2
 same-length-2 c = search needs
@@ -47,8 +41,11 @@ same-length-2 c = search needs
 returns-2 : tie.Need-returns-2
 unfolding nodeWrittenCode
 returns-2 c =
-    node-exported (infoOf (c .before .before .before .before .before .before .before .before .before .args .node)) (c .before .before .before .before .before .before .before .before .before .args .out .now) (c .before .before .before .before .before .before .write .result) _ _ (c .before .before .before .before .before .before .write .ensures)
-    (toZ-ofZ w32 (c .refused .result) (record { sfits = c .refused .ok }) ∙ c .refused .ensures ∙ sym (ap nodeWrittenCode (c .before .before .why .given .1)))
+    record {
+      given = c .before .before .before .before .before .before .write .result;
+      relates = c .before .before .before .before .before .before .write .ensures;
+      codes = toZ-ofZ w32 (c .refused .result) (record { sfits = c .refused .ok }) ∙ c .refused .ensures ∙ sym (ap nodeWrittenCode (c .before .before .why .given .1));
+    }
 
 pub packed-spec : {M : Type 1} → statement M
 packed-spec =

@@ -3,6 +3,7 @@ use borrow.Author.Needs.{needs}
 use mathlib.Core.Path.{_∙_}
 use mir.Syntax.{w32}
 use mir.ValLaws.{toZ-ofZ}
+use Rattle.wire.proofs.Numbers.{bytes-each}
 use Rattle.packet.specs.FromRelay.{clientRead}
 use Rattle.banavoge.specs.Fields.{relayFields}
 use Rattle.banavoge.proofs.Reading.{client-found, client-turned, tells, refuses}
@@ -29,14 +30,22 @@ refused-requires c κs = search needs
 
 returns : tie.Need-returns
 returns c =
-    tells relayFields (clientRead (c .before .before .before .before .before .before .before .before .before .before .before .args .packet .now)) _ (c .before .before .before .before .before .of-relay .result) _ _
-    (client-found (clientRead (c .before .before .before .before .before .before .before .before .before .before .before .args .packet .now)) (c .before .before .before .before .before .before .before .before .before .read .result) (c .before .before .before .before .before .before .before .shown .given .0 .0) (c .before .before .before .before .before .of-relay .result) (c .before .before .before .before .before .before .before .before .before .read .ensures .exact) (c .before .before .before .before .before .before .before .shown .given .1) (c .before .before .before .before .before .of-relay .ensures))
-    (toZ-ofZ w32 (c .tell .result) (record { sfits = c .tell .ok }) ∙ c .tell .ensures .0) (c .tell .ensures .1)
+    record {
+      bytes = bytes-each (c .before .before .before .before .before .before .before .before .before .before .before .args .packet .now) (λ i. c .before .before .before .before .before .before .before .before .before .before .shared-slice-known .given i .fits);
+      does =
+          tells relayFields (clientRead (c .before .before .before .before .before .before .before .before .before .before .before .args .packet .now)) _ (c .before .before .before .before .before .of-relay .result) _ _
+          (client-found (clientRead (c .before .before .before .before .before .before .before .before .before .before .before .args .packet .now)) (c .before .before .before .before .before .before .before .before .before .read .result) (c .before .before .before .before .before .before .before .shown .given .0 .0) (c .before .before .before .before .before .of-relay .result) (c .before .before .before .before .before .before .before .before .before .read .ensures .exact) (c .before .before .before .before .before .before .before .shown .given .1) (c .before .before .before .before .before .of-relay .ensures))
+          (toZ-ofZ w32 (c .tell .result) (record { sfits = c .tell .ok }) ∙ c .tell .ensures .0) (c .tell .ensures .1);
+    }
 
 returns-2 : tie.Need-returns-2
 returns-2 c =
-    refuses relayFields (clientRead (c .before .before .before .before .before .before .args .packet .now)) _ (c .before .before .why .given .0 .0) _ (client-turned (clientRead (c .before .before .before .before .before .before .args .packet .now)) (c .before .before .before .before .read .result) (c .before .before .why .given .0 .0) (c .before .before .before .before .read .ensures .exact) (c .before .before .why .given .1))
-    (toZ-ofZ w32 (c .refused .result) (record { sfits = c .refused .ok }) ∙ c .refused .ensures)
+    record {
+      bytes = bytes-each (c .before .before .before .before .before .before .args .packet .now) (λ i. c .before .before .before .before .before .shared-slice-known .given i .fits);
+      does =
+          refuses relayFields (clientRead (c .before .before .before .before .before .before .args .packet .now)) _ (c .before .before .why .given .0 .0) _ (client-turned (clientRead (c .before .before .before .before .before .before .args .packet .now)) (c .before .before .before .before .read .result) (c .before .before .why .given .0 .0) (c .before .before .before .before .read .ensures .exact) (c .before .before .why .given .1))
+          (toZ-ofZ w32 (c .refused .result) (record { sfits = c .refused .ok }) ∙ c .refused .ensures);
+    }
 
 pub banavoge-client-read-spec : {M : Type 1} → statement M
 banavoge-client-read-spec =

@@ -6,8 +6,8 @@ use mir.ValLaws.{toZ-ofZ}
 use Rattle.banavoge.proofs.rooms.banavoge_room_empty.Statement.{statement}
 use Rattle.banavoge.proofs.rooms.banavoge_room_empty.Tie as tie
 
-make-empty-requires : tie.Need-make-empty-requires
-make-empty-requires c κs = search needs
+empty-requires : tie.Need-empty-requires
+empty-requires c κs = search needs
 
 done-or-requires : tie.Need-done-or-requires
 done-or-requires c κs = search needs
@@ -19,10 +19,10 @@ returns : tie.Need-returns
 returns c =
     record {
       given = _;
-      relates = c .before .before .before .make-empty .ensures;
+      relates = c .before .before .before .empty .ensures;
       codes = toZ-ofZ w32 (c .done-or .result) (record { sfits = c .done-or .ok }) ∙ c .done-or .ensures;
     }
 
 pub banavoge-room-empty-spec : {M : Type 1} → statement M
 banavoge-room-empty-spec =
-    tie.close (tie.spec make-empty-requires done-or-requires same-length returns)
+    tie.close (tie.spec empty-requires done-or-requires same-length returns)

@@ -3,9 +3,8 @@ use borrow.Author.Needs.{needs}
 use mathlib.Core.Path.{_∙_}
 use mir.Syntax.{w32}
 use mir.ValLaws.{toZ-ofZ}
-use Rattle.packet.specs.FromRelay.{relayBytes, connectNotice}
-use Rattle.packet.specs.Written.{relayJudged}
-use Rattle.banavoge.proofs.Writing.{exported, relay-counted}
+use Rattle.packet.specs.FromRelay.{connectNotice}
+use Rattle.banavoge.proofs.Writing.{relay-counted}
 use Rattle.banavoge.proofs.writers.banavoge_connect_notification.Statement.{statement}
 use Rattle.banavoge.proofs.writers.banavoge_connect_notification.Tie as tie
 
@@ -20,8 +19,11 @@ same-length c = search needs
 
 returns : tie.Need-returns
 returns c =
-    exported (relayJudged (connectNotice (c .before .before .before .before .before .before .args .number))) (relayBytes (connectNotice (c .before .before .before .before .before .before .args .number))) (c .before .before .before .before .before .before .args .out .now) (c .before .before .before .connect-notification .result) _ _ (c .before .before .before .connect-notification .ensures)
-    (toZ-ofZ w32 (c .written .result) (record { sfits = c .written .ok }) ∙ c .written .ensures)
+    record {
+      given = c .before .before .before .connect-notification .result;
+      relates = c .before .before .before .connect-notification .ensures;
+      codes = toZ-ofZ w32 (c .written .result) (record { sfits = c .written .ok }) ∙ c .written .ensures;
+    }
 
 pub banavoge-connect-notification-spec : {M : Type 1} → statement M
 banavoge-connect-notification-spec =

@@ -4,9 +4,7 @@ use mathlib.Core.Path.{_∙_}
 use mir.Syntax.{w32}
 use mir.ValLaws.{toZ-ofZ}
 use Rattle.packet.specs.FromClient as client
-use Rattle.packet.specs.FromRelay as relay
-use Rattle.packet.specs.Written.{clientJudged, relayJudged}
-use Rattle.banavoge.proofs.Writing.{exported, client-counted}
+use Rattle.banavoge.proofs.Writing.{client-counted}
 use Rattle.banavoge.proofs.writers.banavoge_data.Statement.{statement}
 use Rattle.banavoge.proofs.writers.banavoge_data.Tie as tie
 
@@ -21,10 +19,10 @@ same-length c = search needs
 
 returns : tie.Need-returns
 returns c =
-    let code = toZ-ofZ w32 (c .written .result) (record { sfits = c .written .ok }) ∙ c .written .ensures in
     record {
-      asClient = exported (clientJudged (client.routedData (c .before .before .before .before .before .before .before .args .number) (c .before .before .before .before .before .before .before .args .«data» .now))) (client.clientBytes (client.routedData (c .before .before .before .before .before .before .before .args .number) (c .before .before .before .before .before .before .before .args .«data» .now))) (c .before .before .before .before .before .before .before .args .out .now) (c .before .before .before .«data» .result) _ _ (c .before .before .before .«data» .ensures .asClient) code;
-      asRelay = exported (relayJudged (relay.routedData (c .before .before .before .before .before .before .before .args .number) (c .before .before .before .before .before .before .before .args .«data» .now))) (relay.relayBytes (relay.routedData (c .before .before .before .before .before .before .before .args .number) (c .before .before .before .before .before .before .before .args .«data» .now))) (c .before .before .before .before .before .before .before .args .out .now) (c .before .before .before .«data» .result) _ _ (c .before .before .before .«data» .ensures .asRelay) code;
+      given = c .before .before .before .«data» .result;
+      relates = c .before .before .before .«data» .ensures;
+      codes = toZ-ofZ w32 (c .written .result) (record { sfits = c .written .ok }) ∙ c .written .ensures;
     }
 
 pub banavoge-data-spec : {M : Type 1} → statement M

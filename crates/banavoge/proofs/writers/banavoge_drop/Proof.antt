@@ -3,9 +3,8 @@ use borrow.Author.Needs.{needs}
 use mathlib.Core.Path.{_∙_}
 use mir.Syntax.{w32}
 use mir.ValLaws.{toZ-ofZ}
-use Rattle.packet.specs.FromClient.{clientBytes, dropRoute}
-use Rattle.packet.specs.Written.{clientJudged}
-use Rattle.banavoge.proofs.Writing.{exported, client-counted}
+use Rattle.packet.specs.FromClient.{dropRoute}
+use Rattle.banavoge.proofs.Writing.{client-counted}
 use Rattle.banavoge.proofs.writers.banavoge_drop.Statement.{statement}
 use Rattle.banavoge.proofs.writers.banavoge_drop.Tie as tie
 
@@ -20,8 +19,11 @@ same-length c = search needs
 
 returns : tie.Need-returns
 returns c =
-    exported (clientJudged (dropRoute (c .before .before .before .before .before .before .args .number))) (clientBytes (dropRoute (c .before .before .before .before .before .before .args .number))) (c .before .before .before .before .before .before .args .out .now) (c .before .before .before .drop-route .result) _ _ (c .before .before .before .drop-route .ensures)
-    (toZ-ofZ w32 (c .written .result) (record { sfits = c .written .ok }) ∙ c .written .ensures)
+    record {
+      given = c .before .before .before .drop-route .result;
+      relates = c .before .before .before .drop-route .ensures;
+      codes = toZ-ofZ w32 (c .written .result) (record { sfits = c .written .ok }) ∙ c .written .ensures;
+    }
 
 pub banavoge-drop-spec : {M : Type 1} → statement M
 banavoge-drop-spec = tie.close (tie.spec drop-route-requires written-requires same-length returns)

@@ -3,9 +3,8 @@ use borrow.Author.Needs.{needs}
 use mathlib.Core.Path.{_∙_}
 use mir.Syntax.{w32}
 use mir.ValLaws.{toZ-ofZ}
-use Rattle.packet.specs.FromRelay.{relayBytes, oobReceived}
-use Rattle.packet.specs.Written.{relayJudged}
-use Rattle.banavoge.proofs.Writing.{exported, relay-counted}
+use Rattle.packet.specs.FromRelay.{oobReceived}
+use Rattle.banavoge.proofs.Writing.{relay-counted}
 use Rattle.banavoge.proofs.writers.banavoge_oob_received.Statement.{statement}
 use Rattle.banavoge.proofs.writers.banavoge_oob_received.Tie as tie
 
@@ -20,8 +19,11 @@ same-length c = search needs
 
 returns : tie.Need-returns
 returns c =
-    exported (relayJudged (oobReceived (c .before .before .before .before .before .before .before .before .args .key .now) (c .before .before .before .before .before .before .before .before .args .«data» .now))) (relayBytes (oobReceived (c .before .before .before .before .before .before .before .before .args .key .now) (c .before .before .before .before .before .before .before .before .args .«data» .now))) (c .before .before .before .before .before .before .before .before .args .out .now) (c .before .before .before .oob-received .result) _ _ (c .before .before .before .oob-received .ensures)
-    (toZ-ofZ w32 (c .written .result) (record { sfits = c .written .ok }) ∙ c .written .ensures)
+    record {
+      given = c .before .before .before .oob-received .result;
+      relates = c .before .before .before .oob-received .ensures;
+      codes = toZ-ofZ w32 (c .written .result) (record { sfits = c .written .ok }) ∙ c .written .ensures;
+    }
 
 pub banavoge-oob-received-spec : {M : Type 1} → statement M
 banavoge-oob-received-spec =

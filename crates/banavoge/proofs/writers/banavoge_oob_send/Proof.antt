@@ -3,9 +3,8 @@ use borrow.Author.Needs.{needs}
 use mathlib.Core.Path.{_∙_}
 use mir.Syntax.{w32}
 use mir.ValLaws.{toZ-ofZ}
-use Rattle.packet.specs.FromClient.{clientBytes, oobSend}
-use Rattle.packet.specs.Written.{clientJudged}
-use Rattle.banavoge.proofs.Writing.{exported, client-counted}
+use Rattle.packet.specs.FromClient.{oobSend}
+use Rattle.banavoge.proofs.Writing.{client-counted}
 use Rattle.banavoge.proofs.writers.banavoge_oob_send.Statement.{statement}
 use Rattle.banavoge.proofs.writers.banavoge_oob_send.Tie as tie
 
@@ -20,8 +19,11 @@ same-length c = search needs
 
 returns : tie.Need-returns
 returns c =
-    exported (clientJudged (oobSend (c .before .before .before .before .before .before .before .before .args .key .now) (c .before .before .before .before .before .before .before .before .args .«data» .now))) (clientBytes (oobSend (c .before .before .before .before .before .before .before .before .args .key .now) (c .before .before .before .before .before .before .before .before .args .«data» .now))) (c .before .before .before .before .before .before .before .before .args .out .now) (c .before .before .before .oob-send .result) _ _ (c .before .before .before .oob-send .ensures)
-    (toZ-ofZ w32 (c .written .result) (record { sfits = c .written .ok }) ∙ c .written .ensures)
+    record {
+      given = c .before .before .before .oob-send .result;
+      relates = c .before .before .before .oob-send .ensures;
+      codes = toZ-ofZ w32 (c .written .result) (record { sfits = c .written .ok }) ∙ c .written .ensures;
+    }
 
 pub banavoge-oob-send-spec : {M : Type 1} → statement M
 banavoge-oob-send-spec =

@@ -3,9 +3,8 @@ use borrow.Author.Needs.{needs}
 use mathlib.Core.Path.{_∙_}
 use mir.Syntax.{w32}
 use mir.ValLaws.{toZ-ofZ}
-use Rattle.packet.specs.FromClient.{clientBytes, routingRequest}
-use Rattle.packet.specs.Written.{clientJudged}
-use Rattle.banavoge.proofs.Writing.{exported, client-counted}
+use Rattle.packet.specs.FromClient.{routingRequest}
+use Rattle.banavoge.proofs.Writing.{client-counted}
 use Rattle.banavoge.proofs.writers.banavoge_routing_request.Statement.{statement}
 use Rattle.banavoge.proofs.writers.banavoge_routing_request.Tie as tie
 
@@ -20,8 +19,11 @@ same-length c = search needs
 
 returns : tie.Need-returns
 returns c =
-    exported (clientJudged (routingRequest (c .before .before .before .before .before .before .before .args .key .now))) (clientBytes (routingRequest (c .before .before .before .before .before .before .before .args .key .now))) (c .before .before .before .before .before .before .before .args .out .now) (c .before .before .before .routing-request .result) _ _ (c .before .before .before .routing-request .ensures)
-    (toZ-ofZ w32 (c .written .result) (record { sfits = c .written .ok }) ∙ c .written .ensures)
+    record {
+      given = c .before .before .before .routing-request .result;
+      relates = c .before .before .before .routing-request .ensures;
+      codes = toZ-ofZ w32 (c .written .result) (record { sfits = c .written .ok }) ∙ c .written .ensures;
+    }
 
 pub banavoge-routing-request-spec : {M : Type 1} → statement M
 banavoge-routing-request-spec =

@@ -2,10 +2,10 @@
 use mathlib.Core.Path.{_≡_, _∙_, refl, sym}
 use Prim.Native.Nat.{_-_, _≤_}
 use native.Mathlib.Omega.{arith}
-use lib.ListN.{drop, length-map}
+use lib.ListN.{drop}
 use Rattle.key.specs.Keys.{IsKey, sameKey}
 use Rattle.key.proofs.Same.{same-differ, same-agree, same-end}
-use Rattle.key.proofs.Owned.{each-byte}
+use Rattle.key.proofs.Owned.{is-key}
 use Rattle.key.proofs.Key.equals.Statement.{statement}
 use Rattle.key.proofs.Key.equals.Tie as tie
 
@@ -16,14 +16,10 @@ abbrev μ-loop : tie.MeasureT-loop
 μ-loop self other i₀ i = 32 - i
 
 known-t1 : (s : tie.Start Inv-loop μ-loop) → IsKey (s .args .t1 .0)
-known-t1 s =
-    let g = s .good .0 .1 .1 .0 in
-    record { long = sym (length-map (s .args .t1 .0) _) ∙ g .1 .0 .1; bytes = each-byte (s .args .t1 .0) (g .0) (g .1 .1) }
+known-t1 s = is-key (s .args .t1) (s .good .0 .0) (s .good .0 .1 .1)
 
 known-t2 : (s : tie.Start Inv-loop μ-loop) → IsKey (s .args .t2 .0)
-known-t2 s =
-    let g = s .good .1 .0 .1 .1 .0 in
-    record { long = sym (length-map (s .args .t2 .0) _) ∙ g .1 .0 .1; bytes = each-byte (s .args .t2 .0) (g .0) (g .1 .1) }
+known-t2 s = is-key (s .args .t2) (s .good .1 .0 .0) (s .good .1 .0 .1 .1)
 
 loop-holds : tie.Need-loop-holds Inv-loop μ-loop
 loop-holds c = (omega arith, refl)

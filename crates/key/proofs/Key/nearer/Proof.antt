@@ -2,10 +2,9 @@
 use mathlib.Core.Path.{_≡_, _∙_, sym}
 use Prim.Native.Nat.{_-_, _≤_}
 use native.Mathlib.Omega.{arith}
-use lib.ListN.{length-map}
 use Rattle.key.specs.Keys.{IsKey, nearer}
 use Rattle.key.proofs.Distance.{nearerFrom, from-start, byte-decides, byte-same, bytes-end}
-use Rattle.key.proofs.Owned.{each-byte}
+use Rattle.key.proofs.Owned.{is-key}
 use Rattle.key.proofs.Key.nearer.Statement.{statement}
 use Rattle.key.proofs.Key.nearer.Tie as tie
 
@@ -16,19 +15,13 @@ abbrev μ-loop : tie.MeasureT-loop
 μ-loop self a b i₀ i = 32 - i
 
 known-t1 : (s : tie.Start Inv-loop μ-loop) → IsKey (s .args .t1 .0)
-known-t1 s =
-    let g = s .good .0 .1 .1 .0 in
-    record { long = sym (length-map (s .args .t1 .0) _) ∙ g .1 .0 .1; bytes = each-byte (s .args .t1 .0) (g .0) (g .1 .1) }
+known-t1 s = is-key (s .args .t1) (s .good .0 .0) (s .good .0 .1 .1)
 
 known-t2 : (s : tie.Start Inv-loop μ-loop) → IsKey (s .args .t2 .0)
-known-t2 s =
-    let g = s .good .1 .0 .1 .1 .0 in
-    record { long = sym (length-map (s .args .t2 .0) _) ∙ g .1 .0 .1; bytes = each-byte (s .args .t2 .0) (g .0) (g .1 .1) }
+known-t2 s = is-key (s .args .t2) (s .good .1 .0 .0) (s .good .1 .0 .1 .1)
 
 known-t3 : (s : tie.Start Inv-loop μ-loop) → IsKey (s .args .t3 .0)
-known-t3 s =
-    let g = s .good .1 .1 .0 .1 .1 .0 in
-    record { long = sym (length-map (s .args .t3 .0) _) ∙ g .1 .0 .1; bytes = each-byte (s .args .t3 .0) (g .0) (g .1 .1) }
+known-t3 s = is-key (s .args .t3) (s .good .1 .1 .0 .0) (s .good .1 .1 .0 .1 .1)
 
 loop-holds : tie.Need-loop-holds Inv-loop μ-loop
 loop-holds c = (omega arith, from-start (c .args .t1 .0) (c .args .t2 .0) (c .args .t3 .0))

@@ -28,7 +28,9 @@ known-requires c κs = search needs
 
 returns : tie.Need-returns
 unfolding infoOf
-returns c = let a = c .before .before .before .args in writes-unknown (infoOf (a .node)) (a .out .now) (sym (c .before .known .ensures) ∙ not-true _ (c .if1 .taken))
+returns c =
+    let s = c .before .before .before in
+    record { fits = held s; writes = writes-unknown (infoOf (s .args .node)) (s .args .out .now) (sym (c .before .known .ensures) ∙ not-true _ (c .if1 .taken)) }
 
 packed-length-requires : tie.Need-packed-length-requires
 packed-length-requires c κs = search needs
@@ -38,7 +40,11 @@ unfolding infoOf
 returns-2 c =
     let s = c .before .before .before .before .before in
     let e = c .before .packed-length .ensures in
-    writes-short (infoOf (s .args .node)) (s .args .out .now) (known (c .before .before)) (length-value (s .args .node) (held s .long) (held s .key .long)) (omega arith)
+    record {
+      fits = held s;
+      writes =
+          writes-short (infoOf (s .args .node)) (s .args .out .now) (known (c .before .before)) (length-value (s .args .node) (held s .long) (held s .key .long)) (omega arith);
+    }
 
 slice-relend-prefix-put : tie.Need-slice-relend-prefix-put
 slice-relend-prefix-put c = search needs
@@ -60,9 +66,13 @@ unfolding infoOf
 returns-3 c =
     let s = c .before .before .before .before .before .before .before .before .before in
     let size = c .before .before .before .before .before .packed-length in
-    writes-node (infoOf (s .args .node)) (s .args .out .now) (known (c .before .before .before .before .before .before))
-    (length-value (s .args .node) (held s .long) (held s .key .long)) (size .result) _ (size .ensures) (omega arith)
-    (ap (λ (l : List ℕ). l ++ drop (size .result) (s .args .out .now)) (c .before .before .put .ensures))
+    record {
+      fits = held s;
+      writes =
+          writes-node (infoOf (s .args .node)) (s .args .out .now) (known (c .before .before .before .before .before .before))
+          (length-value (s .args .node) (held s .long) (held s .key .long)) (size .result) _ (size .ensures) (omega arith)
+          (ap (λ (l : List ℕ). l ++ drop (size .result) (s .args .out .now)) (c .before .before .put .ensures));
+    }
 
 pub write-spec : {M : Type 1} → statement M
 write-spec =

@@ -1,30 +1,34 @@
 -- `packet::client::payload` meets its contract: the reader's answer says where the payload stands, or that there is none. Assumes nothing.
 use borrow.Author.Needs.{needs}
-use mathlib.Core.Path.{_≡_, _∙_, refl, sym, ap}
+use mathlib.Core.Path.{_≡_, refl, sym, subst}
 use mathlib.Core.List.{List, [], _∷_}
-use Prim.Native.Nat.{ℕ}
+use Prim.Native.Nat.{ℕ, _+_}
+use denote.Ref.{RefT}
 use types.Run.{OneOf, miss}
 use denote.Enum.Declared.{tagOf}
 use Rattle.packet.specs.declared.client.RelayPacket.{RelayPacket}
 use Rattle.packet.specs.declared.client.RelayPacket.the-variants.{RoutingResponse, ConnectNotification, DisconnectNotification, Ping, Pong, OobReceived, Data}
 use Rattle.packet.specs.declared.client.ClientRead.the-variants.{Packet, Refused}
-use Rattle.packet.specs.FromRelay.{clientRead}
+use Rattle.packet.specs.Parts.{PartAt}
 use Rattle.packet.specs.ClientReads.{relayPacketOf, clientReadOf, payloadFromRelay, clientPayload}
 use Rattle.packet.proofs.client.RelayPacket as enum
-use Rattle.packet.proofs.Answers.{by-answer}
+use Rattle.packet.proofs.PartLaws.{at-front}
+use Rattle.packet.proofs.ClientLaws.{relayPlace, clientReadPlace, client-payload}
 use Rattle.packet.proofs.client.payload.Statement.{statement}
 use Rattle.packet.proofs.client.payload.Tie as tie
 
--- the kinds of the last arm have no payload
-none : (bytes : List ℕ) (p : RelayPacket) → OneOf (0 ∷ 1 ∷ 2 ∷ 3 ∷ 4 ∷ []) (tagOf enum.the-type p) → [] ≡ payloadFromRelay (relayPacketOf bytes p)
-unfolding payloadFromRelay relayPacketOf
-none bytes (RoutingResponse number key) h = refl
-none bytes (ConnectNotification number) h = refl
-none bytes (DisconnectNotification number) h = refl
-none bytes (Ping n) h = refl
-none bytes (Pong n) h = refl
-none bytes (OobReceived key part) h = absurd (miss (0 ∷ 1 ∷ 2 ∷ 3 ∷ 4 ∷ []) 5 tt h)
-none bytes (Data number part) h = absurd (miss (0 ∷ 1 ∷ 2 ∷ 3 ∷ 4 ∷ []) 6 tt h)
+-- the kinds of the last arm have no payload: the part is empty, at the front
+none : (packet part : RefT (List ℕ)) (p : RelayPacket) → OneOf (0 ∷ 1 ∷ 2 ∷ 3 ∷ 4 ∷ []) (tagOf enum.the-type p)
+    → part .now ≡ [] → part .ptr ≡ (packet .ptr .0, packet .ptr .1 + 0)
+    → PartAt packet (relayPlace (packet .now) p) (payloadFromRelay (relayPacketOf (packet .now) p)) part
+unfolding payloadFromRelay relayPacketOf relayPlace
+none packet part (RoutingResponse number key) h e f = record { holds = e; stands = f }
+none packet part (ConnectNotification number) h e f = record { holds = e; stands = f }
+none packet part (DisconnectNotification number) h e f = record { holds = e; stands = f }
+none packet part (Ping n) h e f = record { holds = e; stands = f }
+none packet part (Pong n) h e f = record { holds = e; stands = f }
+none packet part (OobReceived key payload) h e f = absurd (miss (0 ∷ 1 ∷ 2 ∷ 3 ∷ 4 ∷ []) 5 tt h)
+none packet part (Data number payload) h e f = absurd (miss (0 ∷ 1 ∷ 2 ∷ 3 ∷ 4 ∷ []) 6 tt h)
 
 read-requires : tie.Need-read-requires
 read-requires c κs = search needs
@@ -39,8 +43,11 @@ slice-aggregate-result : tie.Need-slice-aggregate-result
 slice-aggregate-result c = search needs
 
 returns : tie.Need-returns
-unfolding clientReadOf clientPayload
-returns c = by-answer (clientReadOf (c .before .before .before .before .before .args .packet .now)) clientPayload (clientRead (c .before .before .before .before .before .args .packet .now)) (c .before .before .before .read .result) (Refused _) _ (c .before .before .before .read .ensures .means) (c .before .enum-told .given .1) refl
+unfolding clientReadOf clientPayload clientReadPlace
+returns c =
+    let packet = c .before .before .before .before .before .args .packet in
+    let answer = c .before .before .before .read in
+    client-payload packet _ (answer .result) (Refused _) (answer .ensures) (c .before .enum-told .given .1) (record { holds = refl; stands = at-front packet })
 
 enum-known-read-2 : tie.Need-enum-known-read-2
 enum-known-read-2 c = search needs
@@ -58,22 +65,33 @@ slice-aggregate-result-2 : tie.Need-slice-aggregate-result-2
 slice-aggregate-result-2 c = search needs
 
 returns-2 : tie.Need-returns-2
-unfolding clientReadOf clientPayload payloadFromRelay relayPacketOf
+unfolding clientReadOf clientPayload payloadFromRelay relayPacketOf clientReadPlace relayPlace
 returns-2 c =
-    by-answer (clientReadOf (c .before .before .before .before .before .before .before .before .before .args .packet .now)) clientPayload (clientRead (c .before .before .before .before .before .before .before .before .before .args .packet .now)) (c .before .before .before .before .before .before .before .read .result) (Packet (c .before .before .before .before .before .read2 .given .0 .0)) _ (c .before .before .before .before .before .before .before .read .ensures .means) (c .before .before .before .before .before .read2 .given .1)
-    (c .bytes-at .ensures ∙ ap (λ (p : RelayPacket). payloadFromRelay (relayPacketOf (c .before .before .before .before .before .before .before .before .before .args .packet .now) p)) (sym (c .before .before .read3 .given .1)))
+    let packet = c .before .before .before .before .before .before .before .before .before .args .packet in
+    let answer = c .before .before .before .before .before .before .before .read in
+    let shown = c .before .before .before .before .before .read2 .given in
+    client-payload packet (c .bytes-at .result) (answer .result) (Packet (shown .0 .0)) (answer .ensures) (shown .1)
+    (subst (λ (p : RelayPacket). PartAt packet (relayPlace (packet .now) p) (payloadFromRelay (relayPacketOf (packet .now) p)) (c .bytes-at .result))
+    (sym (c .before .before .read3 .given .1)) (c .bytes-at .ensures))
 
 returns-3 : tie.Need-returns-3
-unfolding clientReadOf clientPayload payloadFromRelay relayPacketOf
+unfolding clientReadOf clientPayload payloadFromRelay relayPacketOf clientReadPlace relayPlace
 returns-3 c =
-    by-answer (clientReadOf (c .before .before .before .before .before .before .before .before .before .args .packet .now)) clientPayload (clientRead (c .before .before .before .before .before .before .before .before .before .args .packet .now)) (c .before .before .before .before .before .before .before .read .result) (Packet (c .before .before .before .before .before .read2 .given .0 .0)) _ (c .before .before .before .before .before .before .before .read .ensures .means) (c .before .before .before .before .before .read2 .given .1)
-    (c .bytes-at2 .ensures ∙ ap (λ (p : RelayPacket). payloadFromRelay (relayPacketOf (c .before .before .before .before .before .before .before .before .before .args .packet .now) p)) (sym (c .before .before .read4 .given .1)))
+    let packet = c .before .before .before .before .before .before .before .before .before .args .packet in
+    let answer = c .before .before .before .before .before .before .before .read in
+    let shown = c .before .before .before .before .before .read2 .given in
+    client-payload packet (c .bytes-at2 .result) (answer .result) (Packet (shown .0 .0)) (answer .ensures) (shown .1)
+    (subst (λ (p : RelayPacket). PartAt packet (relayPlace (packet .now) p) (payloadFromRelay (relayPacketOf (packet .now) p)) (c .bytes-at2 .result))
+    (sym (c .before .before .read4 .given .1)) (c .bytes-at2 .ensures))
 
 returns-4 : tie.Need-returns-4
-unfolding clientReadOf clientPayload
+unfolding clientReadOf clientPayload clientReadPlace
 returns-4 c =
-    by-answer (clientReadOf (c .before .before .before .before .before .before .before .args .packet .now)) clientPayload (clientRead (c .before .before .before .before .before .before .before .args .packet .now)) (c .before .before .before .before .before .read .result) (Packet (c .before .before .before .read2 .given .0 .0)) _ (c .before .before .before .before .before .read .ensures .means) (c .before .before .before .read2 .given .1)
-    (none (c .before .before .before .before .before .before .before .args .packet .now) (c .before .before .before .read2 .given .0 .0) (c .before .match2 .keys3))
+    let packet = c .before .before .before .before .before .before .before .args .packet in
+    let answer = c .before .before .before .before .before .read in
+    let shown = c .before .before .before .read2 .given in
+    client-payload packet _ (answer .result) (Packet (shown .0 .0)) (answer .ensures) (shown .1)
+    (none packet _ (shown .0 .0) (c .before .match2 .keys3) refl (at-front packet))
 
 pub payload-spec : {M : Type 1} → statement M
 payload-spec =

@@ -1,29 +1,33 @@
 -- `packet::relay::payload` meets its contract: the reader's answer says where the payload stands, or that there is none. Assumes nothing.
 use borrow.Author.Needs.{needs}
-use mathlib.Core.Path.{_≡_, _∙_, refl, sym, ap}
+use mathlib.Core.Path.{_≡_, refl, sym, subst}
 use mathlib.Core.List.{List, [], _∷_}
-use Prim.Native.Nat.{ℕ}
+use Prim.Native.Nat.{ℕ, _+_}
+use denote.Ref.{RefT}
 use types.Run.{OneOf, miss}
 use denote.Enum.Declared.{tagOf}
 use Rattle.packet.specs.declared.relay.ClientPacket.{ClientPacket}
 use Rattle.packet.specs.declared.relay.ClientPacket.the-variants.{RoutingRequest, DropRoute, Ping, Pong, OobSend, Data}
 use Rattle.packet.specs.declared.relay.RelayRead.the-variants.{Packet, Refused}
-use Rattle.packet.specs.FromClient.{relayRead}
+use Rattle.packet.specs.Parts.{PartAt}
 use Rattle.packet.specs.RelayReads.{clientPacketOf, relayReadOf, payloadFromClient, relayPayload}
 use Rattle.packet.proofs.relay.ClientPacket as enum
-use Rattle.packet.proofs.Answers.{by-answer}
+use Rattle.packet.proofs.PartLaws.{at-front}
+use Rattle.packet.proofs.RelayLaws.{clientPlace, relayReadPlace, relay-payload}
 use Rattle.packet.proofs.relay.payload.Statement.{statement}
 use Rattle.packet.proofs.relay.payload.Tie as tie
 
--- the kinds of the last arm have no payload
-none : (bytes : List ℕ) (p : ClientPacket) → OneOf (0 ∷ 1 ∷ 2 ∷ 3 ∷ []) (tagOf enum.the-type p) → [] ≡ payloadFromClient (clientPacketOf bytes p)
-unfolding payloadFromClient clientPacketOf
-none bytes (RoutingRequest key) h = refl
-none bytes (DropRoute number) h = refl
-none bytes (Ping n) h = refl
-none bytes (Pong n) h = refl
-none bytes (OobSend key part) h = absurd (miss (0 ∷ 1 ∷ 2 ∷ 3 ∷ []) 4 tt h)
-none bytes (Data number part) h = absurd (miss (0 ∷ 1 ∷ 2 ∷ 3 ∷ []) 5 tt h)
+-- the kinds of the last arm have no payload: the part is empty, at the front
+none : (packet part : RefT (List ℕ)) (p : ClientPacket) → OneOf (0 ∷ 1 ∷ 2 ∷ 3 ∷ []) (tagOf enum.the-type p)
+    → part .now ≡ [] → part .ptr ≡ (packet .ptr .0, packet .ptr .1 + 0)
+    → PartAt packet (clientPlace (packet .now) p) (payloadFromClient (clientPacketOf (packet .now) p)) part
+unfolding payloadFromClient clientPacketOf clientPlace
+none packet part (RoutingRequest key) h e f = record { holds = e; stands = f }
+none packet part (DropRoute number) h e f = record { holds = e; stands = f }
+none packet part (Ping n) h e f = record { holds = e; stands = f }
+none packet part (Pong n) h e f = record { holds = e; stands = f }
+none packet part (OobSend key payload) h e f = absurd (miss (0 ∷ 1 ∷ 2 ∷ 3 ∷ []) 4 tt h)
+none packet part (Data number payload) h e f = absurd (miss (0 ∷ 1 ∷ 2 ∷ 3 ∷ []) 5 tt h)
 
 read-requires : tie.Need-read-requires
 read-requires c κs = search needs
@@ -38,8 +42,11 @@ slice-aggregate-result : tie.Need-slice-aggregate-result
 slice-aggregate-result c = search needs
 
 returns : tie.Need-returns
-unfolding relayReadOf relayPayload
-returns c = by-answer (relayReadOf (c .before .before .before .before .before .args .packet .now)) relayPayload (relayRead (c .before .before .before .before .before .args .packet .now)) (c .before .before .before .read .result) (Refused _) _ (c .before .before .before .read .ensures .means) (c .before .enum-told .given .1) refl
+unfolding relayReadOf relayPayload relayReadPlace
+returns c =
+    let packet = c .before .before .before .before .before .args .packet in
+    let answer = c .before .before .before .read in
+    relay-payload packet _ (answer .result) (Refused _) (answer .ensures) (c .before .enum-told .given .1) (record { holds = refl; stands = at-front packet })
 
 enum-known-read-2 : tie.Need-enum-known-read-2
 enum-known-read-2 c = search needs
@@ -57,22 +64,33 @@ slice-aggregate-result-2 : tie.Need-slice-aggregate-result-2
 slice-aggregate-result-2 c = search needs
 
 returns-2 : tie.Need-returns-2
-unfolding relayReadOf relayPayload payloadFromClient clientPacketOf
+unfolding relayReadOf relayPayload payloadFromClient clientPacketOf relayReadPlace clientPlace
 returns-2 c =
-    by-answer (relayReadOf (c .before .before .before .before .before .before .before .before .before .args .packet .now)) relayPayload (relayRead (c .before .before .before .before .before .before .before .before .before .args .packet .now)) (c .before .before .before .before .before .before .before .read .result) (Packet (c .before .before .before .before .before .read2 .given .0 .0)) _ (c .before .before .before .before .before .before .before .read .ensures .means) (c .before .before .before .before .before .read2 .given .1)
-    (c .bytes-at .ensures ∙ ap (λ (p : ClientPacket). payloadFromClient (clientPacketOf (c .before .before .before .before .before .before .before .before .before .args .packet .now) p)) (sym (c .before .before .read3 .given .1)))
+    let packet = c .before .before .before .before .before .before .before .before .before .args .packet in
+    let answer = c .before .before .before .before .before .before .before .read in
+    let shown = c .before .before .before .before .before .read2 .given in
+    relay-payload packet (c .bytes-at .result) (answer .result) (Packet (shown .0 .0)) (answer .ensures) (shown .1)
+    (subst (λ (p : ClientPacket). PartAt packet (clientPlace (packet .now) p) (payloadFromClient (clientPacketOf (packet .now) p)) (c .bytes-at .result))
+    (sym (c .before .before .read3 .given .1)) (c .bytes-at .ensures))
 
 returns-3 : tie.Need-returns-3
-unfolding relayReadOf relayPayload payloadFromClient clientPacketOf
+unfolding relayReadOf relayPayload payloadFromClient clientPacketOf relayReadPlace clientPlace
 returns-3 c =
-    by-answer (relayReadOf (c .before .before .before .before .before .before .before .before .before .args .packet .now)) relayPayload (relayRead (c .before .before .before .before .before .before .before .before .before .args .packet .now)) (c .before .before .before .before .before .before .before .read .result) (Packet (c .before .before .before .before .before .read2 .given .0 .0)) _ (c .before .before .before .before .before .before .before .read .ensures .means) (c .before .before .before .before .before .read2 .given .1)
-    (c .bytes-at2 .ensures ∙ ap (λ (p : ClientPacket). payloadFromClient (clientPacketOf (c .before .before .before .before .before .before .before .before .before .args .packet .now) p)) (sym (c .before .before .read4 .given .1)))
+    let packet = c .before .before .before .before .before .before .before .before .before .args .packet in
+    let answer = c .before .before .before .before .before .before .before .read in
+    let shown = c .before .before .before .before .before .read2 .given in
+    relay-payload packet (c .bytes-at2 .result) (answer .result) (Packet (shown .0 .0)) (answer .ensures) (shown .1)
+    (subst (λ (p : ClientPacket). PartAt packet (clientPlace (packet .now) p) (payloadFromClient (clientPacketOf (packet .now) p)) (c .bytes-at2 .result))
+    (sym (c .before .before .read4 .given .1)) (c .bytes-at2 .ensures))
 
 returns-4 : tie.Need-returns-4
-unfolding relayReadOf relayPayload
+unfolding relayReadOf relayPayload relayReadPlace
 returns-4 c =
-    by-answer (relayReadOf (c .before .before .before .before .before .before .before .args .packet .now)) relayPayload (relayRead (c .before .before .before .before .before .before .before .args .packet .now)) (c .before .before .before .before .before .read .result) (Packet (c .before .before .before .read2 .given .0 .0)) _ (c .before .before .before .before .before .read .ensures .means) (c .before .before .before .read2 .given .1)
-    (none (c .before .before .before .before .before .before .before .args .packet .now) (c .before .before .before .read2 .given .0 .0) (c .before .match2 .keys3))
+    let packet = c .before .before .before .before .before .before .before .args .packet in
+    let answer = c .before .before .before .before .before .read in
+    let shown = c .before .before .before .read2 .given in
+    relay-payload packet _ (answer .result) (Packet (shown .0 .0)) (answer .ensures) (shown .1)
+    (none packet _ (shown .0 .0) (c .before .match2 .keys3) refl (at-front packet))
 
 pub payload-spec : {M : Type 1} → statement M
 payload-spec =

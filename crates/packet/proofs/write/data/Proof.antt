@@ -2,12 +2,14 @@
 use borrow.Author.Needs.{needs}
 use mathlib.Core.Path.{_≡_, _∙_, sym, ap}
 use mathlib.Core.List.{List, _∷_}
-use Prim.Native.Nat.{ℕ, _+_, _-_, _≤_}
+use Prim.Native.Nat.{ℕ, _+_, _-_, _<_, _≤_}
 use native.Mathlib.Omega.{arith}
 use lib.ListN.{length, length-set}
 use mathlib.Core.Bool.{true}
 use native.Mathlib.Nat.{add-sub-cancel-left}
 use borrow.Author.Tests.{not-true, not-false}
+use Rattle.wire.specs.Numbers.{Bytes}
+use Rattle.wire.proofs.Numbers.{bytes-each}
 use Rattle.wire.proofs.Copy.{length-written}
 use Rattle.refusal.specs.declared.Refusal.{Refusal}
 use Rattle.packet.specs.declared.write.Written.{Written}
@@ -23,20 +25,20 @@ use Rattle.packet.proofs.write.data.Statement.{statement}
 use Rattle.packet.proofs.write.data.Tie as tie
 
 -- both ends take the packet, and it is put; or both refuse it alike
-put : (number : ℕ) (bytes out : List ℕ) (answer : Written) (left : List ℕ) → sizeRight (1 + length bytes) ≡ true → 16 ≤ number → 1 ≤ length bytes
-    → Puts (number ∷ bytes) out answer left → DataWrites number bytes out answer left
-unfolding client.clientBytes relay.relayBytes
-put number bytes out answer left s h l p = record {
-  asClient = accepted-writes (clientJudged (client.routedData number bytes)) (number ∷ bytes) out _ answer left (client-data-judged number bytes s h l) p;
-  asRelay = accepted-writes (relayJudged (relay.routedData number bytes)) (number ∷ bytes) out _ answer left (relay-data-judged number bytes s h l) p;
+put : (number : ℕ) (bytes out : List ℕ) (answer : Written) (left : List ℕ) → number < 256 → Bytes bytes → sizeRight (1 + length bytes) ≡ true → 16 ≤ number → 1 ≤ length bytes
+    → Puts (number ∷ bytes) out answer left → DataWrites number bytes out left answer
+unfolding client.clientBytes relay.relayBytes client.FitsClient relay.FitsRelay
+put number bytes out answer left small are s h l p = record {
+  asClient = record { fits = (small, are); writes = accepted-writes (clientJudged (client.routedData number bytes)) (number ∷ bytes) out _ answer left (client-data-judged number bytes s h l) p };
+  asRelay = record { fits = (small, are); writes = accepted-writes (relayJudged (relay.routedData number bytes)) (number ∷ bytes) out _ answer left (relay-data-judged number bytes s h l) p };
 }
 
-refuse : (number : ℕ) (bytes out : List ℕ) (why : Refusal) → clientJudged (client.routedData number bytes) ≡ refused why
-    → relayJudged (relay.routedData number bytes) ≡ refused why → DataWrites number bytes out (Refused why) out
-unfolding client.clientBytes relay.relayBytes
-refuse number bytes out why p q = record {
-  asClient = refused-writes (clientJudged (client.routedData number bytes)) (number ∷ bytes) out why p;
-  asRelay = refused-writes (relayJudged (relay.routedData number bytes)) (number ∷ bytes) out why q;
+refuse : (number : ℕ) (bytes out : List ℕ) (why : Refusal) → number < 256 → Bytes bytes → clientJudged (client.routedData number bytes) ≡ refused why
+    → relayJudged (relay.routedData number bytes) ≡ refused why → DataWrites number bytes out out (Refused why)
+unfolding client.clientBytes relay.relayBytes client.FitsClient relay.FitsRelay
+refuse number bytes out why small are p q = record {
+  asClient = record { fits = (small, are); writes = refused-writes (clientJudged (client.routedData number bytes)) (number ∷ bytes) out why p };
+  asRelay = record { fits = (small, are); writes = refused-writes (relayJudged (relay.routedData number bytes)) (number ∷ bytes) out why q };
 }
 
 add-size : tie.Need-add-size
@@ -49,25 +51,33 @@ returns : tie.Need-returns
 returns c =
     let a = c .before .before .before .before .args in
     let s = sym (c .before .size-right .ensures) ∙ not-true _ (c .if1 .taken) in
-    refuse (a .number .0) (a .«data» .now) (a .out .now) _ (client-data-size (a .number .0) (a .«data» .now) s) (relay-data-size (a .number .0) (a .«data» .now) s)
+    refuse (a .number .0) (a .«data» .now) (a .out .now) _
+    (c .before .before .before .before .good .0 .1 .1 .0 .1) (bytes-each (a .«data» .now) (λ i. c .before .before .before .shared-slice-known .given i .fits))
+    (client-data-size (a .number .0) (a .«data» .now) s) (relay-data-size (a .number .0) (a .«data» .now) s)
 
 returns-2 : tie.Need-returns-2
 returns-2 c =
     let a = c .before .before .before .before .before .before .args in
     let s = (sym (c .before .before .before .size-right .ensures) ∙ not-false _ (c .before .before .if1 .left)) in
-    refuse (a .number .0) (a .«data» .now) (a .out .now) _ (client-data-number (a .number .0) (a .«data» .now) s (c .if2 .taken)) (relay-data-number (a .number .0) (a .«data» .now) s (c .if2 .taken))
+    refuse (a .number .0) (a .«data» .now) (a .out .now) _
+    (c .before .before .before .before .before .before .good .0 .1 .1 .0 .1) (bytes-each (a .«data» .now) (λ i. c .before .before .before .before .before .shared-slice-known .given i .fits))
+    (client-data-number (a .number .0) (a .«data» .now) s (c .if2 .taken)) (relay-data-number (a .number .0) (a .«data» .now) s (c .if2 .taken))
 
 returns-3 : tie.Need-returns-3
 returns-3 c =
     let a = c .before .before .before .before .before .before .before .args in
     let s = (sym (c .before .before .before .before .size-right .ensures) ∙ not-false _ (c .before .before .before .if1 .left)) in
     let h = c .before .if2 .left in
-    refuse (a .number .0) (a .«data» .now) (a .out .now) _ (client-data-length (a .number .0) (a .«data» .now) s h (c .if3 .taken)) (relay-data-length (a .number .0) (a .«data» .now) s h (c .if3 .taken))
+    refuse (a .number .0) (a .«data» .now) (a .out .now) _
+    (c .before .before .before .before .before .before .before .good .0 .1 .1 .0 .1) (bytes-each (a .«data» .now) (λ i. c .before .before .before .before .before .before .shared-slice-known .given i .fits))
+    (client-data-length (a .number .0) (a .«data» .now) s h (c .if3 .taken)) (relay-data-length (a .number .0) (a .«data» .now) s h (c .if3 .taken))
 
 returns-4 : tie.Need-returns-4
 returns-4 c =
     let a = c .before .before .before .before .before .before .before .before .args in
-    put (a .number .0) (a .«data» .now) (a .out .now) _ _ (sym (c .before .before .before .before .before .size-right .ensures) ∙ not-false _ (c .before .before .before .before .if1 .left)) (c .before .before .if2 .left) (omega arith) (puts-short (a .number .0 ∷ a .«data» .now) (a .out .now) (omega arith))
+    put (a .number .0) (a .«data» .now) (a .out .now) _ _
+    (c .before .before .before .before .before .before .before .before .good .0 .1 .1 .0 .1) (bytes-each (a .«data» .now) (λ i. c .before .before .before .before .before .before .before .shared-slice-known .given i .fits))
+    (sym (c .before .before .before .before .before .size-right .ensures) ∙ not-false _ (c .before .before .before .before .if1 .left)) (c .before .before .if2 .left) (omega arith) (puts-short (a .number .0 ∷ a .«data» .now) (a .out .now) (omega arith))
 
 slice-write-out : tie.Need-slice-write-out
 slice-write-out c = search needs
@@ -95,7 +105,9 @@ same-length c =
 returns-5 : tie.Need-returns-5
 returns-5 c =
     let a = c .before .before .before .before .before .before .before .before .before .before .before .before .args in
-    put (a .number .0) (a .«data» .now) (a .out .now) _ _ (sym (c .before .before .before .before .before .before .before .before .before .size-right .ensures) ∙ not-false _ (c .before .before .before .before .before .before .before .before .if1 .left)) (c .before .before .before .before .before .before .if2 .left) (omega arith)
+    put (a .number .0) (a .«data» .now) (a .out .now) _ _
+    (c .before .before .before .before .before .before .before .before .before .before .before .before .good .0 .1 .1 .0 .1) (bytes-each (a .«data» .now) (λ i. c .before .before .before .before .before .before .before .before .before .before .before .shared-slice-known .given i .fits))
+    (sym (c .before .before .before .before .before .before .before .before .before .size-right .ensures) ∙ not-false _ (c .before .before .before .before .before .before .before .before .if1 .left)) (c .before .before .before .before .before .before .if2 .left) (omega arith)
     (puts-written (a .number .0 ∷ a .«data» .now) (a .out .now) _ (1 + length (a .«data» .now)) (omega arith) (omega arith)
     (written-byte-and-bytes (a .out .now) (c .before .before .copy .last .1 .0) (a .«data» .now) (a .number .0) (1 + length (a .«data» .now) - 1)
     (add-sub-cancel-left 1 (length (a .«data» .now))) (omega arith) (c .before .before .copy .ensures .1)))

@@ -16,8 +16,8 @@ returns c =
     let s = c .before .before in
     let a = s .args in
     record {
-      asClient = refused-writes (clientJudged (client.ping (a .number))) (4 ∷ bytesOf 8 (a .number)) (a .out .now) _ (client-ping-zero (a .number) (s .fits .number .fits) (c .if1 .taken));
-      asRelay = refused-writes (relayJudged (relay.ping (a .number))) (4 ∷ bytesOf 8 (a .number)) (a .out .now) _ (relay-ping-zero (a .number) (s .fits .number .fits) (c .if1 .taken));
+      asClient = record { fits = unfold client.FitsClient in s .fits .number .fits; writes = refused-writes (clientJudged (client.ping (a .number))) (4 ∷ bytesOf 8 (a .number)) (a .out .now) _ (client-ping-zero (a .number) (s .fits .number .fits) (c .if1 .taken)) };
+      asRelay = record { fits = unfold relay.FitsRelay in s .fits .number .fits; writes = refused-writes (relayJudged (relay.ping (a .number))) (4 ∷ bytesOf 8 (a .number)) (a .out .now) _ (relay-ping-zero (a .number) (s .fits .number .fits) (c .if1 .taken)) };
     }
 
 put-number-requires : tie.Need-put-number-requires
@@ -32,8 +32,8 @@ returns-2 c =
     let s = c .before .before .before .before .before .before in
     let a = s .args in
     record {
-      asClient = accepted-writes (clientJudged (client.ping (a .number))) (4 ∷ bytesOf 8 (a .number)) (a .out .now) _ _ _ (client-ping-judged (a .number) (s .fits .number .fits) (c .before .before .before .before .if1 .left)) (c .before .before .put-number .ensures);
-      asRelay = accepted-writes (relayJudged (relay.ping (a .number))) (4 ∷ bytesOf 8 (a .number)) (a .out .now) _ _ _ (relay-ping-judged (a .number) (s .fits .number .fits) (c .before .before .before .before .if1 .left)) (c .before .before .put-number .ensures);
+      asClient = record { fits = unfold client.FitsClient in s .fits .number .fits; writes = accepted-writes (clientJudged (client.ping (a .number))) (4 ∷ bytesOf 8 (a .number)) (a .out .now) _ _ _ (client-ping-judged (a .number) (s .fits .number .fits) (c .before .before .before .before .if1 .left)) (c .before .before .put-number .ensures) };
+      asRelay = record { fits = unfold relay.FitsRelay in s .fits .number .fits; writes = accepted-writes (relayJudged (relay.ping (a .number))) (4 ∷ bytesOf 8 (a .number)) (a .out .now) _ _ _ (relay-ping-judged (a .number) (s .fits .number .fits) (c .before .before .before .before .if1 .left)) (c .before .before .put-number .ensures) };
     }
 
 pub ping-spec : {M : Type 1} → statement M

@@ -4,12 +4,13 @@ use mathlib.Core.Path.{_≡_, _∙_, refl, sym, ap, ap₂}
 use mathlib.Core.List.{List, [], _∷_, _++_}
 use Prim.Native.Nat.{ℕ, _≤_}
 use native.Mathlib.Omega.{arith}
-use lib.ListN.{length, take, drop, set, length-set, length-map}
+use lib.ListN.{length, take, drop, set, length-set}
 use borrow.Author.Tests.{not-true, not-false}
-use Rattle.key.specs.Keys.{withKey}
+use Rattle.key.specs.Keys.{IsKey, withKey}
+use Rattle.key.proofs.Owned.{is-key}
 use Rattle.key.proofs.Lent.{with-key-whole}
 use Rattle.wire.proofs.Copy.{written-first, written-byte, written-part, length-lent, length-written}
-use Rattle.packet.specs.FromRelay.{relayBytes, routingResponse}
+use Rattle.packet.specs.FromRelay.{FitsRelay, relayBytes, routingResponse}
 use Rattle.packet.specs.Written.{relayJudged}
 use Rattle.packet.proofs.WriteLaws.{puts-short, puts-written, accepted-writes, refused-writes}
 use Rattle.packet.proofs.Judged.{relay-response-judged, relay-response-number}
@@ -25,8 +26,16 @@ written out new key k n h e =
     let m : new ≡ key = e ∙ with-key-whole key _ (length-lent (set (set out 0 k) 1 n) 2 32 (simp length-set h)) in
     ap₂ (λ (x l : List ℕ). take 2 l ++ (x ++ drop 32 (drop 2 l))) m (head out k n (omega arith)) ∙ written-part (k ∷ n ∷ []) key out 2 32 refl
 
+-- a key by value
+key : (s : tie.Start) → IsKey (s .args .key .0)
+key s = is-key (s .args .key) (s .good .1 .0 .0) (s .good .1 .0 .1 .1)
+
 key-long : (s : tie.Start) → length (s .args .key .0) ≡ 32
-key-long s = sym (length-map (s .args .key .0) _) ∙ s .good .1 .0 .1 .1 .0 .1 .0 .1
+key-long s = key s .long
+
+fits : (s : tie.Start) → FitsRelay (routingResponse (s .args .number .0) (s .args .key .0))
+unfolding FitsRelay
+fits s = (s .good .0 .1 .1 .0 .1, key s)
 
 number-right-requires : tie.Need-number-right-requires
 number-right-requires c κs = search needs
@@ -35,15 +44,23 @@ returns : tie.Need-returns
 unfolding relayBytes
 returns c =
     let a = c .before .before .before .args in
-    refused-writes (relayJudged (routingResponse (a .number .0) (a .key .0))) (1 ∷ a .number .0 ∷ a .key .0) (a .out .now) _ (relay-response-number (a .number .0) (a .key .0) (key-long (c .before .before .before)) (sym (c .before .number-right .ensures) ∙ not-true _ (c .if1 .taken)))
+    record {
+      fits = fits (c .before .before .before);
+      writes =
+          refused-writes (relayJudged (routingResponse (a .number .0) (a .key .0))) (1 ∷ a .number .0 ∷ a .key .0) (a .out .now) _ (relay-response-number (a .number .0) (a .key .0) (key-long (c .before .before .before)) (sym (c .before .number-right .ensures) ∙ not-true _ (c .if1 .taken)));
+    }
 
 returns-2 : tie.Need-returns-2
 unfolding relayBytes
 returns-2 c =
     let a = c .before .before .before .before .args in
     let l = key-long (c .before .before .before .before) in
-    accepted-writes (relayJudged (routingResponse (a .number .0) (a .key .0))) (1 ∷ a .number .0 ∷ a .key .0) (a .out .now) _ _ _ (relay-response-judged (a .number .0) (a .key .0) l (sym (c .before .before .number-right .ensures) ∙ not-false _ (c .before .if1 .left)))
-    (puts-short (1 ∷ a .number .0 ∷ a .key .0) (a .out .now) (omega arith))
+    record {
+      fits = fits (c .before .before .before .before);
+      writes =
+          accepted-writes (relayJudged (routingResponse (a .number .0) (a .key .0))) (1 ∷ a .number .0 ∷ a .key .0) (a .out .now) _ _ _ (relay-response-judged (a .number .0) (a .key .0) l (sym (c .before .before .number-right .ensures) ∙ not-false _ (c .before .if1 .left)))
+          (puts-short (1 ∷ a .number .0 ∷ a .key .0) (a .out .now) (omega arith));
+    }
 
 slice-write-out : tie.Need-slice-write-out
 slice-write-out c = search needs
@@ -73,9 +90,13 @@ unfolding relayBytes
 returns-3 c =
     let a = c .before .before .before .before .before .before .before .before .args in
     let l = key-long (c .before .before .before .before .before .before .before .before) in
-    accepted-writes (relayJudged (routingResponse (a .number .0) (a .key .0))) (1 ∷ a .number .0 ∷ a .key .0) (a .out .now) _ _ _ (relay-response-judged (a .number .0) (a .key .0) l (sym (c .before .before .before .before .before .before .number-right .ensures) ∙ not-false _ (c .before .before .before .before .before .if1 .left)))
-    (puts-written (1 ∷ a .number .0 ∷ a .key .0) (a .out .now) _ 34 (omega arith) (omega arith)
-    (written (a .out .now) (c .before .before .write .last .1 .0) (a .key .0) 1 (a .number .0) (omega arith) (c .before .before .write .ensures)))
+    record {
+      fits = fits (c .before .before .before .before .before .before .before .before);
+      writes =
+          accepted-writes (relayJudged (routingResponse (a .number .0) (a .key .0))) (1 ∷ a .number .0 ∷ a .key .0) (a .out .now) _ _ _ (relay-response-judged (a .number .0) (a .key .0) l (sym (c .before .before .before .before .before .before .number-right .ensures) ∙ not-false _ (c .before .before .before .before .before .if1 .left)))
+          (puts-written (1 ∷ a .number .0 ∷ a .key .0) (a .out .now) _ 34 (omega arith) (omega arith)
+          (written (a .out .now) (c .before .before .write .last .1 .0) (a .key .0) 1 (a .number .0) (omega arith) (c .before .before .write .ensures)));
+    }
 
 pub routing-response-spec : {M : Type 1} → statement M
 routing-response-spec =

@@ -3,10 +3,10 @@ use borrow.Author.Needs.{needs}
 use mathlib.Core.Path.{sym, ap, _∙_}
 use native.Mathlib.Omega.{arith}
 use mathlib.Core.List.{_∷_, []}
-use Rattle.packet.specs.FromClient.{relayRead}
+use Rattle.packet.specs.FromClient.{relayRead, Within}
 use Rattle.packet.specs.FromRelay as relay
 use Rattle.packet.specs.declared.relay.RelayRead.the-variants.{Packet}
-use Rattle.packet.proofs.ReadBounds.{Within, read-within}
+use Rattle.packet.proofs.ReadBounds.{read-within}
 use Rattle.rules.specs.Outcome.{act, to}
 use Rattle.room.specs.Layout.{routesTable}
 use Rattle.room.specs.View.{viewRoom, viewRoutes}
@@ -59,7 +59,7 @@ unfolding Within
 out-of-band-requires c κs =
     let s = c .before .before .before .before .before .before .before .before .before in
     let a = s .args in
-    let e = shows-oob (relayRead (a .packet .now)) _ _ (c .before .before .key2 .result .0) (c .before .payload .result .now) (ap Packet (sym (c .before .before .before .before .enum-told3 .given .1)) ∙ s .pre .2) (c .before .before .key2 .ensures) (c .before .payload .ensures) in
+    let e = shows-oob (relayRead (a .packet .now)) _ _ (c .before .before .key2 .result .0) (c .before .payload .result .now) (ap Packet (sym (c .before .before .before .before .enum-told3 .given .1)) ∙ s .pre .2) (c .before .before .key2 .ensures) (c .before .payload .ensures .holds) in
     let h = read-within (a .packet .now) _ e in
     (s .pre .0, s .pre .3, h .0, h .1)
 
@@ -74,7 +74,7 @@ unfolding Within
 data-requires c κs =
     let s = c .before .before .before .before .before .before .before .before .before in
     let a = s .args in
-    let e = shows-data (relayRead (a .packet .now)) (c .before .before .before .before .shown3 .given .0 .0) _ (c .before .payload2 .result .now) (ap Packet (sym (c .before .before .before .before .shown3 .given .1)) ∙ s .pre .2) (c .before .payload2 .ensures) in
+    let e = shows-data (relayRead (a .packet .now)) (c .before .before .before .before .shown3 .given .0 .0) _ (c .before .payload2 .result .now) (ap Packet (sym (c .before .before .before .before .shown3 .given .1)) ∙ s .pre .2) (c .before .payload2 .ensures .holds) in
     let h = read-within (a .packet .now) _ e in
     (s .pre .0, s .pre .1, s .pre .3, h .0, h .1)
 
@@ -142,7 +142,7 @@ returns-5 c =
     let s = c .before .before .before .before .before .before .before .before .before .before .before .before in
     let a = s .args in
     let b = a .memory .now in
-    let e = shows-oob (relayRead (a .packet .now)) _ _ (c .before .before .before .before .before .key2 .result .0) (c .before .before .before .before .payload .result .now) (ap Packet (sym (c .before .before .before .before .before .before .before .enum-told3 .given .1)) ∙ s .pre .2) (c .before .before .before .before .before .key2 .ensures) (c .before .before .before .before .payload .ensures) in
+    let e = shows-oob (relayRead (a .packet .now)) _ _ (c .before .before .before .before .before .key2 .result .0) (c .before .before .before .before .payload .result .now) (ap Packet (sym (c .before .before .before .before .before .before .before .enum-told3 .given .1)) ∙ s .pre .2) (c .before .before .before .before .before .key2 .ensures) (c .before .before .before .before .payload .ensures .holds) in
     acted (a .seats) (a .numbers) (viewRoom (a .seats) (a .numbers) b) (a .seat .0) b (a .out .now) _ _ _ (a .key .0) (viewRoutes (a .numbers) (routesTable (a .seats) (a .numbers) b (a .seat .0))) (relayRead (a .packet .now)) _ e
     (c .before .before .out-of-band .ensures)
 
@@ -157,7 +157,7 @@ returns-6 c =
     let s = c .before .before .before .before .before .before .before .before .before .before .before .before in
     let a = s .args in
     let b = a .memory .now in
-    let e = shows-data (relayRead (a .packet .now)) (c .before .before .before .before .before .before .before .shown3 .given .0 .0) _ (c .before .before .before .before .payload2 .result .now) (ap Packet (sym (c .before .before .before .before .before .before .before .shown3 .given .1)) ∙ s .pre .2) (c .before .before .before .before .payload2 .ensures) in
+    let e = shows-data (relayRead (a .packet .now)) (c .before .before .before .before .before .before .before .shown3 .given .0 .0) _ (c .before .before .before .before .payload2 .result .now) (ap Packet (sym (c .before .before .before .before .before .before .before .shown3 .given .1)) ∙ s .pre .2) (c .before .before .before .before .payload2 .ensures .holds) in
     acted (a .seats) (a .numbers) (viewRoom (a .seats) (a .numbers) b) (a .seat .0) b (a .out .now) _ _ _ (a .key .0) (viewRoutes (a .numbers) (routesTable (a .seats) (a .numbers) b (a .seat .0))) (relayRead (a .packet .now)) _ e
     (c .before .before .«data» .ensures)
 

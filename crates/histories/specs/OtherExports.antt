@@ -1,0 +1,58 @@
+-- Every export that writes and is lent no room: what the host lends it, before and after. (`banavoge_same_key`, `banavoge_nearer`, `banavoge_nearest_bytes` and
+-- `banavoge_room_bytes` write nothing.)
+use mathlib.Core.Bool.{true}
+use mathlib.Core.List.{List}
+use mathlib.Core.Path.{_≡_}
+use Prim.Native.Nat.{ℕ}
+use lib.IntN.{ℤ}
+use lib.ListN.{drop}
+use Rattle.key.specs.declared.Key.{Key}
+use Rattle.packet.specs.FromClient.{FromClient, relayRead}
+use Rattle.packet.specs.FromRelay.{FromRelay, clientRead}
+use Rattle.packet.specs.RelayReads.{relayKey}
+use Rattle.packet.specs.ClientReads.{clientKey}
+use Rattle.packet.specs.Written.{ClientWrites, RelayWrites, BothWrite}
+use Rattle.node.specs.declared.Node.{Node}
+use Rattle.node.specs.Nodes.{readNode}
+use Rattle.node.specs.Steps.{stepOf}
+use Rattle.node.specs.Written.{WritesNode}
+use Rattle.nearest.specs.Lists.{sizeRight}
+use Rattle.lent_list.specs.Calls.{Begins, Offers, Removes, heldAt}
+use Rattle.banavoge.specs.Answers.{ToldAs, writtenCode}
+use Rattle.banavoge.specs.Fields.{Places, clientFields, relayFields, ReadsFields, ReadsKey}
+use Rattle.banavoge.specs.Nodes.{NodePlaces, nodeWrittenCode, ReadsNode, StepsNode}
+use Rattle.banavoge.specs.Nearest.{doneCode, keptCode, HeldPlaces, ShowsHeld}
+
+-- an output, a list or a key; the places of a reader, of a node, of a held node
+pub data Lending : Type 0 where
+  lentBytes : List ℕ → Lending
+  lentFields : Places → Lending
+  lentNode : NodePlaces → Lending
+  lentHeld : HeldPlaces → Lending
+
+-- an export's call: what it was lent, its answer, and what that is afterwards
+pub data OtherExport : Lending → ℤ → Lending → Type 0 where
+  relayReads : {answer : ℤ} {before after : Places} (packet : List ℕ) → ReadsFields clientFields (relayRead packet) answer before after
+      → OtherExport (lentFields before) answer (lentFields after)
+  clientReads : {answer : ℤ} {before after : Places} (packet : List ℕ) → ReadsFields relayFields (clientRead packet) answer before after
+      → OtherExport (lentFields before) answer (lentFields after)
+  relayKeys : {answer : ℤ} {before after : List ℕ} (packet : List ℕ) → ReadsKey clientFields relayKey (relayRead packet) answer before after
+      → OtherExport (lentBytes before) answer (lentBytes after)
+  clientKeys : {answer : ℤ} {before after : List ℕ} (packet : List ℕ) → ReadsKey relayFields clientKey (clientRead packet) answer before after
+      → OtherExport (lentBytes before) answer (lentBytes after)
+  clientWrites : {answer : ℤ} {out left : List ℕ} (p : FromClient) → ToldAs writtenCode (ClientWrites p out left) answer → OtherExport (lentBytes out) answer (lentBytes left)
+  relayWrites : {answer : ℤ} {out left : List ℕ} (p : FromRelay) → ToldAs writtenCode (RelayWrites p out left) answer → OtherExport (lentBytes out) answer (lentBytes left)
+  bothWrite : {answer : ℤ} {out left : List ℕ} (p : FromClient) (q : FromRelay) → ToldAs writtenCode (BothWrite p q out left) answer
+      → OtherExport (lentBytes out) answer (lentBytes left)
+  nodeReads : {answer : ℤ} {before after : NodePlaces} (list : List ℕ) (at : ℕ) → ReadsNode at (readNode (drop at list)) answer before after
+      → OtherExport (lentNode before) answer (lentNode after)
+  nodesStep : {answer : ℤ} {before after : NodePlaces} (list : List ℕ) (place count : ℕ) → StepsNode place (stepOf list place count) answer before after
+      → OtherExport (lentNode before) answer (lentNode after)
+  nodeWrites : {answer : ℤ} {out left : List ℕ} (n : Node) → ToldAs nodeWrittenCode (WritesNode n out left) answer → OtherExport (lentBytes out) answer (lentBytes left)
+  -- the one refusal that writes is left out: "A list begun with a bad size is refused, and what comes back is the empty list of size 8 for that target."
+  begins : {answer : ℤ} {memory left : List ℕ} (target : Key) (size : ℕ) → sizeRight size ≡ true → ToldAs doneCode (Begins target size memory left) answer
+      → OtherExport (lentBytes memory) answer (lentBytes left)
+  offers : {answer : ℤ} {memory left : List ℕ} (n : Node) → ToldAs keptCode (Offers n memory left) answer → OtherExport (lentBytes memory) answer (lentBytes left)
+  removes : {answer : ℤ} {memory left : List ℕ} (key : Key) → ToldAs doneCode (Removes key memory left) answer → OtherExport (lentBytes memory) answer (lentBytes left)
+  shows : {answer : ℤ} {before after : HeldPlaces} (memory : List ℕ) (index : ℕ) → ShowsHeld (heldAt memory index) answer before after
+      → OtherExport (lentHeld before) answer (lentHeld after)

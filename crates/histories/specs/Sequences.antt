@@ -1,0 +1,64 @@
+-- Calls that the host wants to make, and the chains and histories that are of exactly these calls.
+use mathlib.Core.List.{List, [], _∷_}
+use mathlib.Core.Path.{_≡_}
+use Prim.Native.Nat.{ℕ}
+use Rattle.rules.specs.Call.{Call, arrive, leave, packetCall, KeyOf32}
+use Rattle.rules.specs.History.{Event}
+use Rattle.histories.specs.Lent.{Lent, lentWith}
+use Rattle.histories.specs.History.{AnyChain, Chain, AnyCalls, History, callsOf}
+
+-- ---- the calls
+
+-- each arrival is by a key of 32 bytes
+abbrev pub KeysOf32 : List Call → Type 0
+KeysOf32 [] = Unit {0}
+KeysOf32 (call ∷ calls) = KeyOf32 call × KeysOf32 calls
+
+-- an Arrive is lent no output
+abbrev pub lentTo : Call → List ℕ → Lent
+lentTo (arrive key) out = lentWith (arrive key) []
+lentTo (leave seat) out = lentWith (leave seat) out
+lentTo (packetCall seat bytes) out = lentWith (packetCall seat bytes) out
+
+-- a call, and the output that the host has for it
+pub record CallMade : Type 0 where
+  pub call : Call
+  pub out : List ℕ
+
+unfoldable pub lentsTo : List CallMade → List Lent
+lentsTo [] = []
+lentsTo (m ∷ made) = lentTo (m .call) (m .out) ∷ lentsTo made
+
+unfoldable pub callsMade : List CallMade → List Call
+callsMade [] = []
+callsMade (m ∷ made) = m .call ∷ callsMade made
+
+-- ---- chains and histories of these calls
+
+-- a chain with these calls and outputs
+pub record AnyChainOf (s n : ℕ) (b : List ℕ) (made : List CallMade) : Type 0 where
+  pub events : List Event
+  pub left : List ℕ
+  pub chain : AnyChain s n b (lentsTo made) events left
+  pub are : callsOf events ≡ callsMade made
+
+-- a chain with these calls
+pub record ChainOf (s n : ℕ) (b : List ℕ) (calls : List Call) : Type 0 where
+  pub events : List Event
+  pub left : List ℕ
+  pub chain : Chain s n b events left
+  pub are : callsOf events ≡ calls
+
+-- any calls from the empty room, these with these outputs
+pub record AnyCallsOf (s n : ℕ) (made : List CallMade) : Type 0 where
+  pub events : List Event
+  pub left : List ℕ
+  pub calls : AnyCalls s n (lentsTo made) events left
+  pub are : callsOf events ≡ callsMade made
+
+-- a history with these calls
+pub record HistoryOf (s n : ℕ) (calls : List Call) : Type 0 where
+  pub events : List Event
+  pub left : List ℕ
+  pub history : History s n events left
+  pub are : callsOf events ≡ calls

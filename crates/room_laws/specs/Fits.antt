@@ -1,0 +1,21 @@
+-- Changes that fit a room: those that the relay stores. A change fits when it takes an empty seat for a key that has none, empties a seat that holds a key,
+-- gives a free route of such a seat to a key that it does not want yet, or frees one that wants a key. So document 01's "seated keys differ, the wanted keys of
+-- one seat differ" go on holding.
+use mathlib.Core.List.{List, [], _∷_}
+use mathlib.Core.Path.{_≡_}
+use Prim.Native.Nat.{ℕ, _<_}
+use lib.ListN.{length, getD}
+use Rattle.rules.specs.Room.{sizesOf, Key, Route, free, wants, vacant, holds, Room, none, find, seatOf, routeTo, seatAt}
+use Rattle.rules.specs.Outcome.{Change, seatTaken, seatEmptied, routeGiven, routeFreed, apply}
+
+pub data Fit (s n : ℕ) (room : Room) : Change → Type 0 where
+  takes : {i : ℕ} {key : Key} → i < s → seatAt room i ≡ vacant → find (seatOf key) room ≡ none → length key ≡ 32 → Fit s n room (seatTaken i key)
+  empties : {i : ℕ} {key : Key} {routes : List Route} → seatAt room i ≡ holds key routes → Fit s n room (seatEmptied i)
+  gives : {i j : ℕ} {key k : Key} {routes : List Route} → seatAt room i ≡ holds k routes → j < n → getD routes j free ≡ free
+      → find (routeTo key) routes ≡ none → length key ≡ 32 → Fit s n room (routeGiven i j key)
+  frees : {i j : ℕ} {k w : Key} {routes : List Route} → seatAt room i ≡ holds k routes → getD routes j free ≡ wants w → Fit s n room (routeFreed i j)
+
+-- each fits the room that those before it leave
+abbrev pub FitAll : ℕ → ℕ → Room → List Change → Type 0
+FitAll s n room [] = Unit {0}
+FitAll s n room (change ∷ changes) = Fit s n room change × FitAll s n (apply (sizesOf s n) room change) changes

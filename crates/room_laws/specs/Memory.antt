@@ -1,0 +1,28 @@
+-- Bytes that are a room, as `room` reads them: whole, and as long as a room of s seats with n numbers each is.
+use mathlib.Core.Bool.{true}
+use mathlib.Core.List.{List}
+use mathlib.Core.Path.{_≡_}
+use Prim.Native.Nat.{ℕ}
+use lib.ListN.{length, getD}
+use Rattle.wire.specs.Numbers.{Bytes}
+use Rattle.rules.specs.Room.{Key, Route, free, wants, holds, Room, seatAt}
+use Rattle.room.specs.Layout.{roomBytes}
+use Rattle.room.specs.View.{viewRoom}
+use Rattle.room.specs.Whole.{roomWhole}
+
+-- what each key of a room, seated or wanted, is
+pub record KeysAre (K : Key → Type 0) (room : Room) : Type 0 where
+  pub seated : (i : ℕ) (key : Key) (routes : List Route) → seatAt room i ≡ holds key routes → K key
+  pub wanted : (i : ℕ) (key : Key) (routes : List Route) → seatAt room i ≡ holds key routes → (j : ℕ) (other : Key) → getD routes j free ≡ wants other → K other
+
+-- bytes that are a room
+pub record HasBytes (s n : ℕ) (room : Room) : Type 0 where
+  pub bytes : List ℕ
+  pub long : length bytes ≡ roomBytes s n
+  pub whole : roomWhole s n bytes ≡ true
+  pub is : viewRoom s n bytes ≡ room
+
+-- and each is a byte
+pub record HasMemory (s n : ℕ) (room : Room) : Type 0 where
+  pub has : HasBytes s n room
+  pub each : Bytes (has .bytes)
