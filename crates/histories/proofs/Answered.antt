@@ -4,7 +4,7 @@ use mathlib.Core.Path.{_≡_, refl, sym, ap, _∙_}
 use mathlib.Core.List.{List, []}
 use Prim.Native.Nat.{ℕ, zero, suc, _≤_}
 use native.Mathlib.Omega.{arith}
-use lib.IntN.{pos, negℤ}
+use lib.IntN.{pos, negsuc, negℤ}
 use lib.ListN.{length}
 use Rattle.refusal.specs.declared.Refusal.{Refusal}
 use Rattle.refusal.specs.Numbers.{refusalNumber, refusalOf}
@@ -17,14 +17,29 @@ use Rattle.banavoge.specs.Answers.{refusalCode}
 use Rattle.banavoge.specs.RelayCalls.{seatCode, countCode}
 use Rattle.histories.specs.Seen.{acceptedWith, answered}
 
--- a refusal's number
-pub refusal-answered : (call : Call) (why : Refusal) → answered call (refusalCode why) ≡ refused why
-unfolding answered refusalCode
-refusal-answered call why = below (refusalNumber why) (looked-up why .positive) ∙ ap refused (looked-up why .found)
+-- the number that a refusal is answered by is below 0: minus its own
+pub record BelowZero (why : Refusal) : Type 0 where
+  pub less : ℕ
+  pub is : refusalCode why ≡ negsuc less
+  pub number : refusalNumber why ≡ suc less
+
+pub below-zero : (why : Refusal) → BelowZero why
+unfolding refusalCode
+below-zero why = go (refusalNumber why) refl (looked-up why .positive)
   where
-    below : (k : ℕ) → 1 ≤ k → answered call (negℤ (pos k)) ≡ refused (refusalOf k)
-    below zero h = absurd (omega arith)
-    below (suc k) h = refl
+    go : (k : ℕ) → refusalNumber why ≡ k → 1 ≤ k → BelowZero why
+    go zero e h = absurd (omega arith)
+    go (suc k) e h = record { less = k; is = ap (λ (n : ℕ). negℤ (pos n)) e; number = e }
+
+-- so it is the number of no answer
+pub below-not : (why : Refusal) (n : ℕ) → refusalCode why ≡ pos n → ⊥
+below-not why n e = let b = below-zero why .is in let z : _≡_ {A = ℕ} 0 1 = cc in omega arith
+
+-- and tells the refusal
+pub refusal-answered : (call : Call) (why : Refusal) → answered call (refusalCode why) ≡ refused why
+unfolding answered
+refusal-answered call why =
+    let b = below-zero why in ap (answered call) (b .is) ∙ ap (λ (k : ℕ). refused (refusalOf k)) (sym (b .number)) ∙ ap refused (looked-up why .found)
 
 -- an Arrive's number: it wrote nothing
 pub seat-answered : (key : Key) (o : Outcome) → RefusedOrAccepted o → o .sent ≡ [] → answered (arrive key) (seatCode (o .answer)) ≡ o .answer

@@ -8,13 +8,10 @@ use mathlib.Core.Logic.{inl, inr}
 use Prim.Native.Nat.{ℕ, zero, suc, _≤_, _<_}
 use native.Mathlib.Omega.{arith}
 use lib.Dec.{leb}
-use lib.IntN.{ℤ, pos, negsuc, negℤ}
+use lib.IntN.{ℤ, pos, negsuc}
 use lib.ListN.{length, getD}
 use borrow.Author.Tests.{le-leb, lt-leb, leb-true}
-use Rattle.refusal.specs.declared.Refusal.{Refusal}
 use Rattle.refusal.specs.declared.Refusal.the-variants.{ListSize, KeyNotHeld, ListNotWhole, UnknownFamily}
-use Rattle.refusal.specs.Numbers.{refusalNumber}
-use Rattle.refusal.proofs.LookedUp.{looked-up}
 use Rattle.key.specs.declared.Key.{Key}
 use Rattle.key.specs.Keys.{IsKey}
 use Rattle.node.specs.declared.Node.{Node}
@@ -34,6 +31,7 @@ use Rattle.nearest.specs.Sequence.{offers, refusedOffer, accepted, In, Nearest,
 use Rattle.nearest.specs.Sequence as reached
 use Rattle.nearest.proofs.Judge.{size-bounds, bounds-size, whole}
 use Rattle.nearest.proofs.Holding.{held-length}
+use Rattle.nearest.proofs.ListOf.{begun-bad}
 use Rattle.nearest.proofs.KNearest.{offers-hold-nearest}
 use Rattle.nearest.proofs.Kept.{reached-whole}
 use Rattle.lent_list.specs.declared.Held.the-variants as found
@@ -49,24 +47,9 @@ use Rattle.banavoge.specs.Nearest.{doneCode, keptCode, heldCode, HeldPlaces, he
 use Rattle.banavoge.specs.Nearest as told
 use Rattle.histories.specs.ListHistory.{ListCall, offering, removing, reading, ListEvent, listEvent, noHeld, ListStep, ListChain, none, next, ListBegun, ofSize, ofBadSize, ListHistory, listCalls, listAfter, eventOf, listEvents, listAfterAll, ListSteps, NeverBroken, TakesNothingOut, NothingRemoved, offeredBy, offeredIn, ReadsBack, HoldsNearest}
 use Rattle.histories.specs.ListHistory as list
+use Rattle.histories.proofs.Answered.{below-zero, below-not}
 
 -- ---- numbers
-
--- a refusal's number is below 0
-record Below (z : ℤ) : Type 0 where
-  less : ℕ
-  is : z ≡ negsuc less
-
-below-zero : (why : Refusal) → Below (refusalCode why)
-unfolding refusalCode
-below-zero why = go (refusalNumber why) (looked-up why .positive)
-  where
-    go : (k : ℕ) → 1 ≤ k → Below (negℤ (pos k))
-    go zero h = absurd (omega arith)
-    go (suc k) h = record { less = k; is = refl }
-
-pub below-not : (why : Refusal) (n : ℕ) → refusalCode why ≡ pos n → ⊥
-below-not why n e = let b = below-zero why .is in let z : _≡_ {A = ℕ} 0 1 = cc in omega arith
 
 -- a number that is neither minus 12 nor minus 14
 abbrev Unbroken : ℤ → Type 0
@@ -137,10 +120,6 @@ module _ (target : Key) (size : ℕ) where
   unfolding begun
   begun-list e = simp e
 
-  pub begun-empty-of-8 : sizeRight size ≡ false → begun target size .list ≡ emptyOf target 8
-  unfolding begun
-  begun-empty-of-8 e = simp e
-
 -- of the size asked for
 asked-begins : (target : Key) (size : ℕ) (memory m : List ℕ) (a : Answer) → Begins target size memory m a → pos 0 ≡ doneCode a → Sized target size m
 unfolding doneCode
@@ -171,7 +150,7 @@ bad-begins target size memory m a h b z = go (sizeRight size) refl
           key = b .key;
           stands =
               stored-holds memory m (begun target 8 .list) h (begin-storable target 8 (b .key)) reached.begins
-              (b .leaves ∙ ap (λ (l : NearestList). stored l memory) (begun-empty-of-8 target size e ∙ sym (begun-list target 8 (bounds-size 8 (omega arith) (omega arith)))));
+              (b .leaves ∙ ap (λ (x : Begun). stored (x .list) memory) (begun-bad target size e));
         }
 
 begin-sized : {target : Key} {size : ℕ} {m : List ℕ} → ListBegun target size m → Sized target size m

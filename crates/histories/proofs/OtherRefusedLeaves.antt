@@ -5,6 +5,7 @@ use mathlib.Core.Path.{_≡_, refl, ap, subst, _∙_}
 use mathlib.Core.Bool.{Bool, true, false}
 use mathlib.Core.List.{List}
 use Prim.Native.Nat.{ℕ}
+use native.Mathlib.Omega.{arith}
 use lib.Dec.{leb}
 use lib.IntN.{ℤ}
 use lib.ListN.{length}
@@ -15,18 +16,23 @@ use Rattle.packet.specs.Read as packet
 use Rattle.packet.specs.FromClient as client
 use Rattle.packet.specs.FromRelay as relay
 use Rattle.packet.specs.Written as packets
+use Rattle.node.specs.declared.Node.{Node}
 use Rattle.node.specs.declared.writer.Written as node-written
 use Rattle.node.specs.Families.{knownFamily}
 use Rattle.node.specs.Nodes as nodes
 use Rattle.node.specs.Values.{infoOf}
 use Rattle.node.specs.Steps as steps
 use Rattle.node.specs.Written as node-writes
+use Rattle.nearest.specs.declared.NearestList.{NearestList}
+use Rattle.nearest.specs.declared.Begun.{Begun}
 use Rattle.nearest.specs.declared.Answer.{Answer}
 use Rattle.nearest.specs.declared.Answer.the-variants as answer
 use Rattle.nearest.specs.declared.OfferAnswer.{OfferAnswer}
 use Rattle.nearest.specs.declared.OfferAnswer.the-variants as offer
 use Rattle.nearest.specs.Lists.{emptyOf, sizeRight}
 use Rattle.nearest.specs.Calls.{begun}
+use Rattle.nearest.proofs.Judge.{bounds-size}
+use Rattle.nearest.proofs.ListOf.{begun-bad}
 use Rattle.lent_list.specs.declared.Held.{Held}
 use Rattle.lent_list.specs.declared.Held.the-variants as found
 use Rattle.lent_list.specs.Layout.{stored}
@@ -39,7 +45,7 @@ use Rattle.banavoge.specs.Nodes.{NodePlaces, nodeCode, nodeAfter, ReadsNode, st
 use Rattle.banavoge.specs.Nearest.{doneCode, keptCode, heldCode, HeldPlaces, heldAfter}
 use Rattle.histories.specs.ExportedCalls.{Below0}
 use Rattle.histories.specs.OtherExports.{Lending, lentBytes, lentFields, lentNode, lentHeld, OtherExport, relayReads, clientReads, relayKeys, clientKeys, clientWrites, relayWrites, bothWrite, nodeReads, nodesStep, nodeWrites, begins, offers, removes, shows}
-use Rattle.histories.proofs.ListHistories.{begun-answer, begun-empty-of-8}
+use Rattle.histories.proofs.ListHistories.{begun-answer, begun-list}
 
 -- ---- readers
 
@@ -65,7 +71,7 @@ step-leaves place (steps.shows n) z before after c below = absurd (subst Below0 
 step-leaves place steps.ends z before after c below = c .leaves
 step-leaves place (steps.refuses why) z before after c below = c .leaves
 
-held-leaves : (shown : Held) (n : _) (z : ℤ) (before after : HeldPlaces) → z ≡ heldCode shown → after ≡ heldAfter shown n before → Below0 z → after ≡ before
+held-leaves : (shown : Held) (n : Node) (z : ℤ) (before after : HeldPlaces) → z ≡ heldCode shown → after ≡ heldAfter shown n before → Below0 z → after ≡ before
 unfolding heldCode heldAfter
 held-leaves found.Node n z before after a l below = absurd (subst Below0 a below)
 held-leaves found.Nothing n z before after a l below = l
@@ -107,7 +113,7 @@ begin-leaves target size memory left a right b below = go (leb 850 (length memor
         absurd (subst (λ (x : Answer). Below0 (doneCode x)) done below)
     go false e = b .leaves ∙ (unfold stored in simp e)
 
-offer-leaves : (n : _) (memory left : List ℕ) (a : OfferAnswer) → Offers n memory left a → Below0 (keptCode a) → left ≡ memory
+offer-leaves : (n : Node) (memory left : List ℕ) (a : OfferAnswer) → Offers n memory left a → Below0 (keptCode a) → left ≡ memory
 unfolding keptCode
 offer-leaves n memory left offer.Kept o below = absurd below
 offer-leaves n memory left offer.NotKept o below = absurd below
@@ -123,8 +129,11 @@ pub bad-size-leaves : (target : Key) (size : ℕ) (memory left : List ℕ) (z : 
     → (z ≡ refusalCode ListSize) × (left ≡ stored (emptyOf target 8) memory)
 unfolding doneCode
 bad-size-leaves target size memory left z bad c =
-    let a : c .given ≡ answer.Refused ListSize = c .relates .answers ∙ begun-answer target size memory ∙ simp bad in
-    (c .codes ∙ ap doneCode a, c .relates .leaves ∙ ap (λ (l : _). stored l memory) (begun-empty-of-8 target size bad))
+    let a : c .given ≡ answer.Refused ListSize = c .relates .answers ∙ begun-answer target size memory ∙ simp bad in (
+      c .codes ∙ ap doneCode a,
+      c .relates .leaves ∙ ap (λ (x : Begun). stored (x .list) memory) (begun-bad target size bad)
+          ∙ ap (λ (l : NearestList). stored l memory) (begun-list target 8 (bounds-size 8 (omega arith) (omega arith))),
+    )
 
 -- ---- every export
 

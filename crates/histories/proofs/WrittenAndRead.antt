@@ -40,7 +40,7 @@ use Rattle.banavoge.specs.Answers.{writtenCode, OfBytes, ToldAs}
 use Rattle.banavoge.specs.Fields.{Places, placesOf, clientFields, relayFields, readCode, placesAfter, keyAfter}
 use Rattle.banavoge.specs.Nodes.{NodePlaces, nodePlacesOf, nodeGiven, nodeCode, nodeAfter, ReadsNode, stepCode, stepAfter, StepsNode, nodeWrittenCode}
 use Rattle.histories.specs.WrittenAndRead.{kindTold, payloadAt, clientTold, relayTold, Tells, RelayTells, ClientTells, ClientWriting, RelayWriting, Makes, WrittenBack, NodeTold, NodeTells, NodeMakes}
-use Rattle.histories.proofs.ListHistories.{below-not}
+use Rattle.histories.proofs.Answered.{below-not}
 
 -- ---- either end
 
