@@ -3,23 +3,25 @@ use mathlib.Core.Path.{_≡_, refl, subst}
 use mathlib.Core.Bool.{Bool, true, false, cond}
 use mathlib.Core.List.{List}
 use Prim.Native.Nat.{ℕ, _≤_}
+use native.Mathlib.Omega.{arith}
 use lib.ListN.{length}
 use Rattle.refusal.specs.declared.Refusal.the-variants.{RoomNotWhole}
-use Rattle.rules.specs.Call.{Call, Answer}
+use Rattle.rules.specs.Call.{Call, mostNeeded, Answer}
 use Rattle.rules.specs.Outcome.{Outcome, refuse, accept, sentBytes, outcome}
 use Rattle.rules.specs.Accepted.{RefusedOrAccepted, refusal, acceptance}
 use Rattle.rules.proofs.RefusedOrAccepted.{outcome-made}
-use Rattle.room.specs.declared.layout.Seat as seats
+use Rattle.rules.proofs.WithinOutput.{needs-within}
+use Rattle.seat.specs.declared.Seat as seats
 use Rattle.room.specs.View.{viewRoom}
 use Rattle.room.specs.Whole.{roomWhole}
 use Rattle.room_laws.proofs.OutcomeLaws.{outcome-within}
-use Rattle.relay.specs.declared.answer.Answer as code
+use Rattle.records.specs.declared.answer.Answer as code
 use Rattle.relay.specs.Calls.{answerOf, Leaves, tested, withOutput}
 use Rattle.relay.proofs.CallsLaws.{by-length}
 use Rattle.banavoge.specs.RelayCalls.{CallCounted}
 
 -- an answer counts the bytes sent
-counted : (o : Outcome) → RefusedOrAccepted o → length (sentBytes (o .sent)) ≤ 2048 → CallCounted (o .answer)
+counted : (o : Outcome) → RefusedOrAccepted o → length (sentBytes (o .sent)) ≤ mostNeeded → CallCounted (o .answer)
 unfolding refuse accept CallCounted
 counted o (refusal why e) h = rw e tt
 counted o (acceptance seat changes sent e) h = rw e (rw e at h)
@@ -30,7 +32,7 @@ module _ (b : List ℕ) (call : Call) where
   tested-counted = go (roomWhole 40 32 b) refl
     where
       go : (t : Bool) → roomWhole 40 32 b ≡ t → CallCounted (cond t (outcome (viewRoom 40 32 b) call) (refuse RoomNotWhole) .answer)
-      go true e = counted (outcome (viewRoom 40 32 b) call) (outcome-made (viewRoom 40 32 b) call) (outcome-within 40 32 b e call)
+      go true e = counted (outcome (viewRoom 40 32 b) call) (outcome-made (viewRoom 40 32 b) call) (omega (arith, outcome-within 40 32 b e call, needs-within call))
       go false e = tt
 
   with-counted : (out : List ℕ) → CallCounted (withOutput 40 32 b out call .answer)
@@ -41,6 +43,6 @@ module _ (b : List ℕ) (call : Call) where
   call-counted out given b′ out′ w = rw (w .answers) (with-counted out)
 
 -- the same of an answer of the code
-pub given-small : (g : code.Answer) (seat : seats.Seat) (bytes : ℕ) → CallCounted (answerOf g) → g ≡ code.the-variants.Accepted seat bytes → bytes ≤ 2048
+pub given-small : (g : code.Answer) (seat : seats.Seat) (bytes : ℕ) → CallCounted (answerOf g) → g ≡ code.the-variants.Accepted seat bytes → bytes ≤ mostNeeded
 unfolding CallCounted answerOf
 given-small g seat bytes c e = subst (λ (x : code.Answer). CallCounted (answerOf x)) e c

@@ -7,6 +7,7 @@ use lib.IntN.{ℤ, pos}
 use Rattle.banavoge.specs.declared.readers.Fields.{Fields}
 use Rattle.packet.specs.declared.relay.ClientPacket as shown-client
 use Rattle.packet.specs.declared.client.RelayPacket as shown-relay
+use Rattle.packet.specs.Table.{firstNumber, kindAndKey}
 use Rattle.packet.specs.Read.{Read, packet, refused}
 use Rattle.packet.specs.FromClient as client
 use Rattle.packet.specs.FromRelay as relay
@@ -21,8 +22,8 @@ clientFields (client.routingRequest key) = fields 0 0 0 0 0
 clientFields (client.dropRoute number) = fields 3 number 0 0 0
 clientFields (client.ping n) = fields 4 0 n 0 0
 clientFields (client.pong n) = fields 5 0 n 0 0
-clientFields (client.oobSend key bytes) = fields 6 0 0 33 (lib.ListN.length bytes)
-clientFields (client.routedData number bytes) = fields 16 number 0 1 (lib.ListN.length bytes)
+clientFields (client.oobSend key bytes) = fields 6 0 0 kindAndKey (lib.ListN.length bytes)
+clientFields (client.routedData number bytes) = fields firstNumber number 0 1 (lib.ListN.length bytes)
 
 unfoldable pub relayFields : relay.FromRelay → Fields
 relayFields (relay.routingResponse number key) = fields 1 number 0 0 0
@@ -30,8 +31,8 @@ relayFields (relay.connectNotice number) = fields 2 number 0 0 0
 relayFields (relay.disconnectNotice number) = fields 3 number 0 0 0
 relayFields (relay.ping n) = fields 4 0 n 0 0
 relayFields (relay.pong n) = fields 5 0 n 0 0
-relayFields (relay.oobReceived key bytes) = fields 7 0 0 33 (lib.ListN.length bytes)
-relayFields (relay.routedData number bytes) = fields 16 number 0 1 (lib.ListN.length bytes)
+relayFields (relay.oobReceived key bytes) = fields 7 0 0 kindAndKey (lib.ListN.length bytes)
+relayFields (relay.routedData number bytes) = fields firstNumber number 0 1 (lib.ListN.length bytes)
 
 -- the same of the readers' answers
 unfoldable pub clientShown : shown-client.ClientPacket → Fields
@@ -40,7 +41,7 @@ clientShown (shown-client.the-variants.DropRoute number) = fields 3 (number .0) 
 clientShown (shown-client.the-variants.Ping n) = fields 4 0 n 0 0
 clientShown (shown-client.the-variants.Pong n) = fields 5 0 n 0 0
 clientShown (shown-client.the-variants.OobSend key part) = fields 6 0 0 (part .start) (part .length)
-clientShown (shown-client.the-variants.Data number part) = fields 16 (number .0) 0 (part .start) (part .length)
+clientShown (shown-client.the-variants.Data number part) = fields firstNumber (number .0) 0 (part .start) (part .length)
 
 unfoldable pub relayShown : shown-relay.RelayPacket → Fields
 relayShown (shown-relay.the-variants.RoutingResponse number key) = fields 1 (number .0) 0 0 0
@@ -49,7 +50,7 @@ relayShown (shown-relay.the-variants.DisconnectNotification number) = fields 3 (
 relayShown (shown-relay.the-variants.Ping n) = fields 4 0 n 0 0
 relayShown (shown-relay.the-variants.Pong n) = fields 5 0 n 0 0
 relayShown (shown-relay.the-variants.OobReceived key part) = fields 7 0 0 (part .start) (part .length)
-relayShown (shown-relay.the-variants.Data number part) = fields 16 (number .0) 0 (part .start) (part .length)
+relayShown (shown-relay.the-variants.Data number part) = fields firstNumber (number .0) 0 (part .start) (part .length)
 
 -- what the four references refer to
 pub record Places : Type 0 where

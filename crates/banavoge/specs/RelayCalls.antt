@@ -17,5 +17,5 @@ countCode (rules.refused why) = refusalCode why
 
 -- a count that a call can have: no call writes more than document 01 asks of lent output, "under 2,048 for packet and leave"
 unfoldable pub CallCounted : rules.Answer → Type 0
-CallCounted (rules.accepted seat bytes) = bytes ≤ 2048
+CallCounted (rules.accepted seat bytes) = bytes ≤ rules.mostNeeded
 CallCounted (rules.refused why) = Unit {0}

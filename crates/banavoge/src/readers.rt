@@ -8,6 +8,7 @@ ghost use Rattle.packet.specs.ClientReads.{clientKey};
 ghost use Rattle.banavoge.specs.Answers.{OfBytes};
 ghost use Rattle.banavoge.specs.Fields.{fields, places, placesOf, clientShown, relayShown, clientFields, relayFields, ReadsFields, ReadsKey};
 use crate::answer;
+use packet::ConnectionNumber;
 use packet::client;
 use packet::client::ClientRead;
 use packet::client::RelayPacket;
@@ -78,7 +79,7 @@ fn of_client(packet: ClientPacket) -> Fields
             payload.length,
         ),
         ClientPacket::Data(number, payload) => Fields::carrying(
-            16,
+            ConnectionNumber::FIRST,
             number.0,
             payload.start,
             payload.length,
@@ -103,7 +104,7 @@ fn of_relay(packet: RelayPacket) -> Fields
             payload.length,
         ),
         RelayPacket::Data(number, payload) => Fields::carrying(
-            16,
+            ConnectionNumber::FIRST,
             number.0,
             payload.start,
             payload.length,
@@ -170,7 +171,7 @@ pub extern "C" fn banavoge_relay_key(packet: &[u8], key: &mut [u8; 32]) -> i32
 {
     match relay_end::read(packet) {
         RelayRead::Packet(shown) => {
-            let found = relay_end::key(packet);
+            let found = relay_end::key(packet, shown);
             let bytes = found.0;
             *key = bytes;
             of_client(shown).kind as i32
@@ -186,7 +187,7 @@ pub extern "C" fn banavoge_client_key(packet: &[u8], key: &mut [u8; 32]) -> i32
 {
     match client::read(packet) {
         ClientRead::Packet(shown) => {
-            let found = client::key(packet);
+            let found = client::key(packet, shown);
             let bytes = found.0;
             *key = bytes;
             of_relay(shown).kind as i32

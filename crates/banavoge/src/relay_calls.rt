@@ -9,7 +9,7 @@ use crate::answer;
 use key::Key;
 use relay::Answer;
 use relay::calls;
-use room::Seat;
+use seat::Seat;
 
 // The seat of an accepted call, or minus the refusal's number.
 fn seat_of(given: Answer) -> i32

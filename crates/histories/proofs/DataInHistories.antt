@@ -11,14 +11,14 @@ use lib.IntN.{ℤ}
 use lib.ListN.{length}
 use Rattle.packet.specs.Read as read
 use Rattle.packet.specs.FromClient as client
-use Rattle.rules.specs.Call.{Call, packetCall}
+use Rattle.rules.specs.Call.{Call, packetCall, mostNeeded}
 use Rattle.rules.specs.History.{Event, event}
 use Rattle.rules.specs.Transcript.{fromEmpty}
 use Rattle.rules.specs.After.{pastAfter}
 use Rattle.rules.specs.GoesOn.{DataGoesOn}
 use Rattle.rules.specs.Room.{sizesOf}
 use Rattle.rules.proofs.DataGoesOn.{data-goes-on, data-goes-on-from-empty}
-use Rattle.relay.specs.Calls.{leastOutput, Sends}
+use Rattle.relay.specs.Calls.{Sends}
 use Rattle.banavoge.specs.Answers.{ToldAs}
 use Rattle.banavoge.specs.RelayCalls.{countCode}
 use Rattle.histories.specs.Seen.{seenAs, seen}
@@ -28,7 +28,7 @@ use Rattle.histories.proofs.Histories.{after-calls, history-event}
 
 pub data-after-calls : (s n : ℕ) (lents : List Lent) (events : List Event) (b : List ℕ) → AnyCalls s n lents events b
     → (seat number : ℕ) (bytes payload : List ℕ) → client.relayRead bytes ≡ read.packet (client.routedData number payload)
-    → (out b′ out′ : List ℕ) (answer : ℤ) → leastOutput ≤ length out → ToldAs countCode (Sends s n seat bytes b out b′ out′) answer
+    → (out b′ out′ : List ℕ) (answer : ℤ) → mostNeeded ≤ length out → ToldAs countCode (Sends s n seat bytes b out b′ out′) answer
     → DataGoesOn fromEmpty (pastAfter [] events) seat number payload (seen (packetCall seat bytes) answer out′)
 unfolding seen seenAs event
 data-after-calls s n lents events b h seat number bytes payload r out b′ out′ answer long sent =

@@ -9,7 +9,7 @@ use native.Mathlib.Omega.{arith}
 use lib.ListN.{length, drop}
 use Rattle.refusal.specs.declared.Refusal.the-variants.{RoomNotWhole}
 use Rattle.rules.specs.Room.{Key}
-use Rattle.rules.specs.Call.{Call, arrive, leave, packetCall, Sent, KeyOf32}
+use Rattle.rules.specs.Call.{Call, arrive, leave, packetCall, Sent, KeyOf32, mostNeeded, needed}
 use Rattle.rules.specs.Outcome.{Outcome, refuse, sentBytes, outcome}
 use Rattle.rules.specs.History.{Event}
 use Rattle.rules.proofs.QuietArrival.{arrive-sends-nothing}
@@ -17,7 +17,7 @@ use Rattle.room.specs.Layout.{fitsRoom}
 use Rattle.room.specs.View.{viewRoom}
 use Rattle.room.specs.Whole.{roomWhole}
 use Rattle.room.specs.Store.{storeAll, emptied}
-use Rattle.relay.specs.Calls.{Leaves, leastOutput, tested, needed, ifLong, withOutput}
+use Rattle.relay.specs.Calls.{Leaves, tested, ifLong, withOutput}
 use Rattle.banavoge.specs.Rooms.{doneOr}
 use Rattle.banavoge.specs.RelayCalls.{seatCode, countCode}
 use Rattle.histories.specs.Seen.{seenAs, seen}
@@ -118,7 +118,7 @@ module _ (out : List ℕ) where
   calls-with [] = refl
   calls-with (call ∷ calls) = ap (λ (l : List Call). call ∷ l) (calls-with calls)
 
-  module _ (long : leastOutput ≤ length out) where
+  module _ (long : mostNeeded ≤ length out) where
     long-lent : (call : Call) → needed (lentTo call out .call) ≤ lentTo call out .space
     long-lent (arrive key) = omega arith
     long-lent (leave seat) = long
@@ -155,7 +155,7 @@ every-calls s n memory fits made k =
     let c = every-call-made s n (emptied s n memory) made k in
     record { events = c .events; left = c .left; calls = record { room = emptied s n memory; begun = fits-begins s n memory fits; chain = c .chain }; are = c .are }
 
-pub every-sequence : (s n : ℕ) (memory : List ℕ) → fitsRoom s n memory ≡ true → (out : List ℕ) → leastOutput ≤ length out
+pub every-sequence : (s n : ℕ) (memory : List ℕ) → fitsRoom s n memory ≡ true → (out : List ℕ) → mostNeeded ≤ length out
     → (calls : List Call) → KeysOf32 calls → HistoryOf s n calls
 every-sequence s n memory fits out long calls k =
     let c = every-chain out long s n (emptied s n memory) calls k in

@@ -14,7 +14,7 @@ use lib.ListN.{length, drop}
 use Rattle.refusal.specs.declared.Refusal.the-variants.{OutputTooShort}
 use Rattle.rules.specs.Room.{Sizes, baseSizes, Key, Room, emptyRoom, sizesOf}
 use Rattle.rules.specs.Whole.{Whole}
-use Rattle.rules.specs.Call.{Call, arrive, leave, packetCall, Answer, accepted, KeyOf32}
+use Rattle.rules.specs.Call.{Call, arrive, leave, packetCall, Answer, accepted, KeyOf32, needed}
 use Rattle.rules.specs.Outcome.{Outcome, refuse, sentBytes, outcome, roomAfter}
 use Rattle.rules.specs.History.{Event, event, transcript}
 use Rattle.rules.specs.Transcript.{Past, Start, fromEmpty}
@@ -29,7 +29,8 @@ use Rattle.room.specs.Whole.{roomWhole}
 use Rattle.room.specs.Store.{storeAll, emptied, MakesEmpty}
 use Rattle.room_laws.proofs.WholeLaws.{whole-view}
 use Rattle.room_laws.proofs.EmptyLaws.{empty-whole, empty-view}
-use Rattle.relay.specs.Calls.{written, Leaves, tested, needed, withOutput, Arrives, Departs, Sends}
+use Rattle.relay.specs.Calls.{written, Leaves, tested, withOutput, Arrives, Departs, Sends}
+use Rattle.records.proofs.RoundTrips.{all-short}
 use Rattle.relay.proofs.OutcomeLeaves.{made-written}
 use Rattle.relay.proofs.CallsLaws.{by-call}
 use Rattle.banavoge.specs.Answers.{refusalCode, ToldAs}
@@ -39,7 +40,7 @@ use Rattle.histories.specs.Seen.{recordsRead, seenAs, acceptedWith, answ
 use Rattle.histories.specs.Lent.{Lent, lentWith, lentOutcome, lentEvent, lentTranscript, lentRoomAfter, AllLong, callsLent}
 use Rattle.histories.specs.History.{Step, arrives, departs, sends, AnyChain, none, next, Chain, BeginsEmpty, AnyCalls, History, callsOf}
 use Rattle.histories.specs.Steps.{StepRight, EqualsSteps, Right, EqualsRules}
-use Rattle.histories.proofs.ReadBack.{all-short, written-read}
+use Rattle.histories.proofs.ReadBack.{written-read}
 use Rattle.histories.proofs.Answered.{seat-answered, count-answered, refusal-answered}
 use Rattle.histories.proofs.LentLaws.{long-outcome, lent-made, lent-within, lent-stored, lent-tied, long-transcript, long-room}
 

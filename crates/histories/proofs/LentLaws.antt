@@ -14,14 +14,15 @@ use Rattle.rules.specs.History.{Event, event, transcript}
 use Rattle.rules.specs.Transcript.{Past, Start}
 use Rattle.rules.specs.After.{roomAfterAll, Tied}
 use Rattle.rules.specs.Accepted.{RefusedOrAccepted, refusal}
-use Rattle.rules.specs.Call.{KeyOf32}
+use Rattle.rules.specs.Call.{KeyOf32, mostNeeded, needed}
 use Rattle.rules.proofs.RefusedOrAccepted.{outcome-made}
 use Rattle.rules.proofs.Tied.{tied-after, tied-refused}
+use Rattle.rules.proofs.WithinOutput.{needs-within}
 use Rattle.room.specs.View.{viewRoom}
 use Rattle.room.specs.Whole.{roomWhole}
 use Rattle.room.specs.Store.{storeAll}
 use Rattle.room_laws.proofs.OutcomeLaws.{outcome-stored, outcome-within}
-use Rattle.relay.specs.Calls.{leastOutput, needed, ifLong}
+use Rattle.relay.specs.Calls.{ifLong}
 use Rattle.relay.proofs.CallsLaws.{by-length}
 use Rattle.histories.specs.Lent.{Lent, lentOutcome, lentEvent, lentTranscript, lentRoomAfter, AllLong, callsLent}
 
@@ -41,8 +42,8 @@ pub lent-made : (room : Room) (l : Lent) → RefusedOrAccepted (lentOutcome room
 lent-made room l = by-space RefusedOrAccepted room l (outcome-made room (l .call)) (refusal OutputTooShort refl)
 
 module _ (s n : ℕ) (b : List ℕ) (whole : roomWhole s n b ≡ true) (l : Lent) where
-  pub lent-within : length (sentBytes (lentOutcome (viewRoom s n b) l .sent)) ≤ leastOutput
-  lent-within = by-space (λ o. length (sentBytes (o .sent)) ≤ leastOutput) (viewRoom s n b) l (outcome-within s n b whole (l .call)) (unfold refuse sentBytes in omega arith)
+  pub lent-within : length (sentBytes (lentOutcome (viewRoom s n b) l .sent)) ≤ mostNeeded
+  lent-within = by-space (λ o. length (sentBytes (o .sent)) ≤ mostNeeded) (viewRoom s n b) l (omega (arith, outcome-within s n b whole (l .call), needs-within (l .call))) (unfold refuse sentBytes in omega arith)
 
   -- what is stored is what the rules do, and stays whole
   pub lent-stored : KeyOf32 (l .call)

@@ -1,4 +1,4 @@
--- `ReadBack`, a run of records reads back in one way; `Answered`, the number that an export answers tells its answer; `LentLaws`, calls with any output;
+-- `ReadBack`, what is read in an output that begins with records; `Answered`, the number that an export answers tells its answer; `LentLaws`, calls with any output;
 -- `Histories`, demand 2 of any calls and of every history; `DataInHistories`, its sentence on data; `RequestsInHistories`, one seat for a key, the ground for
 -- 0 and a client's own key; `IsolationInHistories`, demand 3; `EverySequence`, every sequence of calls has a history; `FromExports`, the contract of an
 -- exported call is a step; `RefusedLeaves`, a refused export leaves all as before. Of nearest lists, packets and nodes: `ListHistories`, demand 2 of lists, with the k

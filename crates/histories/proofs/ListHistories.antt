@@ -5,7 +5,7 @@ use mathlib.Core.Path.{_≡_, refl, sym, ap, ap₂, subst, _∙_}
 use mathlib.Core.Bool.{Bool, true, false, cond}
 use mathlib.Core.List.{List, [], _∷_, _++_}
 use mathlib.Core.Logic.{inl, inr}
-use Prim.Native.Nat.{ℕ, zero, suc, _≤_, _<_}
+use Prim.Native.Nat.{ℕ, _≤_, _<_}
 use native.Mathlib.Omega.{arith}
 use lib.Dec.{leb}
 use lib.IntN.{ℤ, pos, negsuc}
@@ -27,7 +27,7 @@ use Rattle.nearest.specs.declared.Removed.{Removed}
 use Rattle.nearest.specs.Lists.{held, holding, emptyOf, sizeRight}
 use Rattle.nearest.specs.Effect.{holds, without, kept}
 use Rattle.nearest.specs.Calls.{begun, checked, offerAnswer, effectOn, notOffered, taken, offeredAfter, offered, removedAfter, removed}
-use Rattle.nearest.specs.Sequence.{offers, refusedOffer, accepted, In, Nearest, Keyed, Reached}
+use Rattle.nearest.specs.Sequence.{offers, refusedOffer, accepted, Nearest, Keyed, Reached}
 use Rattle.nearest.specs.Sequence as reached
 use Rattle.nearest.proofs.Judge.{size-bounds, bounds-size, whole}
 use Rattle.nearest.proofs.Holding.{held-length}

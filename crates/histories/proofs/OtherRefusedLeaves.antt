@@ -30,7 +30,6 @@ use Rattle.nearest.specs.declared.Answer.the-variants as answer
 use Rattle.nearest.specs.declared.OfferAnswer.{OfferAnswer}
 use Rattle.nearest.specs.declared.OfferAnswer.the-variants as offer
 use Rattle.nearest.specs.Lists.{emptyOf, sizeRight}
-use Rattle.nearest.specs.Calls.{begun}
 use Rattle.nearest.proofs.Judge.{bounds-size}
 use Rattle.nearest.proofs.ListOf.{begun-bad}
 use Rattle.lent_list.specs.declared.Held.{Held}

@@ -13,7 +13,7 @@ use Rattle.packet.specs.FromClient as client
 use Rattle.packet.specs.FromRelay as relay
 use Rattle.rules.specs.Room.{sizesOf, Key}
 use Rattle.rules.specs.Whole.{Whole}
-use Rattle.rules.specs.Call.{Call, packetCall, Sent}
+use Rattle.rules.specs.Call.{Call, packetCall, Sent, mostNeeded}
 use Rattle.rules.specs.Outcome.{to}
 use Rattle.rules.specs.History.{Event, event}
 use Rattle.rules.specs.Transcript.{clientOf, fromEmpty, sitter}
@@ -26,7 +26,7 @@ use Rattle.rules.proofs.OwnKey.{zero-exactly-full, own-number-waits, own-key}
 use Rattle.room.specs.View.{viewRoom}
 use Rattle.room.specs.Whole.{roomWhole}
 use Rattle.room_laws.proofs.WholeLaws.{whole-view}
-use Rattle.relay.specs.Calls.{leastOutput, Sends}
+use Rattle.relay.specs.Calls.{Sends}
 use Rattle.banavoge.specs.Answers.{ToldAs}
 use Rattle.banavoge.specs.RelayCalls.{countCode}
 use Rattle.histories.specs.Seen.{seenAs, seen}
@@ -60,7 +60,7 @@ module _ (s n : ℕ) (lents : List Lent) (events : List Event) (b : List ℕ) (h
 -- ---- a request after any calls
 
 module _ (s n : ℕ) (lents : List Lent) (events : List Event) (b : List ℕ) (h : AnyCalls s n lents events b) (seat : ℕ) (key : Key)
-    (by : sitter fromEmpty (pastAfter [] events) seat ≡ clientOf key) (bytes out b′ out′ : List ℕ) (answer : ℤ) (long : leastOutput ≤ length out)
+    (by : sitter fromEmpty (pastAfter [] events) seat ≡ clientOf key) (bytes out b′ out′ : List ℕ) (answer : ℤ) (long : mostNeeded ≤ length out)
     (sent : ToldAs countCode (Sends s n seat bytes b out b′ out′) answer) where
   -- the call, as it is lent and as it is seen
   abbrev lent : Lent

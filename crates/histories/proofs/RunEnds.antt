@@ -13,12 +13,12 @@ use lib.ListN.{length, length-append}
 use lib.Seq.{drop-append-seam}
 use Rattle.rules.specs.Room.{Sizes, Key, Room, sizesOf}
 use Rattle.rules.specs.Whole.{Whole, ShortKeys}
-use Rattle.rules.specs.Call.{Call, arrive, leave, packetCall}
+use Rattle.rules.specs.Call.{Call, arrive, leave, packetCall, mostNeeded}
 use Rattle.rules.specs.Outcome.{sentBytes, outcome, roomAfter}
 use Rattle.rules.specs.History.{Event, event, transcript}
 use Rattle.rules.specs.After.{roomAfterAll}
 use Rattle.rules.proofs.Whole.{whole-after}
-use Rattle.rules.proofs.WithinOutput.{sent-within, keys-stay-short}
+use Rattle.rules.proofs.WithinOutput.{sent-within, keys-stay-short, needs-within}
 use Rattle.room.specs.View.{viewRoom}
 use Rattle.room.specs.Whole.{roomWhole}
 use Rattle.room_laws.proofs.WholeLaws.{whole-few, whole-view}
@@ -27,10 +27,9 @@ use Rattle.stored.specs.Stored.{storedBytes, storedAll, Storable, firstCall, ca
 use Rattle.stored.proofs.StoredLaws.{first-within}
 use Rattle.stored.proofs.RoundTrips.{read-stored}
 use Rattle.relay.specs.declared.play.Stop.the-variants.{End}
-use Rattle.relay.specs.Calls.{leastOutput}
-use Rattle.relay.specs.Play.{entryHead, entryBytes, entriesBytes, leastSpace, run, Plays}
-use Rattle.relay.proofs.EntryLaws.{length-entry-head}
-use Rattle.relay.proofs.PlayLaws.{next-end, next-plays, firstThen, run-stops, run-plays}
+use Rattle.relay.specs.Play.{entryHead, entryBytes, entriesBytes, mostSpace, run, Plays}
+use Rattle.records.proofs.EntryLaws.{length-entry-head}
+use Rattle.relay.proofs.PlayLaws.{space-within, next-end, next-plays, firstThen, run-stops, run-plays}
 use Rattle.banavoge.specs.Answers.{ToldAs}
 use Rattle.banavoge.specs.Runs.{Counts, Telling, runTold}
 use Rattle.histories.specs.Runs.{AllStorable, runOn, writtenFor, LeftForEach, AllPlayed}
@@ -91,7 +90,7 @@ head-within sizes room c calls =
     omega (arith, length-entry-head (o .answer))
 
 pub run-ends-written : (sizes : Sizes) (calls : List Call) → AllStorable calls → (room : Room) (allowance space : ℕ) → length calls ≤ allowance
-    → (1 ≤ length calls → writtenFor sizes room calls + leastOutput ≤ space)
+    → (1 ≤ length calls → writtenFor sizes room calls + mostNeeded ≤ space)
     → run sizes allowance room (storedAll calls) space ≡ record { calls = calls; why = End }
 run-ends-written sizes calls a room allowance space enough fits =
     run-ends-left sizes calls a room allowance space enough
@@ -100,7 +99,7 @@ run-ends-written sizes calls a room allowance space enough fits =
     let h = fits (omega arith) in
     let w = ap (writtenFor sizes room) e ∙ written-append sizes room before (c ∷ behind) in
     let k = head-within sizes (roomAfterAll sizes room before) c behind in
-    omega arith))
+    omega (arith, space-within c)))
 
 -- ---- where the output has 2,052 bytes for each call
 
@@ -113,14 +112,14 @@ key-short (packetCall seat bytes) s key e = let z : _≡_ {A = ℕ} 0 1 = cc in 
 
 module _ (sizes : Sizes) (few : sizes .numbers ≤ 240) where
   -- what is written for a call
-  pub entry-within : (room : Room) → Whole sizes room → ShortKeys room → (c : Call) → length (entryBytes (event room c)) ≤ leastSpace
+  pub entry-within : (room : Room) → Whole sizes room → ShortKeys room → (c : Call) → length (entryBytes (event room c)) ≤ mostSpace
   unfolding entryBytes event
   entry-within room whole keys c =
       let o = outcome room c in
-      omega (arith, length-append (entryHead (o .answer)) (sentBytes (o .sent)), length-entry-head (o .answer), sent-within sizes few room whole keys c)
+      omega (arith, length-append (entryHead (o .answer)) (sentBytes (o .sent)), length-entry-head (o .answer), sent-within sizes few room whole keys c, needs-within c)
 
   written-within : (calls : List Call) → AllStorable calls → (room : Room) → Whole sizes room → ShortKeys room
-      → writtenFor sizes room calls ≤ length calls * leastSpace
+      → writtenFor sizes room calls ≤ length calls * mostSpace
   unfolding entriesBytes transcript
   written-within [] a room whole keys = omega arith
   written-within (c ∷ calls) a room whole keys =
@@ -131,14 +130,14 @@ module _ (sizes : Sizes) (few : sizes .numbers ≤ 240) where
       omega arith
 
   pub each-left : (calls : List Call) → AllStorable calls → (room : Room) → Whole sizes room → ShortKeys room → (space : ℕ)
-      → length calls * leastSpace ≤ space → LeftForEach sizes room calls space
+      → length calls * mostSpace ≤ space → LeftForEach sizes room calls space
   each-left calls a room whole keys space fits before c behind e =
       let w = written-within before (storable-front before (c ∷ behind) (subst AllStorable e a)) room whole keys in
       let n = ap length e ∙ length-append before (c ∷ behind) in
-      omega arith
+      omega (arith, space-within c)
 
   pub run-ends : (calls : List Call) → AllStorable calls → (room : Room) → Whole sizes room → ShortKeys room → (allowance space : ℕ)
-      → length calls ≤ allowance → length calls * leastSpace ≤ space → run sizes allowance room (storedAll calls) space ≡ record { calls = calls; why = End }
+      → length calls ≤ allowance → length calls * mostSpace ≤ space → run sizes allowance room (storedAll calls) space ≡ record { calls = calls; why = End }
   run-ends calls a room whole keys allowance space enough fits =
       run-ends-left sizes calls a room allowance space enough (each-left calls a room whole keys space fits)
 
@@ -155,6 +154,6 @@ module _ (s n allowance : ℕ) (calls : List Call) (b out : List ℕ) (before : 
       let c = run-is-chain s n allowance (storedAll calls) b out before t b′ out′ whole p in
       (rw all at q, rw all at c)
 
-  pub plays-all : length calls * leastSpace ≤ length out → AllPlayed s n calls b t b′
+  pub plays-all : length calls * mostSpace ≤ length out → AllPlayed s n calls b t b′
   plays-all fits =
       plays-all-left (each-left (sizesOf s n) (whole-few s n b whole) calls storable (viewRoom s n b) (whole-view s n b whole) (view-keys s n b) (length out) fits)

@@ -16,14 +16,13 @@ use native.Mathlib.Omega.{arith}
 use lib.IntN.{pos}
 use lib.ListN.{length, drop, replicate, length-replicate}
 use Rattle.rules.specs.Room.{Sizes, Room, sizesOf}
-use Rattle.rules.specs.Call.{Call}
+use Rattle.rules.specs.Call.{Call, mostNeeded}
 use Rattle.rules.specs.Outcome.{outcome, roomAfter}
 use Rattle.rules.specs.History.{Event, event, transcript}
 use Rattle.room.specs.View.{viewRoom}
 use Rattle.room.specs.Whole.{roomWhole}
 use Rattle.room.specs.Store.{storeAll}
 use Rattle.stored.specs.Stored.{storedBytes}
-use Rattle.relay.specs.Calls.{leastOutput}
 use Rattle.relay.specs.Play.{entryBytes, entriesBytes, Next, stops, plays, Run, goOn, run, changesAll, played, playing, LeavesRun, Plays}
 use Rattle.relay.specs.Play as play
 use Rattle.relay.proofs.PlayLaws.{next-is, restOf, store-all-append}
@@ -100,11 +99,11 @@ keys-in-front stored (c ∷ calls) f = (stored-key stored c (f .0), keys-in-fron
 
 -- some output that is long enough
 some-output : List ℕ
-some-output = replicate leastOutput 0
+some-output = replicate mostNeeded 0
 
-long-output : leastOutput ≤ length some-output
+long-output : mostNeeded ≤ length some-output
 unfolding some-output
-long-output = omega (arith, length-replicate {A = ℕ} leastOutput 0)
+long-output = omega (arith, length-replicate {A = ℕ} mostNeeded 0)
 
 module _ (s n allowance : ℕ) (stored b out : List ℕ) (before : Counts) (t : Telling) (b′ out′ : List ℕ) (whole : roomWhole s n b ≡ true)
     (p : ToldAs (runTold before) (Plays s n allowance stored b out b′ out′) t) where

@@ -21,18 +21,20 @@ use Rattle.rules.specs.History.{Event, event, transcript}
 use Rattle.room.specs.View.{viewRoom}
 use Rattle.room.specs.Whole.{roomWhole}
 use Rattle.stored.specs.Stored.{storedBytes}
+use Rattle.records.specs.Read.{tooLong}
+use Rattle.records.proofs.RoundTrips.{all-short}
 use Rattle.relay.specs.Calls.{written}
 use Rattle.relay.specs.Play.{entryHead, entryBytes, entriesBytes, Plays}
 use Rattle.relay.proofs.OutcomeLeaves.{made-written}
-use Rattle.relay.proofs.EntryLaws.{length-entry-head}
+use Rattle.records.proofs.EntryLaws.{length-entry-head}
 use Rattle.banavoge.specs.Answers.{ToldAs}
 use Rattle.banavoge.specs.Runs.{Counts, Telling, runTold}
-use Rattle.histories.specs.Seen.{tooLong, seenAs}
+use Rattle.histories.specs.Seen.{seenAs}
 use Rattle.histories.specs.Lent.{Lent, lentOutcome, lentEvent}
 use Rattle.histories.specs.History.{AnyChain, none, next, Chain, callsOf}
 use Rattle.histories.specs.RunSeen.{callsFrom, callsIn, answerTold, answerIn, eventsIn, AllReadable, Readable, playedTold, runSeen}
 use Rattle.histories.specs.Runs.{InFront, runOn, runEvents}
-use Rattle.histories.proofs.ReadBack.{all-short, written-read}
+use Rattle.histories.proofs.ReadBack.{written-read}
 use Rattle.histories.proofs.Histories.{step-right}
 use Rattle.histories.proofs.LentLaws.{lent-made, lent-within}
 use Rattle.histories.proofs.RunIsChain.{run-in-front, run-told, run-writes, run-is-chain}

@@ -109,7 +109,7 @@ abbrev pub Ground : ℕ → List ℕ → ℕ → Stop → Type 0
 Ground allowance stored space End = length stored ≡ 0
 Ground allowance stored space NoCall = (length stored ≡ 0 → ⊥) × (firstCall stored ≡ none)
 Ground allowance stored space Allowance = (length stored ≡ 0 → ⊥) × (allowance ≡ 0)
-Ground allowance stored space Output = CallNext stored × (space < leastSpace)
+Ground allowance stored space Output = ((n : CallNext stored) × (space < leastSpace (n .which)))
 
 pub next-ground : (allowance : ℕ) (stored : List ℕ) (space : ℕ) (why : Stop) → next allowance stored space ≡ stops why → Ground allowance stored space why
 unfolding next nextCall
@@ -120,11 +120,11 @@ next-ground allowance stored space why e = at-end (eqb (length stored) 0) refl e
 
     with-call : (f : First) → firstCall stored ≡ f → (length stored ≡ 0 → ⊥) → nextCall f space ≡ stops why → Ground allowance stored space why
     with-call none q more e = is NoCall e (more, q)
-    with-call (call d) q more e = with-space (leb leastSpace space) refl e
+    with-call (call d) q more e = with-space (leb (leastSpace d) space) refl e
       where
-        with-space : (t : Bool) → leb leastSpace space ≡ t → cond t (plays d) (stops Output) ≡ stops why → Ground allowance stored space why
+        with-space : (t : Bool) → leb (leastSpace d) space ≡ t → cond t (plays d) (stops Output) ≡ stops why → Ground allowance stored space why
         with-space true l e = let z : plays d ≡ stops why = e in absurd (false≢true (cc))
-        with-space false l e = is Output e (record { which = d; first = q }, leb-false leastSpace space l)
+        with-space false l e = is Output e (record { which = d; first = q }, leb-false (leastSpace d) space l)
 
     at-allowance : (t : Bool) → eqb allowance 0 ≡ t → (length stored ≡ 0 → ⊥) → cond t (stops Allowance) (nextCall (firstCall stored) space) ≡ stops why
         → Ground allowance stored space why

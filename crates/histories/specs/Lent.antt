@@ -4,10 +4,10 @@ use mathlib.Core.List.{List, [], _∷_}
 use Prim.Native.Nat.{ℕ, _≤_}
 use lib.ListN.{length}
 use Rattle.rules.specs.Room.{Sizes, Room}
-use Rattle.rules.specs.Call.{Call}
+use Rattle.rules.specs.Call.{Call, needed}
 use Rattle.rules.specs.Outcome.{Outcome, roomAfter, outcome}
 use Rattle.rules.specs.History.{Event}
-use Rattle.relay.specs.Calls.{needed, ifLong}
+use Rattle.relay.specs.Calls.{ifLong}
 
 -- a call, and how many bytes of output it is lent
 pub record Lent : Type 0 where

@@ -13,10 +13,11 @@ use Rattle.wire.specs.Numbers.{numberOf}
 use Rattle.rules.specs.Call.{Call, Answer, accepted, refused}
 use Rattle.rules.specs.Outcome.{sentBytes}
 use Rattle.rules.specs.History.{Event}
+use Rattle.records.specs.Read.{tooLong}
 use Rattle.stored.specs.Stored.{storedBytes, First, none, call, firstCall}
 use Rattle.relay.specs.Calls.{written}
 use Rattle.banavoge.specs.Runs.{Telling}
-use Rattle.histories.specs.Seen.{tooLong, seenAs}
+use Rattle.histories.specs.Seen.{seenAs}
 
 -- ---- the calls that were played
 

@@ -88,14 +88,14 @@ pub record StopMeans (allowance : ℕ) (stored : List ℕ) (space : ℕ) (why : 
   pub all-read : why ≡ End → read ≡ length stored
   pub no-call : why ≡ NoCall → (read < length stored) × (firstCall (drop read stored) ≡ none)
   pub all-allowed : why ≡ Allowance → (read < length stored) × (calls ≡ allowance)
-  pub output-short : why ≡ Output → CallNext (drop read stored) × (space < written + leastSpace)
+  pub output-short : why ≡ Output → ((n : CallNext (drop read stored)) × (space < written + leastSpace (n .which)))
 
 -- ---- when every call is played
 
--- 2,052 bytes of the output are left before each call; `before` are the calls before it
+-- the output that a run asks for a call is left before each; `before` are the calls before it
 abbrev pub LeftForEach : Sizes → Room → List Call → ℕ → Type 0
 LeftForEach sizes room calls space =
-    (before : List Call) (c : Call) (behind : List Call) → calls ≡ before ++ (c ∷ behind) → writtenFor sizes room before + leastSpace ≤ space
+    (before : List Call) (c : Call) (behind : List Call) → calls ≡ before ++ (c ∷ behind) → writtenFor sizes room before + leastSpace c ≤ space
 
 -- a run from b told t and left b′: none of the stored calls is left, and the run is a chain of exactly these
 abbrev pub AllPlayed : ℕ → ℕ → List Call → List ℕ → Telling → List ℕ → Type 0

@@ -1,33 +1,16 @@
 -- What the host sees of an exported call: the number that it answers, and the records in the output. An event is read off the call, the number and the bytes
 -- of the output alone: nothing here can see a room.
-use mathlib.Core.List.{List, [], _∷_}
-use Prim.Native.Nat.{ℕ, zero, suc, _<_}
+use mathlib.Core.List.{List}
+use Prim.Native.Nat.{ℕ, suc}
 use lib.IntN.{ℤ, pos, negsuc}
-use lib.ListN.{length, take, drop}
+use lib.ListN.{take}
 use Rattle.refusal.specs.Numbers.{refusalOf}
-use Rattle.wire.specs.Numbers.{numberOf}
 use Rattle.rules.specs.Call.{Call, arrive, leave, packetCall, Answer, accepted, refused, Sent}
 use Rattle.rules.specs.History.{Event}
+use Rattle.records.specs.Read.{recordsIn}
 use Rattle.relay.specs.Calls.{written}
 
 -- ---- the records
-
--- the records in a run of bytes, up to `most` of them: "What is sent is a run of records in the lent output: seat (1 byte), length (2), the packet."
-unfoldable pub recordsIn : ℕ → List ℕ → List Sent
-recordsIn zero bytes = []
-recordsIn (suc most) [] = []
-recordsIn (suc most) (seat ∷ rest) =
-    let size = numberOf (take 2 rest) in
-    record { seat = seat; bytes = take size (drop 2 rest) } ∷ recordsIn most (drop size (drop 2 rest))
-
--- lengths from here on do not fit the two bytes of a record's length
-abbrev pub tooLong : ℕ
-tooLong = 65536
-
--- the packets of records are short enough
-abbrev pub Short : List Sent → Type 0
-Short [] = Unit {0}
-Short (s ∷ rest) = (length (s .bytes) < tooLong) × Short rest
 
 -- the records that a call wrote: those in the bytes that its answer counts, of which there are no more than bytes
 unfoldable pub recordsRead : Answer → List ℕ → List Sent

@@ -8,7 +8,7 @@ use lib.Dec.{eqb, leb}
 use lib.IntN.{ℤ, pos}
 use lib.ListN.{length, take, drop}
 use Rattle.packet.specs.Read.{Read}
-use Rattle.packet.specs.Table.{kindOf}
+use Rattle.packet.specs.Table.{firstNumber, kindOf}
 use Rattle.packet.specs.FromClient as client
 use Rattle.packet.specs.FromRelay as relay
 use Rattle.packet.specs.RelayReads.{relayKey}
@@ -28,7 +28,7 @@ use Rattle.banavoge.specs.Nodes.{NodePlaces, nodeGiven, nodeWrittenCode, ReadsN
 
 -- the kind, which is the first byte; 16 for data, whose first byte is its number
 unfoldable pub kindTold : List ℕ → ℕ
-kindTold bytes = cond (leb 16 (kindOf bytes)) 16 (kindOf bytes)
+kindTold bytes = cond (leb firstNumber (kindOf bytes)) firstNumber (kindOf bytes)
 
 -- the payload, at the place that is told
 unfoldable pub payloadAt : List ℕ → Places → List ℕ

@@ -10,7 +10,6 @@ use Rattle.refusal.specs.declared.Refusal.{Refusal}
 use Rattle.key.specs.declared.Key.{Key}
 use Rattle.node.specs.declared.Node.{Node}
 use Rattle.nearest.specs.declared.NearestList.{NearestList}
-use Rattle.nearest.specs.declared.Answer.{Answer}
 use Rattle.nearest.specs.declared.Answer.the-variants as answer
 use Rattle.nearest.specs.declared.OfferAnswer.the-variants as offer
 use Rattle.nearest.specs.Calls.{offered, removed}

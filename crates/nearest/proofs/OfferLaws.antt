@@ -13,6 +13,8 @@ use borrow.Author.Tests.{lt-ltb, le-ltb, ltb-true, ltb-false}
 use Rattle.key.specs.Keys.{IsKey, sameKey, nearer}
 use Rattle.refusal.specs.declared.Refusal.{Refusal}
 use Rattle.refusal.specs.declared.Refusal.the-variants.{UnknownFamily}
+use Rattle.lists.specs.Insert.{insertAt}
+use Rattle.lists.proofs.Shift.{length-in, take-more-in}
 use Rattle.node.specs.declared.Node.{Node}
 use Rattle.node.specs.Families.{knownFamily}
 use Rattle.nearest.specs.declared.NearestList.{NearestList}
@@ -23,9 +25,8 @@ use Rattle.nearest.specs.Lists.{nodeKey, held, holding}
 use Rattle.nearest.specs.Effect.{Effect, added, replaced, putOut, tooFar, holds, insert, without, furthest, effect, afterEffect, kept}
 use Rattle.nearest.specs.Calls.{checked, notOffered, effectOn, taken, offerAnswer, offeredAfter, offered}
 use Rattle.nearest.specs.Sequence.{In, Keyed}
-use Rattle.nearest.specs.Slots.{position, insertAt}
+use Rattle.nearest.specs.Slots.{position}
 use Rattle.nearest.proofs.Front.{noNode}
-use Rattle.nearest.proofs.Shift.{length-in, take-more-in}
 use Rattle.nearest.proofs.Members.{in-free}
 use Rattle.nearest.proofs.Order.{Up, rising-up, without-last}
 use Rattle.nearest.proofs.Place.{place-le, insert-at, place-front, held-at-place, free-at-place, nearer-than-furthest, behind-furthest}

@@ -15,7 +15,7 @@ use Rattle.key.proofs.Same.{same-sound}
 use Rattle.key.proofs.Cancel.{same-differs, distance-cancels, nearer-lt, not-nearer-le, lt-nearer}
 use Rattle.node.specs.declared.Node.{Node}
 use Rattle.nearest.specs.Lists.{nodeKey}
-use Rattle.nearest.specs.Effect.{Effect, replaced, holds, replace, insert, without, lastKey, furthest, effect, afterEffect}
+use Rattle.nearest.specs.Effect.{Effect, holds, replace, insert, without, lastKey, furthest, effect, afterEffect}
 use Rattle.nearest.specs.Sequence.{In, Last, Nearest, Keyed}
 use Rattle.nearest.proofs.Members.{free-in, in-without, without-in, in-insert, insert-in, length-insert, in-replace, replace-in, replaced-in, length-replace}
 use Rattle.nearest.proofs.Order.{far, Up, rising-up, up-rising, up-without, up-replace, replace-keys, up-insert, last-in, last-furthest, without-last}

@@ -11,25 +11,21 @@ use lib.ListN.{length, getD, take, set}
 use Rattle.key.specs.Keys.{IsKey, sameKey, distance, nearer}
 use Rattle.key.proofs.Same.{same-sound}
 use Rattle.key.proofs.Cancel.{same-differs, nearer-lt, not-nearer-le, lt-nearer, le-not-nearer}
+use Rattle.lists.specs.Insert.{insertAt, removeAt}
+use Rattle.lists.proofs.Found.{leading-le, leading-take}
 use Rattle.node.specs.declared.Node.{Node}
 use Rattle.nearest.specs.Lists.{nodeKey}
 use Rattle.nearest.specs.Effect.{holds, replace, insert, without, lastKey}
 use Rattle.nearest.specs.Sequence.{In, Keyed}
-use Rattle.nearest.specs.Slots.{position, indexOf, insertAt, removeAt}
+use Rattle.nearest.specs.Slots.{position, indexOf}
 use Rattle.nearest.proofs.Front.{noNode}
 use Rattle.nearest.proofs.Steps.{position-none, position-one, insert-none, insert-one, replace-one, holds-none, holds-one, index-one, without-one}
 use Rattle.nearest.proofs.Members.{replace-free, without-free}
 use Rattle.nearest.proofs.Order.{far, far-same, Up, apart, behind-differs, last-in, last-furthest}
 
 module _ (t : List ℕ) (n : Node) where
-  place-step : (m : Node) (ms : List Node) (b : Bool) → nearer t (nodeKey m) (nodeKey n) ≡ b → position t (nodeKey n) ms ≤ length ms
-      → position t (nodeKey n) (m ∷ ms) ≤ suc (length ms)
-  place-step m ms true e h = let q = position-one t (nodeKey n) m ms true e in omega arith
-  place-step m ms false e h = let q = position-one t (nodeKey n) m ms false e in omega arith
-
   pub place-le : (ms : List Node) → position t (nodeKey n) ms ≤ length ms
-  place-le [] = let q = position-none t (nodeKey n) in omega arith
-  place-le (m ∷ ms) = place-step m ms (nearer t (nodeKey m) (nodeKey n)) refl (place-le ms)
+  place-le = leading-le (λ (m : Node). nearer t (nodeKey m) (nodeKey n))
 
   -- ---- put in at the place
 
@@ -44,20 +40,8 @@ module _ (t : List ℕ) (n : Node) where
   insert-at (m ∷ ms) = at-step m ms (nearer t (nodeKey m) (nodeKey n)) refl (insert-at ms)
 
   -- what stands behind the place has no say in it
-  front-step : (m : Node) (ms : List Node) (j : ℕ) (b : Bool) → nearer t (nodeKey m) (nodeKey n) ≡ b
-      → ((i : ℕ) → position t (nodeKey n) ms ≤ i → position t (nodeKey n) (take i ms) ≡ position t (nodeKey n) ms)
-      → position t (nodeKey n) (m ∷ ms) ≤ j → position t (nodeKey n) (take j (m ∷ ms)) ≡ position t (nodeKey n) (m ∷ ms)
-  front-step m ms zero true e ih h = absurd (let q = position-one t (nodeKey n) m ms true e in omega arith)
-  front-step m ms (suc j) true e ih h =
-      let q = position-one t (nodeKey n) m ms true e in
-      position-one t (nodeKey n) m (take j ms) true e ∙ ap suc (ih j (omega arith)) ∙ sym q
-  front-step m ms zero false e ih h = position-none t (nodeKey n) ∙ sym (position-one t (nodeKey n) m ms false e)
-  front-step m ms (suc j) false e ih h = position-one t (nodeKey n) m (take j ms) false e ∙ sym (position-one t (nodeKey n) m ms false e)
-
   pub place-front : (ms : List Node) (j : ℕ) → position t (nodeKey n) ms ≤ j → position t (nodeKey n) (take j ms) ≡ position t (nodeKey n) ms
-  place-front [] zero h = refl
-  place-front [] (suc j) h = refl
-  place-front (m ∷ ms) j h = front-step m ms j (nearer t (nodeKey m) (nodeKey n)) refl (place-front ms) h
+  place-front = leading-take (λ (m : Node). nearer t (nodeKey m) (nodeKey n))
 
   -- ---- held: the key stands at its place
 

@@ -9,6 +9,8 @@ use lib.Seq.{length-take-le}
 use Rattle.key.specs.declared.Key.{Key}
 use Rattle.refusal.specs.declared.Refusal.{Refusal}
 use Rattle.refusal.specs.declared.Refusal.the-variants.{KeyNotHeld}
+use Rattle.lists.specs.Insert.{removeAt}
+use Rattle.lists.proofs.Shift.{length-out, take-less-out}
 use Rattle.node.specs.declared.Node.{Node}
 use Rattle.nearest.specs.declared.NearestList.{NearestList}
 use Rattle.nearest.specs.declared.Answer.{Answer}
@@ -18,8 +20,7 @@ use Rattle.nearest.specs.Lists.{held, holding}
 use Rattle.node.specs.Values.{blankNode}
 use Rattle.nearest.specs.Effect.{holds, without}
 use Rattle.nearest.specs.Calls.{checked, removedAfter, removed}
-use Rattle.nearest.specs.Slots.{indexOf, removeAt}
-use Rattle.nearest.proofs.Shift.{length-out, take-less-out}
+use Rattle.nearest.specs.Slots.{indexOf}
 use Rattle.nearest.proofs.Order.{rising-up}
 use Rattle.nearest.proofs.Place.{not-found, found}
 use Rattle.nearest.proofs.Judge.{whole}

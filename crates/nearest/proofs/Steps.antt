@@ -4,6 +4,7 @@ use mathlib.Core.Bool.{Bool, _&&_, _||_, cond, true, false}
 use mathlib.Core.List.{List, [], _∷_}
 use Prim.Native.Nat.{ℕ, suc}
 use Rattle.key.specs.Keys.{sameKey, nearer}
+use Rattle.lists.proofs.Found.{leading-none, leading-one, first-none, first-one}
 use Rattle.node.specs.declared.Node.{Node}
 use Rattle.node.specs.Families.{knownFamily}
 use Rattle.nearest.specs.Lists.{nodeKey, allKnown, rising, risingAfter}
@@ -36,13 +37,11 @@ module _ (t : List ℕ) where
   rising-one n ns = refl
 
   pub position-none : (k : List ℕ) → position t k [] ≡ 0
-  unfolding position
-  position-none k = refl
+  position-none k = leading-none (λ (m : Node). nearer t (nodeKey m) k)
 
   pub position-one : (k : List ℕ) (m : Node) (ms : List Node) (b : Bool) → nearer t (nodeKey m) k ≡ b
       → position t k (m ∷ ms) ≡ cond b (suc (position t k ms)) 0
-  unfolding position
-  position-one k m ms b e = ap (λ (x : Bool). cond x (suc (position t k ms)) 0) e
+  position-one k = leading-one (λ (m : Node). nearer t (nodeKey m) k)
 
   pub insert-none : (n : Node) → insert t n [] ≡ n ∷ []
   unfolding insert
@@ -54,12 +53,10 @@ module _ (t : List ℕ) where
 
 module _ (k : List ℕ) where
   pub index-none : indexOf k [] ≡ 0
-  unfolding indexOf
-  index-none = refl
+  index-none = first-none (λ (m : Node). sameKey (nodeKey m) k)
 
   pub index-one : (m : Node) (ms : List Node) (b : Bool) → sameKey (nodeKey m) k ≡ b → indexOf k (m ∷ ms) ≡ cond b 0 (suc (indexOf k ms))
-  unfolding indexOf
-  index-one m ms b e = ap (λ (x : Bool). cond x 0 (suc (indexOf k ms))) e
+  index-one = first-one (λ (m : Node). sameKey (nodeKey m) k)
 
   pub holds-none : holds k [] ≡ false
   unfolding holds

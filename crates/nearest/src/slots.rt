@@ -5,7 +5,8 @@ ghost use mathlib.Core.List.{_∷_, _++_};
 ghost use lib.ListN.{take, drop};
 ghost use Rattle.nearest.specs.Lists.{allKnown, rising};
 ghost use Rattle.node.specs.Values.{blankNode};
-ghost use Rattle.nearest.specs.Slots.{position, indexOf, insertAt, removeAt};
+ghost use Rattle.lists.specs.Insert.{insertAt, removeAt};
+ghost use Rattle.nearest.specs.Slots.{position, indexOf};
 use key::Key;
 use node::Node;
 

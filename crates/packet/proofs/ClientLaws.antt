@@ -9,7 +9,6 @@ use lib.Dec.{eqb, leb}
 use lib.ListN.{length, getD, drop, length-drop}
 use lib.Seq.{drop-drop}
 use borrow.Author.Tests.{eqb-true, leb-true}
-use denote.Ref.{RefT}
 use Rattle.refusal.specs.declared.Refusal.{Refusal}
 use Rattle.refusal.specs.declared.Refusal.the-variants.{NoSuchRoute}
 use Rattle.packet.specs.declared.client.RelayPacket.{RelayPacket}
@@ -19,13 +18,13 @@ use Rattle.packet.specs.declared.client.ClientRead.the-variants.{Packet,
 use Rattle.packet.specs.Read.{Read, packet, refused, check}
 use Rattle.packet.specs.Table.{kindOf, bodyOf, clientTakes, numberRight}
 use Rattle.packet.specs.FromRelay.{FromRelay, routingResponse, oobReceived, routedData, fromRelay, clientRead}
-use Rattle.packet.specs.Parts.{startOf, PartAt}
-use Rattle.packet.specs.ClientReads.{ClientReads, relayPacketOf, clientReadOf, shownRelay, shownClientRead, clientPayload, placeFromRelay, clientPayloadPlace}
+use Rattle.packet.specs.Parts.{partOf, startOf}
+use Rattle.packet.specs.ClientReads.{ClientReads, relayPacketOf, clientReadOf, shownRelay, shownClientRead}
+use Rattle.packet.specs.ClientReads.{payloadFromRelay, clientPayload, relayPart, keyFromRelay, clientKey}
 use Rattle.packet.proofs.KindLaws.{or-true, from-relay-data, size-bounds, length-response, length-oob-received}
 use Rattle.key.proofs.Lent.{key-whole}
 use Rattle.packet.proofs.CheckLaws.{Passes, passes, Checks, pass, fail, checks}
-use Rattle.packet.proofs.PartLaws.{part-tail, start-tail}
-use Rattle.packet.proofs.Answers.{part-by-answer}
+use Rattle.packet.proofs.PartLaws.{part-tail, start-tail, no-part, no-start}
 
 -- ---- the kinds that the client takes
 
@@ -82,21 +81,6 @@ at-both bytes (fail why e) = turned why e
 pub client-checks : (bytes : List ℕ) → ClientChecks bytes
 client-checks bytes = at-both bytes (checks clientTakes bytes (after bytes))
 
--- ---- where an answer has its payload; the front where it has none
-
-unfoldable pub relayPlace : List ℕ → RelayPacket → ℕ
-relayPlace bytes (RoutingResponse number key) = 0
-relayPlace bytes (ConnectNotification number) = 0
-relayPlace bytes (DisconnectNotification number) = 0
-relayPlace bytes (Ping n) = 0
-relayPlace bytes (Pong n) = 0
-relayPlace bytes (OobReceived key part) = startOf bytes part
-relayPlace bytes (Data number part) = startOf bytes part
-
-unfoldable pub clientReadPlace : List ℕ → ClientRead → ℕ
-clientReadPlace bytes (Packet shown) = relayPlace bytes shown
-clientReadPlace bytes (Refused why) = 0
-
 -- ---- a packet that the client takes
 
 -- each place in the answer holds what was read there
@@ -122,13 +106,13 @@ shown-is-read bytes both (is-data h) =
     rw (from-relay-data (kindOf bytes) (drop 1 bytes) h) (ap (routedData (kindOf bytes)) (part-tail bytes 1 (omega arith)))
 
 shown-at-place : (bytes : List ℕ) → Passes clientTakes bytes → ClientKind (kindOf bytes)
-    → relayPlace bytes (shownRelay (fromRelay (kindOf bytes) (bodyOf bytes))) ≡ placeFromRelay (fromRelay (kindOf bytes) (bodyOf bytes))
-unfolding fromRelay shownRelay relayPlace placeFromRelay bodyOf
-shown-at-place bytes both (is-response e) = rw e
-shown-at-place bytes both (is-connect e) = rw e
-shown-at-place bytes both (is-disconnect e) = rw e
-shown-at-place bytes both (is-ping e) = rw e
-shown-at-place bytes both (is-pong e) = rw e
+    → startOf bytes (relayPart (shownRelay (fromRelay (kindOf bytes) (bodyOf bytes)))) ≡ relayPart (shownRelay (fromRelay (kindOf bytes) (bodyOf bytes))) .start
+unfolding fromRelay shownRelay relayPart bodyOf
+shown-at-place bytes both (is-response e) = rw e (no-start bytes)
+shown-at-place bytes both (is-connect e) = rw e (no-start bytes)
+shown-at-place bytes both (is-disconnect e) = rw e (no-start bytes)
+shown-at-place bytes both (is-ping e) = rw e (no-start bytes)
+shown-at-place bytes both (is-pong e) = rw e (no-start bytes)
 shown-at-place bytes both (is-oob e) =
     let h = length-oob-received (kindOf bytes) (length bytes) (both .long) e in
     let d : drop 32 (drop 1 bytes) ≡ drop 33 bytes = drop-drop 32 1 bytes in
@@ -169,20 +153,38 @@ pub client-reads-packet : (bytes : List ℕ) (shown : RelayPacket) → ClientPas
 unfolding shownClientRead
 client-reads-packet bytes shown passed e = client-reads bytes (Packet shown) (ap Packet e ∙ sym (ap shownClientRead (client-takes bytes passed)))
 
--- ---- the answer's own place of the payload is the packet's
+-- ---- what was read, by what the reader showed of it: the packet, its key, its payload, and that the payload stands where it is shown
 
-client-place : (bytes : List ℕ) → clientReadPlace bytes (shownClientRead (clientRead bytes)) ≡ clientPayloadPlace (clientRead bytes)
-unfolding clientReadPlace shownClientRead clientPayloadPlace
-client-place bytes = go (client-checks bytes)
-  where
-    go : ClientChecks bytes → clientReadPlace bytes (shownClientRead (clientRead bytes)) ≡ clientPayloadPlace (clientRead bytes)
-    go (taken p) = rw (client-takes bytes p) (shown-at-place bytes (p .both) (client-kind (kindOf bytes) (p .both .kind)))
-    go (turned why e) = rw e
+part-payload : (bytes : List ℕ) (shown : RelayPacket) → partOf bytes (relayPart shown) ≡ payloadFromRelay (relayPacketOf bytes shown)
+unfolding partOf relayPart payloadFromRelay relayPacketOf
+part-payload bytes (RoutingResponse number key) = no-part bytes
+part-payload bytes (ConnectNotification number) = no-part bytes
+part-payload bytes (DisconnectNotification number) = no-part bytes
+part-payload bytes (Ping n) = no-part bytes
+part-payload bytes (Pong n) = no-part bytes
+part-payload bytes (OobReceived key part) = refl
+part-payload bytes (Data number part) = refl
 
--- what is the payload by the answer is the payload of the packet
-pub client-payload : (lent part : RefT (List ℕ)) (answer case : ClientRead) → ClientReads (lent .now) answer → answer ≡ case
-    → PartAt lent (clientReadPlace (lent .now) case) (clientPayload (clientReadOf (lent .now) case)) part
-    → PartAt lent (clientPayloadPlace (clientRead (lent .now))) (clientPayload (clientRead (lent .now))) part
-client-payload lent part answer case reads =
-    part-by-answer lent part (clientReadOf (lent .now)) (clientReadPlace (lent .now)) clientPayload clientPayloadPlace (clientRead (lent .now)) answer case
-    (reads .means) (ap (clientReadPlace (lent .now)) (reads .exact) ∙ client-place (lent .now))
+module _ (bytes : List ℕ) (shown : RelayPacket) (shows : Packet shown ≡ shownClientRead (clientRead bytes)) where
+  pub client-shown : clientRead bytes ≡ packet (relayPacketOf bytes shown)
+  unfolding clientReadOf
+  client-shown = sym (ap (clientReadOf bytes) shows ∙ client-shown-means bytes)
+
+  pub client-key : keyFromRelay (relayPacketOf bytes shown) ≡ clientKey (clientRead bytes)
+  unfolding clientKey
+  client-key = sym (ap clientKey client-shown)
+
+  pub client-payload : partOf bytes (relayPart shown) ≡ clientPayload (clientRead bytes)
+  unfolding clientPayload
+  client-payload = part-payload bytes shown ∙ sym (ap clientPayload client-shown)
+
+  pub client-place : startOf bytes (relayPart shown) ≡ relayPart shown .start
+  unfolding shownClientRead
+  client-place = go (client-checks bytes)
+    where
+      go : ClientChecks bytes → startOf bytes (relayPart shown) ≡ relayPart shown .start
+      go (taken p) =
+          let read = client-takes bytes p in
+          let q : shown ≡ shownRelay (fromRelay (kindOf bytes) (bodyOf bytes)) = cc in
+          rw q (shown-at-place bytes (p .both) (client-kind (kindOf bytes) (p .both .kind)))
+      go (turned why e) = cc

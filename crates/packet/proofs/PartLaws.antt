@@ -11,7 +11,8 @@ use denote.Ref.{RefT}
 use Rattle.wire.specs.Numbers.{Bytes, numberOf, bytesOf}
 use Rattle.wire.proofs.Numbers.{bytesOf-number, number-bytesOf, length-bytesOf, number-lt, bytes-getD}
 use Rattle.packet.specs.Table.{kindOf, bodyOf}
-use Rattle.packet.specs.Parts.{partOf, startOf}
+use Rattle.packet.specs.declared.parts.Part.{Part}
+use Rattle.packet.specs.Parts.{partOf, startOf, noPart, PartAt}
 
 pub kind-and-body : (bytes : List ℕ) → 1 ≤ length bytes → bytes ≡ kindOf bytes ∷ bodyOf bytes
 unfolding kindOf bodyOf
@@ -35,9 +36,24 @@ start-tail bytes at h =
     let e = length-drop at bytes in
     simp (le-leb at (length bytes) h, le-leb (length (drop at bytes)) (length bytes - at) (omega arith))
 
+-- no payload: no bytes, at the front
+pub no-part : (bytes : List ℕ) → partOf bytes noPart ≡ []
+unfolding partOf
+no-part bytes = simp (le-leb 0 (length bytes) (omega arith), le-leb 0 (length bytes - 0) (omega arith))
+
+pub no-start : (bytes : List ℕ) → startOf bytes noPart ≡ 0
+unfolding startOf
+no-start bytes = simp (le-leb 0 (length bytes) (omega arith), le-leb 0 (length bytes - 0) (omega arith))
+
 -- a packet stands at its own front
 pub at-front : (packet : RefT (List ℕ)) → packet .ptr ≡ (packet .ptr .0, packet .ptr .1 + 0)
 at-front packet = ap (λ (k : ℕ). (packet .ptr .0, k)) (sym (add-zero (packet .ptr .1)))
+
+pub no-part-at : (packet slice : RefT (List ℕ)) (part : Part) → part ≡ noPart → slice .now ≡ [] → slice .ptr ≡ packet .ptr → PartAt packet part slice
+no-part-at packet slice part n e f = record {
+  holds = e ∙ sym (ap (partOf (packet .now)) n ∙ no-part (packet .now));
+  stands = f ∙ at-front packet ∙ ap (λ (k : ℕ). (packet .ptr .0, packet .ptr .1 + k)) (sym (ap (startOf (packet .now)) n ∙ no-start (packet .now)));
+}
 
 pub one-byte : (bytes : List ℕ) → length bytes ≡ 1 → bytes ≡ getD bytes 0 0 ∷ []
 one-byte [] e = absurd (omega arith)

@@ -1,5 +1,5 @@
 -- Laws of the relay's reader: which kinds it takes, and that its answer as code stands for the packet read, its payload's place included. Assumes nothing.
-use mathlib.Core.Path.{_≡_, _∙_, sym, ap, ap₂}
+use mathlib.Core.Path.{_≡_, _∙_, refl, sym, ap, ap₂}
 use mathlib.Core.Bool.{true}
 use mathlib.Core.List.{List}
 use mathlib.Core.Logic.{⊎-elim}
@@ -9,7 +9,6 @@ use lib.Dec.{eqb, leb}
 use lib.ListN.{length, drop, length-drop}
 use lib.Seq.{drop-drop}
 use borrow.Author.Tests.{eqb-true, leb-true}
-use denote.Ref.{RefT}
 use Rattle.refusal.specs.declared.Refusal.{Refusal}
 use Rattle.packet.specs.declared.relay.ClientPacket.{ClientPacket}
 use Rattle.packet.specs.declared.relay.ClientPacket.the-variants.{RoutingRequest, DropRoute, Ping, Pong, OobSend, Data}
@@ -18,13 +17,13 @@ use Rattle.packet.specs.declared.relay.RelayRead.the-variants.{Packet, R
 use Rattle.packet.specs.Read.{packet, refused}
 use Rattle.packet.specs.Table.{kindOf, bodyOf, relayTakes}
 use Rattle.packet.specs.FromClient.{FromClient, routingRequest, oobSend, routedData, fromClient, relayRead}
-use Rattle.packet.specs.Parts.{startOf, PartAt}
-use Rattle.packet.specs.RelayReads.{RelayReads, clientPacketOf, relayReadOf, shownClient, shownRelayRead, relayPayload, placeFromClient, relayPayloadPlace}
+use Rattle.packet.specs.Parts.{partOf, startOf}
+use Rattle.packet.specs.RelayReads.{RelayReads, clientPacketOf, relayReadOf, shownClient, shownRelayRead}
+use Rattle.packet.specs.RelayReads.{relayRefusal, payloadFromClient, relayPayload, clientPart, keyFromClient, relayKey}
 use Rattle.packet.proofs.KindLaws.{or-true, from-client-data, size-bounds, length-request, length-oob-send}
 use Rattle.key.proofs.Lent.{key-whole}
 use Rattle.packet.proofs.CheckLaws.{Passes, passes, Checks, pass, fail, checks}
-use Rattle.packet.proofs.PartLaws.{part-tail, start-tail}
-use Rattle.packet.proofs.Answers.{part-by-answer}
+use Rattle.packet.proofs.PartLaws.{part-tail, start-tail, no-part, no-start}
 
 -- ---- the kinds that the relay takes
 
@@ -45,20 +44,6 @@ relay-kind k h =
     ⊎-elim (λ (e : eqb k 5 ≡ true). is-pong (eqb-true k 5 e)) (λ (r : _ ≡ true).
     ⊎-elim (λ (e : eqb k 6 ≡ true). is-oob (eqb-true k 6 e)) (λ (r : leb 16 k ≡ true). is-data (leb-true 16 k r))
     (or-true _ _ r)) (or-true _ _ r)) (or-true _ _ r)) (or-true _ _ r)) (or-true _ _ h)
-
--- ---- where an answer has its payload; the front where it has none
-
-unfoldable pub clientPlace : List ℕ → ClientPacket → ℕ
-clientPlace bytes (RoutingRequest key) = 0
-clientPlace bytes (DropRoute number) = 0
-clientPlace bytes (Ping n) = 0
-clientPlace bytes (Pong n) = 0
-clientPlace bytes (OobSend key part) = startOf bytes part
-clientPlace bytes (Data number part) = startOf bytes part
-
-unfoldable pub relayReadPlace : List ℕ → RelayRead → ℕ
-relayReadPlace bytes (Packet shown) = clientPlace bytes shown
-relayReadPlace bytes (Refused why) = 0
 
 -- ---- a packet that the relay takes
 
@@ -87,12 +72,13 @@ module _ (bytes : List ℕ) (taken : Passes relayTakes bytes) where
       rw (from-client-data (kindOf bytes) (drop 1 bytes) (omega arith)) (ap (routedData (kindOf bytes)) (part-tail bytes 1 (omega arith)))
 
   shown-at-place : RelayKind (kindOf bytes)
-      → clientPlace bytes (shownClient (fromClient (kindOf bytes) (bodyOf bytes))) ≡ placeFromClient (fromClient (kindOf bytes) (bodyOf bytes))
-  unfolding fromClient shownClient clientPlace placeFromClient bodyOf
-  shown-at-place (is-request e) = rw e
-  shown-at-place (is-drop e) = rw e
-  shown-at-place (is-ping e) = rw e
-  shown-at-place (is-pong e) = rw e
+      → startOf bytes (clientPart (shownClient (fromClient (kindOf bytes) (bodyOf bytes))))
+      ≡ clientPart (shownClient (fromClient (kindOf bytes) (bodyOf bytes))) .start
+  unfolding fromClient shownClient clientPart bodyOf
+  shown-at-place (is-request e) = rw e (no-start bytes)
+  shown-at-place (is-drop e) = rw e (no-start bytes)
+  shown-at-place (is-ping e) = rw e (no-start bytes)
+  shown-at-place (is-pong e) = rw e (no-start bytes)
   shown-at-place (is-oob e) =
       let h = length-oob-send (kindOf bytes) (length bytes) (taken .long) e in
       let d : drop 32 (drop 1 bytes) ≡ drop 33 bytes = drop-drop 32 1 bytes in
@@ -129,26 +115,47 @@ pub relay-reads-refused : (bytes : List ℕ) (why : Refusal) → relayRead bytes
 unfolding shownRelayRead
 relay-reads-refused bytes why e = relay-reads bytes (Refused why) (sym (ap shownRelayRead e))
 
+-- a read that is a refusal is the one that is taken out of it
+pub refusal-taken : (read : RelayRead) (why taken : Refusal) → read ≡ Refused why → taken ≡ relayRefusal read → read ≡ Refused taken
+unfolding relayRefusal
+refusal-taken read why taken e t = e ∙ ap Refused (sym (t ∙ ap relayRefusal e))
+
 pub relay-reads-packet : (bytes : List ℕ) (shown : ClientPacket) → Passes relayTakes bytes → shown ≡ shownClient (fromClient (kindOf bytes) (bodyOf bytes))
     → RelayReads bytes (Packet shown)
 unfolding shownRelayRead
 relay-reads-packet bytes shown taken e = relay-reads bytes (Packet shown) (ap Packet e ∙ sym (ap shownRelayRead (relay-takes bytes taken)))
 
--- ---- the answer's own place of the payload is the packet's
+-- ---- what was read, by what the reader showed of it: the packet, its key, its payload, and that the payload stands where it is shown
 
-relay-place : (bytes : List ℕ) → relayReadPlace bytes (shownRelayRead (relayRead bytes)) ≡ relayPayloadPlace (relayRead bytes)
-unfolding relayRead relayReadPlace shownRelayRead relayPayloadPlace
-relay-place bytes = go (checks relayTakes bytes (packet (fromClient (kindOf bytes) (bodyOf bytes))))
-  where
-    go : Checks relayTakes bytes (packet (fromClient (kindOf bytes) (bodyOf bytes)))
-        → relayReadPlace bytes (shownRelayRead (relayRead bytes)) ≡ relayPayloadPlace (relayRead bytes)
-    go (pass taken) = rw (relay-takes bytes taken) (shown-at-place bytes taken (relay-kind (kindOf bytes) (taken .kind)))
-    go (fail why e) = rw e
+part-payload : (bytes : List ℕ) (shown : ClientPacket) → partOf bytes (clientPart shown) ≡ payloadFromClient (clientPacketOf bytes shown)
+unfolding partOf clientPart payloadFromClient clientPacketOf
+part-payload bytes (RoutingRequest key) = no-part bytes
+part-payload bytes (DropRoute number) = no-part bytes
+part-payload bytes (Ping n) = no-part bytes
+part-payload bytes (Pong n) = no-part bytes
+part-payload bytes (OobSend key part) = refl
+part-payload bytes (Data number part) = refl
 
--- what is the payload by the answer is the payload of the packet
-pub relay-payload : (lent part : RefT (List ℕ)) (answer case : RelayRead) → RelayReads (lent .now) answer → answer ≡ case
-    → PartAt lent (relayReadPlace (lent .now) case) (relayPayload (relayReadOf (lent .now) case)) part
-    → PartAt lent (relayPayloadPlace (relayRead (lent .now))) (relayPayload (relayRead (lent .now))) part
-relay-payload lent part answer case reads =
-    part-by-answer lent part (relayReadOf (lent .now)) (relayReadPlace (lent .now)) relayPayload relayPayloadPlace (relayRead (lent .now)) answer case
-    (reads .means) (ap (relayReadPlace (lent .now)) (reads .exact) ∙ relay-place (lent .now))
+module _ (bytes : List ℕ) (shown : ClientPacket) (shows : Packet shown ≡ shownRelayRead (relayRead bytes)) where
+  pub relay-shown : relayRead bytes ≡ packet (clientPacketOf bytes shown)
+  unfolding relayReadOf
+  relay-shown = sym (ap (relayReadOf bytes) shows ∙ relay-shown-means bytes)
+
+  pub relay-key : keyFromClient (clientPacketOf bytes shown) ≡ relayKey (relayRead bytes)
+  unfolding relayKey
+  relay-key = sym (ap relayKey relay-shown)
+
+  pub relay-payload : partOf bytes (clientPart shown) ≡ relayPayload (relayRead bytes)
+  unfolding relayPayload
+  relay-payload = part-payload bytes shown ∙ sym (ap relayPayload relay-shown)
+
+  pub relay-place : startOf bytes (clientPart shown) ≡ clientPart shown .start
+  unfolding relayRead shownRelayRead
+  relay-place = go (checks relayTakes bytes (packet (fromClient (kindOf bytes) (bodyOf bytes))))
+    where
+      go : Checks relayTakes bytes (packet (fromClient (kindOf bytes) (bodyOf bytes))) → startOf bytes (clientPart shown) ≡ clientPart shown .start
+      go (pass taken) =
+          let read = relay-takes bytes taken in
+          let q : shown ≡ shownClient (fromClient (kindOf bytes) (bodyOf bytes)) = cc in
+          rw q (shown-at-place bytes taken (relay-kind (kindOf bytes) (taken .kind)))
+      go (fail why e) = cc

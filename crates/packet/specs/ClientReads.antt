@@ -4,13 +4,15 @@ use mathlib.Core.Path.{_≡_}
 use Prim.Native.Nat.{ℕ}
 use lib.ListN.{length, drop, replicate}
 use Rattle.key.specs.Keys.{keyOf}
+use Rattle.packet.specs.declared.parts.Part.{Part}
 use Rattle.packet.specs.declared.client.RelayPacket.{RelayPacket}
 use Rattle.packet.specs.declared.client.RelayPacket.the-variants.{RoutingResponse, ConnectNotification, DisconnectNotification, Ping, Pong, OobReceived, Data}
 use Rattle.packet.specs.declared.client.ClientRead.{ClientRead}
 use Rattle.packet.specs.declared.client.ClientRead.the-variants.{Packet, Refused}
 use Rattle.packet.specs.Read.{Read, packet, refused}
 use Rattle.packet.specs.FromRelay.{FromRelay, routingResponse, connectNotice, disconnectNotice, ping, pong, oobReceived, routedData, clientRead}
-use Rattle.packet.specs.Parts.{partOf}
+use Rattle.packet.specs.Table.{kindAndKey}
+use Rattle.packet.specs.Parts.{partOf, noPart}
 
 -- the packet that a case stands for, in the lent bytes
 unfoldable pub relayPacketOf : List ℕ → RelayPacket → FromRelay
@@ -33,7 +35,7 @@ shownRelay (connectNotice number) = ConnectNotification (record { 0 = number })
 shownRelay (disconnectNotice number) = DisconnectNotification (record { 0 = number })
 shownRelay (ping n) = Ping n
 shownRelay (pong n) = Pong n
-shownRelay (oobReceived key bytes) = OobReceived 1 (record { start = 33; length = length bytes })
+shownRelay (oobReceived key bytes) = OobReceived 1 (record { start = kindAndKey; length = length bytes })
 shownRelay (routedData number bytes) = Data (record { 0 = number }) (record { start = 1; length = length bytes })
 
 unfoldable pub shownClientRead : Read FromRelay → ClientRead
@@ -59,19 +61,15 @@ unfoldable pub clientPayload : Read FromRelay → List ℕ
 clientPayload (packet p) = payloadFromRelay p
 clientPayload (refused why) = []
 
--- where that payload begins in the lent packet: behind the kind and the key, or behind the number. Where there is none, the empty part is at the front.
-unfoldable pub placeFromRelay : FromRelay → ℕ
-placeFromRelay (routingResponse number key) = 0
-placeFromRelay (connectNotice number) = 0
-placeFromRelay (disconnectNotice number) = 0
-placeFromRelay (ping n) = 0
-placeFromRelay (pong n) = 0
-placeFromRelay (oobReceived key bytes) = 33
-placeFromRelay (routedData number bytes) = 1
-
-unfoldable pub clientPayloadPlace : Read FromRelay → ℕ
-clientPayloadPlace (packet p) = placeFromRelay p
-clientPayloadPlace (refused why) = 0
+-- the part of the lent packet that a case names as its payload
+unfoldable pub relayPart : RelayPacket → Part
+relayPart (RoutingResponse number key) = noPart
+relayPart (ConnectNotification number) = noPart
+relayPart (DisconnectNotification number) = noPart
+relayPart (Ping n) = noPart
+relayPart (Pong n) = noPart
+relayPart (OobReceived key part) = part
+relayPart (Data number part) = part
 
 -- the key of a packet that has one
 unfoldable pub keyFromRelay : FromRelay → List ℕ

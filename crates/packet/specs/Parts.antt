@@ -17,8 +17,12 @@ partOf bytes part =
 unfoldable pub startOf : List ℕ → Part → ℕ
 startOf bytes part = cond (leb (part .start) (length bytes)) (cond (leb (part .length) (length bytes - part .start)) (part .start) 0) 0
 
--- "as part of the lent packet": what a returned slice holds, and where it stands. A reference points into a block, at an offset (`.ptr`); the part is in the
+-- the part where there is no payload: no bytes, at the front
+abbrev pub noPart : Part
+noPart = record { start = 0; length = 0 }
+
+-- "as part of the lent packet": what a returned slice holds, and where it stands. A reference points into a block, at an offset (`.ptr`); the slice is in the
 -- block of the lent packet, so many bytes behind the packet's first.
-pub record PartAt (packet : RefT (List ℕ)) (place : ℕ) (bytes : List ℕ) (part : RefT (List ℕ)) : Type 0 where
-  pub holds : now part ≡ bytes
-  pub stands : part .ptr ≡ (packet .ptr .0, packet .ptr .1 + place)
+pub record PartAt (packet : RefT (List ℕ)) (part : Part) (slice : RefT (List ℕ)) : Type 0 where
+  pub holds : now slice ≡ partOf (now packet) part
+  pub stands : slice .ptr ≡ (packet .ptr .0, packet .ptr .1 + startOf (now packet) part)

@@ -4,13 +4,17 @@ use mathlib.Core.Path.{_≡_}
 use Prim.Native.Nat.{ℕ}
 use lib.ListN.{length, drop, replicate}
 use Rattle.key.specs.Keys.{keyOf}
+use Rattle.refusal.specs.declared.Refusal.{Refusal}
+use Rattle.refusal.specs.declared.Refusal.the-variants.{UnexpectedKind}
+use Rattle.packet.specs.declared.parts.Part.{Part}
 use Rattle.packet.specs.declared.relay.ClientPacket.{ClientPacket}
 use Rattle.packet.specs.declared.relay.ClientPacket.the-variants.{RoutingRequest, DropRoute, Ping, Pong, OobSend, Data}
 use Rattle.packet.specs.declared.relay.RelayRead.{RelayRead}
 use Rattle.packet.specs.declared.relay.RelayRead.the-variants.{Packet, Refused}
 use Rattle.packet.specs.Read.{Read, packet, refused}
 use Rattle.packet.specs.FromClient.{FromClient, routingRequest, dropRoute, ping, pong, oobSend, routedData, relayRead}
-use Rattle.packet.specs.Parts.{partOf}
+use Rattle.packet.specs.Table.{kindAndKey}
+use Rattle.packet.specs.Parts.{partOf, noPart}
 
 -- the packet that a case stands for, in the lent bytes
 unfoldable pub clientPacketOf : List ℕ → ClientPacket → FromClient
@@ -31,7 +35,7 @@ shownClient (routingRequest key) = RoutingRequest 1
 shownClient (dropRoute number) = DropRoute (record { 0 = number })
 shownClient (ping n) = Ping n
 shownClient (pong n) = Pong n
-shownClient (oobSend key bytes) = OobSend 1 (record { start = 33; length = length bytes })
+shownClient (oobSend key bytes) = OobSend 1 (record { start = kindAndKey; length = length bytes })
 shownClient (routedData number bytes) = Data (record { 0 = number }) (record { start = 1; length = length bytes })
 
 unfoldable pub shownRelayRead : Read FromClient → RelayRead
@@ -42,6 +46,11 @@ shownRelayRead (refused why) = Refused why
 pub record RelayReads (bytes : List ℕ) (answer : RelayRead) : Type 0 where
   pub means : relayReadOf bytes answer ≡ relayRead bytes
   pub exact : answer ≡ shownRelayRead (relayRead bytes)
+
+-- the refusal in a read that is one; of a packet, which has none, 5
+unfoldable pub relayRefusal : RelayRead → Refusal
+relayRefusal (Packet shown) = UnexpectedKind
+relayRefusal (Refused why) = why
 
 -- "the data is shown as part of the lent packet": the payload of a packet that has one
 unfoldable pub payloadFromClient : FromClient → List ℕ
@@ -56,18 +65,14 @@ unfoldable pub relayPayload : Read FromClient → List ℕ
 relayPayload (packet p) = payloadFromClient p
 relayPayload (refused why) = []
 
--- where that payload begins in the lent packet: behind the kind and the key, or behind the number. Where there is none, the empty part is at the front.
-unfoldable pub placeFromClient : FromClient → ℕ
-placeFromClient (routingRequest key) = 0
-placeFromClient (dropRoute number) = 0
-placeFromClient (ping n) = 0
-placeFromClient (pong n) = 0
-placeFromClient (oobSend key bytes) = 33
-placeFromClient (routedData number bytes) = 1
-
-unfoldable pub relayPayloadPlace : Read FromClient → ℕ
-relayPayloadPlace (packet p) = placeFromClient p
-relayPayloadPlace (refused why) = 0
+-- the part of the lent packet that a case names as its payload
+unfoldable pub clientPart : ClientPacket → Part
+clientPart (RoutingRequest key) = noPart
+clientPart (DropRoute number) = noPart
+clientPart (Ping n) = noPart
+clientPart (Pong n) = noPart
+clientPart (OobSend key part) = part
+clientPart (Data number part) = part
 
 -- the key of a packet that has one
 unfoldable pub keyFromClient : FromClient → List ℕ

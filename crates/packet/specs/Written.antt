@@ -10,13 +10,13 @@ use Rattle.refusal.specs.declared.Refusal.the-variants.{PacketSize, UnexpectedK
 use Rattle.packet.specs.declared.write.Written.{Written}
 use Rattle.packet.specs.declared.write.Written.the-variants.{Bytes, Refused}
 use Rattle.packet.specs.Read.{Read, packet, refused, check}
-use Rattle.packet.specs.Table.{sizeRight}
+use Rattle.packet.specs.Table.{firstNumber, sizeRight}
 use Rattle.packet.specs.FromClient as client
 use Rattle.packet.specs.FromRelay as relay
 
 -- a data number below 16 would be read as another kind, so the writer gives 5 for it, after 4
 unfoldable pub dataNumber : {A : Type 0} → ℕ → List ℕ → Read A → Read A
-dataNumber number bytes after = check (sizeRight (length (number ∷ bytes))) PacketSize (check (leb 16 number) UnexpectedKind after)
+dataNumber number bytes after = check (sizeRight (length (number ∷ bytes))) PacketSize (check (leb firstNumber number) UnexpectedKind after)
 
 -- how a client's writer judges the packet that it would make: as the relay's reader does
 unfoldable pub clientJudged : client.FromClient → Read client.FromClient

@@ -2,10 +2,10 @@
 ghost use mathlib.Core.Path.{_≡_};
 ghost use mathlib.Core.Bool.{true};
 ghost use lib.ListN.{length, drop};
-ghost use Rattle.packet.specs.FromRelay.{clientRead, fromRelay};
+ghost use Rattle.packet.specs.FromRelay.{fromRelay};
 ghost use Rattle.packet.specs.Table.{lengthRight};
 ghost use Rattle.packet.specs.Parts.{PartAt};
-ghost use Rattle.packet.specs.ClientReads.{ClientReads, shownRelay, clientPayload, clientPayloadPlace, clientKey};
+ghost use Rattle.packet.specs.ClientReads.{ClientReads, relayPacketOf, shownRelay, relayPart, keyFromRelay};
 use crate::kind;
 use crate::parts;
 use crate::parts::ConnectionNumber;
@@ -77,8 +77,8 @@ fn shown(kind: u8, packet: &[u8]) -> RelayPacket
         kind::OOB_RECEIVED => RelayPacket::OobReceived {
             key: 1,
             payload: Part {
-                start: 33,
-                length: packet.len() - 33,
+                start: kind::KIND_AND_KEY,
+                length: packet.len() - kind::KIND_AND_KEY,
             },
         },
         _ => RelayPacket::Data(
@@ -92,13 +92,10 @@ fn shown(kind: u8, packet: &[u8]) -> RelayPacket
 }
 
 // The payload of a data packet or an out-of-band packet, as a part of the lent packet; the empty part at its front where there is none.
-pub fn payload(packet: &[u8]) -> &[u8]
-    ensures { λ r. ⌜ PartAt (packet .entry) (clientPayloadPlace (clientRead (now (packet .entry)))) (clientPayload (clientRead (now (packet .entry)))) r ⌝ }
+pub fn payload(packet: &[u8], shown: RelayPacket) -> &[u8]
+    ensures { λ r. ⌜ PartAt (packet .entry) (relayPart shown) r ⌝ }
 {
-    let ClientRead::Packet(read) = read(packet) else {
-        return &packet[..0];
-    };
-    match read {
+    match shown {
         RelayPacket::OobReceived { key: _, payload } => parts::bytes_at(packet, payload),
         RelayPacket::Data(_, payload) => parts::bytes_at(packet, payload),
         _ => &packet[..0],
@@ -106,13 +103,10 @@ pub fn payload(packet: &[u8]) -> &[u8]
 }
 
 // The key of a routing response or an out-of-band packet, by value; the key of zeros where there is none.
-pub fn key(packet: &[u8]) -> Key
-    ensures { λ r. ⌜ r .0 ≡ clientKey (clientRead (now (packet .entry))) ⌝ }
+pub fn key(packet: &[u8], shown: RelayPacket) -> Key
+    ensures { λ r. ⌜ r .0 ≡ keyFromRelay (relayPacketOf (now (packet .entry)) shown) ⌝ }
 {
-    let ClientRead::Packet(read) = read(packet) else {
-        return Key([0u8; 32]);
-    };
-    match read {
+    match shown {
         RelayPacket::RoutingResponse { number: _, key } => parts::key_at(packet, key),
         RelayPacket::OobReceived { key, payload: _ } => parts::key_at(packet, key),
         _ => Key([0u8; 32]),

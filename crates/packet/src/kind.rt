@@ -2,6 +2,7 @@
 // share them.
 ghost use mathlib.Core.Path.{_≡_};
 ghost use Rattle.packet.specs.Table.{sizeRight, relayTakes, clientTakes, lengthRight, pingRight, numberRight};
+use crate::parts::ConnectionNumber;
 
 pub(crate) const REQUEST: u8 = 0;
 
@@ -19,11 +20,17 @@ pub(crate) const OOB_SEND: u8 = 6;
 
 pub(crate) const OOB_RECEIVED: u8 = 7;
 
-// The lowest connection number, and so the lowest kind of a data packet.
-pub(crate) const FIRST_NUMBER: u8 = 16;
-
 // "document 001 caps a sealed packet at 2,048, and sealing adds 16"
 pub(crate) const MOST_BYTES: usize = 2032;
+
+// The bytes of a kind and a key: a routing request has these alone, and an out-of-band payload begins behind them.
+pub(crate) const KIND_AND_KEY: usize = 33;
+
+// With one byte more: those of a routing response, and the fewest of an out-of-band packet.
+pub(crate) const KIND_KEY_AND_BYTE: usize = 34;
+
+// The most of an out-of-band packet: its payload has at most 1,024.
+pub(crate) const MOST_OOB_BYTES: usize = 1057;
 
 // 4: "A packet has 1 to 2,032 bytes".
 pub(crate) fn size_right(size: usize) -> bool
@@ -39,7 +46,7 @@ pub(crate) fn size_right(size: usize) -> bool
 pub(crate) fn relay_takes(kind: u8) -> bool
     ensures { λ r. ⌜ r ≡ relayTakes kind ⌝ }
 {
-    if FIRST_NUMBER <= kind {
+    if ConnectionNumber::FIRST <= kind {
         return true;
     }
     match kind {
@@ -52,7 +59,7 @@ pub(crate) fn relay_takes(kind: u8) -> bool
 pub(crate) fn client_takes(kind: u8) -> bool
     ensures { λ r. ⌜ r ≡ clientTakes kind ⌝ }
 {
-    if FIRST_NUMBER <= kind {
+    if ConnectionNumber::FIRST <= kind {
         return true;
     }
     match kind {
@@ -66,15 +73,15 @@ pub(crate) fn length_right(kind: u8, size: usize) -> bool
     ensures { λ r. ⌜ r ≡ lengthRight kind size ⌝ }
 {
     match kind {
-        REQUEST => size == 33,
-        RESPONSE => size == 34,
+        REQUEST => size == KIND_AND_KEY,
+        RESPONSE => size == KIND_KEY_AND_BYTE,
         CONNECT | DISCONNECT => size == 2,
         PING | PONG => size == 9,
         OOB_SEND | OOB_RECEIVED => {
-            if size < 34 {
+            if size < KIND_KEY_AND_BYTE {
                 return false;
             }
-            size <= 1057
+            size <= MOST_OOB_BYTES
         }
         _ => 2 <= size,
     }
@@ -99,9 +106,9 @@ pub(crate) fn number_right(kind: u8, number: u8) -> bool
             if number == 0 {
                 return true;
             }
-            FIRST_NUMBER <= number
+            ConnectionNumber::FIRST <= number
         }
-        CONNECT | DISCONNECT => FIRST_NUMBER <= number,
+        CONNECT | DISCONNECT => ConnectionNumber::FIRST <= number,
         _ => true,
     }
 }

@@ -2,10 +2,10 @@
 ghost use mathlib.Core.Path.{_≡_};
 ghost use mathlib.Core.Bool.{true};
 ghost use lib.ListN.{length, drop};
-ghost use Rattle.packet.specs.FromClient.{relayRead, fromClient};
+ghost use Rattle.packet.specs.FromClient.{fromClient};
 ghost use Rattle.packet.specs.Table.{lengthRight};
 ghost use Rattle.packet.specs.Parts.{PartAt};
-ghost use Rattle.packet.specs.RelayReads.{RelayReads, shownClient, relayPayload, relayPayloadPlace, relayKey};
+ghost use Rattle.packet.specs.RelayReads.{RelayReads, clientPacketOf, shownClient, clientPart, keyFromClient, relayRefusal};
 use crate::kind;
 use crate::parts;
 use crate::parts::ConnectionNumber;
@@ -26,6 +26,18 @@ pub enum ClientPacket {
 pub enum RelayRead {
     Packet(ClientPacket),
     Refused(Refusal),
+}
+
+impl RelayRead {
+    // The refusal in a read that is one: the `else` of a `let` binds no name, and takes it from here. Of a packet, which has none, it answers 5.
+    pub fn refusal(self) -> Refusal
+        ensures { λ r. ⌜ r ≡ relayRefusal self ⌝ }
+    {
+        match self {
+            RelayRead::Refused(why) => why,
+            RelayRead::Packet(_) => Refusal::UnexpectedKind,
+        }
+    }
 }
 
 // Reads a packet from a client. Refusals 4, 5, 6, 7, in this order.
@@ -62,8 +74,8 @@ fn shown(kind: u8, packet: &[u8]) -> ClientPacket
         kind::OOB_SEND => ClientPacket::OobSend {
             key: 1,
             payload: Part {
-                start: 33,
-                length: packet.len() - 33,
+                start: kind::KIND_AND_KEY,
+                length: packet.len() - kind::KIND_AND_KEY,
             },
         },
         _ => ClientPacket::Data(
@@ -77,13 +89,10 @@ fn shown(kind: u8, packet: &[u8]) -> ClientPacket
 }
 
 // The payload of a data packet or an out-of-band send, as a part of the lent packet; the empty part at its front where there is none.
-pub fn payload(packet: &[u8]) -> &[u8]
-    ensures { λ r. ⌜ PartAt (packet .entry) (relayPayloadPlace (relayRead (now (packet .entry)))) (relayPayload (relayRead (now (packet .entry)))) r ⌝ }
+pub fn payload(packet: &[u8], shown: ClientPacket) -> &[u8]
+    ensures { λ r. ⌜ PartAt (packet .entry) (clientPart shown) r ⌝ }
 {
-    let RelayRead::Packet(read) = read(packet) else {
-        return &packet[..0];
-    };
-    match read {
+    match shown {
         ClientPacket::OobSend { key: _, payload } => parts::bytes_at(packet, payload),
         ClientPacket::Data(_, payload) => parts::bytes_at(packet, payload),
         _ => &packet[..0],
@@ -91,13 +100,10 @@ pub fn payload(packet: &[u8]) -> &[u8]
 }
 
 // The key of a routing request or an out-of-band send, by value; the key of zeros where there is none.
-pub fn key(packet: &[u8]) -> Key
-    ensures { λ r. ⌜ r .0 ≡ relayKey (relayRead (now (packet .entry))) ⌝ }
+pub fn key(packet: &[u8], shown: ClientPacket) -> Key
+    ensures { λ r. ⌜ r .0 ≡ keyFromClient (clientPacketOf (now (packet .entry)) shown) ⌝ }
 {
-    let RelayRead::Packet(read) = read(packet) else {
-        return Key([0u8; 32]);
-    };
-    match read {
+    match shown {
         ClientPacket::RoutingRequest { key } => parts::key_at(packet, key),
         ClientPacket::OobSend { key, payload: _ } => parts::key_at(packet, key),
         _ => Key([0u8; 32]),

@@ -19,12 +19,12 @@ pub enum Written {
 pub fn routing_request(key: Key, out: &mut [u8]) -> Written
     ensures { λ r. ⌜ ClientWrites (routingRequest (key .0)) (now (out .entry)) (now (out .exit)) r ⌝ }
 {
-    if out.len() < 33 {
+    if out.len() < kind::KIND_AND_KEY {
         return Written::Refused(Refusal::OutputTooShort);
     }
     out[0] = kind::REQUEST;
-    key.write(&mut out[1..33]);
-    Written::Bytes(33)
+    key.write(&mut out[1..kind::KIND_AND_KEY]);
+    Written::Bytes(kind::KIND_AND_KEY)
 }
 
 // The relay's response to a routing request, with the number given or 0: 8, 10.
@@ -34,20 +34,20 @@ pub fn routing_response(number: ConnectionNumber, key: Key, out: &mut [u8]) -> W
     if !kind::number_right(kind::RESPONSE, number.0) {
         return Written::Refused(Refusal::NoSuchRoute);
     }
-    if out.len() < 34 {
+    if out.len() < kind::KIND_KEY_AND_BYTE {
         return Written::Refused(Refusal::OutputTooShort);
     }
     out[0] = kind::RESPONSE;
     out[1] = number.0;
-    key.write(&mut out[2..34]);
-    Written::Bytes(34)
+    key.write(&mut out[2..kind::KIND_KEY_AND_BYTE]);
+    Written::Bytes(kind::KIND_KEY_AND_BYTE)
 }
 
 // The relay's connect notification: 8, 10.
 pub fn connect_notification(number: ConnectionNumber, out: &mut [u8]) -> Written
     ensures { λ r. ⌜ RelayWrites (connectNotice (number .0)) (now (out .entry)) (now (out .exit)) r ⌝ }
 {
-    if number.0 < kind::FIRST_NUMBER {
+    if number.0 < ConnectionNumber::FIRST {
         return Written::Refused(Refusal::NoSuchRoute);
     }
     put_pair(kind::CONNECT, number.0, out)
@@ -57,7 +57,7 @@ pub fn connect_notification(number: ConnectionNumber, out: &mut [u8]) -> Written
 pub fn disconnect_notification(number: ConnectionNumber, out: &mut [u8]) -> Written
     ensures { λ r. ⌜ RelayWrites (disconnectNotice (number .0)) (now (out .entry)) (now (out .exit)) r ⌝ }
 {
-    if number.0 < kind::FIRST_NUMBER {
+    if number.0 < ConnectionNumber::FIRST {
         return Written::Refused(Refusal::NoSuchRoute);
     }
     put_pair(kind::DISCONNECT, number.0, out)
@@ -94,7 +94,7 @@ pub fn pong(number: u64, out: &mut [u8]) -> Written
 pub fn oob_send(key: Key, data: &[u8], out: &mut [u8]) -> Written
     ensures { λ r. ⌜ ClientWrites (oobSend (key .0) (now («data» .entry))) (now (out .entry)) (now (out .exit)) r ⌝ }
 {
-    let size = 33 + data.len();
+    let size = kind::KIND_AND_KEY + data.len();
     if !kind::size_right(size) {
         return Written::Refused(Refusal::PacketSize);
     }
@@ -108,7 +108,7 @@ pub fn oob_send(key: Key, data: &[u8], out: &mut [u8]) -> Written
 pub fn oob_received(key: Key, data: &[u8], out: &mut [u8]) -> Written
     ensures { λ r. ⌜ RelayWrites (oobReceived (key .0) (now («data» .entry))) (now (out .entry)) (now (out .exit)) r ⌝ }
 {
-    let size = 33 + data.len();
+    let size = kind::KIND_AND_KEY + data.len();
     if !kind::size_right(size) {
         return Written::Refused(Refusal::PacketSize);
     }
@@ -126,7 +126,7 @@ pub fn data(number: ConnectionNumber, data: &[u8], out: &mut [u8]) -> Written
     if !kind::size_right(size) {
         return Written::Refused(Refusal::PacketSize);
     }
-    if number.0 < kind::FIRST_NUMBER {
+    if number.0 < ConnectionNumber::FIRST {
         return Written::Refused(Refusal::UnexpectedKind);
     }
     if data.len() == 0 {
@@ -168,12 +168,12 @@ fn put_number(kind: u8, number: u64, out: &mut [u8]) -> Written
 fn put_addressed(kind: u8, key: Key, data: &[u8], out: &mut [u8]) -> Written
     ensures { λ r. ⌜ Puts (kind ∷ (key .0 ++ now («data» .entry))) (now (out .entry)) r (now (out .exit)) ⌝ }
 {
-    let size = 33 + data.len();
+    let size = kind::KIND_AND_KEY + data.len();
     if out.len() < size {
         return Written::Refused(Refusal::OutputTooShort);
     }
     out[0] = kind;
-    key.write(&mut out[1..33]);
-    bytes::copy(data, &mut out[33..size]);
+    key.write(&mut out[1..kind::KIND_AND_KEY]);
+    bytes::copy(data, &mut out[kind::KIND_AND_KEY..size]);
     Written::Bytes(size)
 }

@@ -8,7 +8,7 @@ use lib.ListN.{length}
 use borrow.Author.Tests.{le-leb, lt-leb}
 use Rattle.refusal.specs.declared.Refusal.{Refusal}
 use Rattle.refusal.specs.declared.Refusal.the-variants.{OutputTooShort, RoomNotWhole}
-use Rattle.rules.specs.Call.{Call, Answer, refused}
+use Rattle.rules.specs.Call.{Call, Answer, refused, needed}
 use Rattle.rules.specs.Outcome.{Outcome, refuse, outcome}
 use Rattle.rules.specs.Accepted.{RefusedOrAccepted, refusal}
 use Rattle.rules.proofs.RefusedOrAccepted.{outcome-made}
@@ -17,7 +17,7 @@ use Rattle.room.specs.Whole.{roomWhole}
 use Rattle.room.specs.Store.{storeAll}
 use Rattle.relay.specs.declared.play.Run.{Run}
 use Rattle.relay.specs.declared.play.Run.the-variants.{Refused}
-use Rattle.relay.specs.Calls.{Leaves, tested, needed, ifLong, withOutput}
+use Rattle.relay.specs.Calls.{Leaves, tested, ifLong, withOutput}
 use Rattle.relay.specs.Play.{playing, Plays}
 use Rattle.relay.specs.PlaySteps.{RunsOn}
 use Rattle.relay.proofs.OutcomeLeaves.{leaves-refused}

@@ -6,34 +6,34 @@ use native.Mathlib.Omega.{arith}
 use Rattle.refusal.specs.declared.Refusal.the-variants.{NoSuchRoute, NotConnected}
 use Rattle.packet.specs.FromClient as client
 use Rattle.packet.specs.FromRelay as relay
-use Rattle.rules.specs.Room.{Key, Route, free, wants, Room, none, at, find, seatOf, routeAt, Peer, alone, joined, firstNumber, numberOfPlace}
+use Rattle.rules.specs.Room.{Key, free, wants, Room, none, at, find, seatOf, routeAt, Peer, alone, joined, firstNumber, numberOfPlace, Held}
 use Rattle.rules.specs.Call.{Answer, accepted, refused}
 use Rattle.rules.specs.Outcome.{act, oobTo, dataAt, carryTo, peer, to}
 use Rattle.packet.specs.declared.parts.ConnectionNumber as numbers
-use Rattle.room.specs.declared.layout.Seat as seats
-use Rattle.relay.specs.declared.peer.Peer as code
+use Rattle.seat.specs.declared.Seat as seats
+use Rattle.room.specs.declared.peer.Peer as code
 use Rattle.relay.specs.Steps.{Carries}
-use Rattle.relay.specs.Output.{Appends}
+use Rattle.records.specs.Output.{Appends}
 use Rattle.relay.specs.Calls.{Leaves}
-use Rattle.relay.specs.Peers.{peerOf, PeerRight}
+use Rattle.room.specs.Numbers.{peerOf, PeerRight}
 use Rattle.relay.proofs.OutcomeLeaves.{leaves-refused, leaves-none, leaves-sent}
 
-module _ (s n : ℕ) (room : Room) (seat : ℕ) (key : Key) (routes : List Route) (b out : List ℕ) where
-  pub oob-nobody : (wanted : Key) (bytes : List ℕ) → find (seatOf wanted) room ≡ none → Leaves s n (act (client.oobSend wanted bytes) room seat key routes) b out (accepted seat 0) b out
+module _ (s n : ℕ) (room : Room) (seat : ℕ) (held : Held) (b out : List ℕ) where
+  pub oob-nobody : (wanted : Key) (bytes : List ℕ) → find (seatOf wanted) (room .seats) ≡ none → Leaves s n (act (client.oobSend wanted bytes) room seat held) b out (accepted seat 0) b out
   unfolding act oobTo
   oob-nobody wanted bytes e = rw e (leaves-none s n b out seat)
 
-  pub oob-seat : (wanted : Key) (bytes : List ℕ) (other : ℕ) → find (seatOf wanted) room ≡ at other → (r : ℕ) (left : List ℕ) →
-      Appends (to other (relay.oobReceived key bytes) ∷ []) out 0 r left → Leaves s n (act (client.oobSend wanted bytes) room seat key routes) b out (accepted seat r) b left
+  pub oob-seat : (wanted : Key) (bytes : List ℕ) (other : ℕ) → find (seatOf wanted) (room .seats) ≡ at other → (r : ℕ) (left : List ℕ) →
+      Appends (to other (relay.oobReceived (held .key) bytes) ∷ []) out 0 r left → Leaves s n (act (client.oobSend wanted bytes) room seat held) b out (accepted seat r) b left
   unfolding act oobTo
-  oob-seat wanted bytes other e r left w = rw e (leaves-sent s n b out seat (to other (relay.oobReceived key bytes) ∷ []) r left w)
+  oob-seat wanted bytes other e r left w = rw e (leaves-sent s n b out seat (to other (relay.oobReceived (held .key) bytes) ∷ []) r left w)
 
-  pub data-free : (number : ℕ) (bytes : List ℕ) → routeAt routes number ≡ free → Leaves s n (act (client.routedData number bytes) room seat key routes) b out (refused NoSuchRoute) b out
+  pub data-free : (number : ℕ) (bytes : List ℕ) → routeAt (held .routes) number ≡ free → Leaves s n (act (client.routedData number bytes) room seat held) b out (refused NoSuchRoute) b out
   unfolding act dataAt
   data-free number bytes e = rw e (leaves-refused s n b out NoSuchRoute)
 
-  pub data-carried : (number : ℕ) (bytes : List ℕ) (wanted : Key) → routeAt routes number ≡ wants wanted → (p : Peer) → p ≡ peer room seat key wanted →
-      (given : Answer) (left : List ℕ) → Leaves s n (carryTo p seat bytes) b out given b left → Leaves s n (act (client.routedData number bytes) room seat key routes) b out given b left
+  pub data-carried : (number : ℕ) (bytes : List ℕ) (wanted : Key) → routeAt (held .routes) number ≡ wants wanted → (p : Peer) → p ≡ peer room seat (held .key) wanted →
+      (given : Answer) (left : List ℕ) → Leaves s n (carryTo p seat bytes) b out given b left → Leaves s n (act (client.routedData number bytes) room seat held) b out given b left
   unfolding act dataAt
   data-carried number bytes wanted e p d given left w = rw (e, ← d) w
 

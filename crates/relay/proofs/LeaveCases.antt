@@ -18,10 +18,10 @@ use Rattle.rules.specs.Room.{Key, Route, free, wants, Seat, vacant, holds, Room
 use Rattle.rules.specs.Call.{Sent, leave, accepted, refused}
 use Rattle.rules.specs.Outcome.{peer, to, toPeer, tellPeer, tellPeers, sentBytes, outcome, leaveFrom, accept, refuse, seatEmptied}
 use Rattle.rules.proofs.WithinOutput.{tell-within}
-use Rattle.room.specs.declared.layout.Seat as seats
+use Rattle.seat.specs.declared.Seat as seats
 use Rattle.room.specs.declared.lookup.Wanted.{Wanted}
 use Rattle.room.specs.Layout.{keyBytes, seatBytes, seatTable, seatStart, routesTable}
-use Rattle.room.specs.View.{viewRoom, viewRoutes}
+use Rattle.room.specs.View.{viewRoom, viewRoutes, seatHeld}
 use Rattle.room.specs.Whole.{roomWhole}
 use Rattle.room.specs.Store.{store, storeAll}
 use Rattle.room.specs.Lookup.{hasSeat, taken, keyIn}
@@ -31,14 +31,14 @@ use Rattle.room.proofs.LookupSteps.{has-seat-facts, key-in-seat}
 use Rattle.room_laws.proofs.LookupLaws.{taken-is, taken-holds}
 use Rattle.room_laws.proofs.TablesLaws.{seat-key-stands}
 use Rattle.room_laws.proofs.WholeLaws.{whole-fits}
-use Rattle.relay.specs.declared.peer.Peer as code
-use Rattle.relay.specs.Peers.{peerFound}
-use Rattle.relay.specs.Output.{Appends}
+use Rattle.room.specs.declared.peer.Peer as code
+use Rattle.room.specs.Numbers.{peerFound}
 use Rattle.relay.specs.Calls.{Leaves}
 use Rattle.relay.specs.Steps.{Sits}
 use Rattle.relay.proofs.SeatedClient.{wanted-free, wanted-wants, sits-numbered, route-of-number}
-use Rattle.relay.proofs.PeersFound.{found-joined, found-alone}
-use Rattle.relay.proofs.AppendLaws.{appends-none, appends-more, appends-front, appends-front-answer}
+use Rattle.room_laws.proofs.PeersFound.{found-joined, found-alone}
+use Rattle.records.specs.Output.{Appends}
+use Rattle.records.proofs.AppendLaws.{appends-none, appends-more, appends-front, appends-front-answer}
 
 -- ---- one peer told
 
@@ -156,7 +156,7 @@ module _ (s n : ℕ) (b : List ℕ) (whole : roomWhole s n b ≡ true) (i : ℕ)
     where
       none : (x : Seat) → not (isVacant x) ≡ false → x ≡ vacant
       none vacant e = refl
-      none (holds k routes) e = let z : _≡_ {A = Bool} true false = unfold isVacant in e in cc
+      none (holds held) e = let z : _≡_ {A = Bool} true false = unfold isVacant in e in cc
 
   -- the key that a taken seat holds
   key-of-taken : taken s n b i ≡ true → keyIn s n b i ≡ take keyBytes (drop (seatStart s n i) b)
@@ -168,10 +168,11 @@ module _ (s n : ℕ) (b : List ℕ) (whole : roomWhole s n b ≡ true) (i : ℕ)
       ∙ rw (seats-fit s n b (whole-fits s n b whole), lt-ltb i s l) (key-record s (seatBytes n) (seatTable s n b) i (omega arith))
       ∙ seat-key-stands s n b i l
 
-  pub leave-sits : taken s n b i ≡ true → (key : Key) → key ≡ keyIn s n b i → Sits s n b i key
-  leave-sits h key e =
+  pub leave-sits : (r : Bool) → r ≡ taken s n b i → r ≡ true → (key : Key) → key ≡ keyIn s n b i → Sits s n b i key
+  leave-sits r f d key e =
+      let h : taken s n b i ≡ true = sym f ∙ d in
       taken-holds s n b whole i h
-      ∙ ap (λ (k : Key). holds k (viewRoutes n (routesTable s n b i))) (sym (e ∙ key-of-taken h))
+      ∙ ap (λ (k : Key). holds (seatHeld s n b i k)) (sym (e ∙ key-of-taken h))
 
   pub leave-seat : (key : Key) → Sits s n b i key → (out : List ℕ) (bytes : ℕ) (b′ out′ : List ℕ)
       → Appends (tellPeers (viewRoom s n b) i key (viewRoutes n (routesTable s n b i))) out 0 bytes out′

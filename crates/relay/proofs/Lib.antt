@@ -1,10 +1,7 @@
 -- The laws that the functions rest on.
-pub mod AppendLaws
-pub mod PeerCases
 pub mod ArriveCases
 pub mod OutcomeLeaves
 pub mod SeatedClient
-pub mod PeersFound
 pub mod CarryCases
 pub mod LeaveCases
 pub mod DropCases
@@ -12,7 +9,6 @@ pub mod RequestCases
 pub mod PacketCases
 pub mod CallsLaws
 pub mod LentParts
-pub mod EntryLaws
 pub mod PlayLaws
 pub mod MakeCases
 pub mod NextCases

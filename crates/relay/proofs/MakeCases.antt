@@ -12,7 +12,7 @@ use Rattle.rules.specs.Room.{Key, Room}
 use Rattle.rules.specs.Call.{Call, arrive, leave, packetCall, Answer, Sent}
 use Rattle.rules.specs.Outcome.{outcome, sentBytes}
 use Rattle.rules.proofs.QuietArrival.{arrive-sends-nothing}
-use Rattle.room.specs.declared.layout.Seat.{Seat}
+use Rattle.seat.specs.declared.Seat.{Seat}
 use Rattle.room.specs.View.{viewRoom}
 use Rattle.stored.specs.declared.StoredCall.{StoredCall}
 use Rattle.stored.specs.declared.StoredCall.the-variants.{Arrive, Leave, Packet}

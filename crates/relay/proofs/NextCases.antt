@@ -14,7 +14,7 @@ use Rattle.relay.specs.Calls.{written, Leaves}
 use Rattle.relay.specs.Play.{entryHead, entryBytes}
 use Rattle.relay.proofs.OutcomeLeaves.{made-written}
 use Rattle.relay.proofs.LentParts.{from, from-is, length-from, back, back-is}
-use Rattle.relay.proofs.EntryLaws.{length-entry-head}
+use Rattle.records.proofs.EntryLaws.{length-entry-head}
 
 module _ (s n : ℕ) (b : List ℕ) (c : Call) (given : Answer) (out new b′ : List ℕ) (long : 4 ≤ length out)
     (l : Leaves s n (outcome (viewRoom s n b) c) b (from 4 out) given b′ new) (kept : length new ≡ length (from 4 out)) where

@@ -9,9 +9,9 @@ use Rattle.rules.specs.Call.{Sent, accepted, refused}
 use Rattle.rules.specs.Outcome.{Outcome, accept, refuse, sentBytes}
 use Rattle.rules.specs.Accepted.{RefusedOrAccepted, refusal, acceptance}
 use Rattle.room.specs.Store.{storeAll}
-use Rattle.relay.specs.Output.{Appends}
+use Rattle.records.specs.Output.{Appends}
 use Rattle.relay.specs.Calls.{written, Leaves}
-use Rattle.relay.proofs.AppendLaws.{appends-front, appends-front-answer}
+use Rattle.records.proofs.AppendLaws.{appends-front, appends-front-answer}
 
 module _ (s n : ℕ) (b out : List ℕ) where
   pub leaves-refused : (why : Refusal) → Leaves s n (refuse why) b out (refused why) b out

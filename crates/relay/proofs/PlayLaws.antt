@@ -1,5 +1,5 @@
 -- Laws of a run of stored calls: what comes next, and a run as its first call and the rest. Assumes nothing.
-use mathlib.Core.Path.{_≡_, refl, ap, _∙_}
+use mathlib.Core.Path.{_≡_, refl, ap, _∙_, subst}
 use mathlib.Core.Bool.{Bool, true, false, false≢true, cond}
 use mathlib.Core.List.{List, [], _∷_, _++_}
 use Prim.Native.Nat.{ℕ, zero, suc, _-_, _≤_, _<_}
@@ -8,16 +8,25 @@ use lib.Dec.{eqb, leb}
 use lib.ListN.{length, drop}
 use borrow.Author.Tests.{le-leb, lt-leb, leb-true, eq-eqb, ne-eqb, eqb-false}
 use Rattle.rules.specs.Room.{Sizes, Room}
-use Rattle.rules.specs.Call.{Call}
+use Rattle.rules.specs.Call.{Call, arrive, leave, packetCall}
 use Rattle.rules.specs.Outcome.{Change, outcome, roomAfter}
 use Rattle.rules.specs.History.{event}
 use Rattle.room.specs.Store.{storeAll}
 use Rattle.stored.specs.Stored.{storedBytes, First, none, call, firstCall}
 use Rattle.relay.specs.declared.play.Stop.{Stop}
 use Rattle.relay.specs.declared.play.Stop.the-variants.{End, NoCall, Allowance, Output}
-use Rattle.relay.specs.Play.{Next, stops, plays, leastSpace, nextCall, next, Run, goOn, run, entryBytes}
+use Rattle.relay.specs.Play.{Next, stops, plays, leastSpace, nextCall, next, Run, goOn, run, entryBytes, mostSpace}
 
 -- ---- what comes next
+
+-- the same is asked before every call
+pub least-space : (c : Call) → leastSpace c ≡ mostSpace
+least-space (arrive key) = refl
+least-space (leave seat) = refl
+least-space (packetCall seat bytes) = refl
+
+pub space-within : (c : Call) → leastSpace c ≤ mostSpace
+space-within c = let e = least-space c in omega arith
 
 module _ (allowance : ℕ) (stored : List ℕ) (space : ℕ) where
   pub next-end : length stored ≡ 0 → next allowance stored space ≡ stops End
@@ -34,19 +43,19 @@ module _ (allowance : ℕ) (stored : List ℕ) (space : ℕ) where
       unfolding next nextCall
       next-no-call e = simp (ne-eqb (length stored) 0 more, ne-eqb allowance 0 allowed, e)
 
-      pub next-output : (c : Call) → firstCall stored ≡ call c → space < leastSpace → next allowance stored space ≡ stops Output
+      pub next-output : (c : Call) → firstCall stored ≡ call c → space < leastSpace c → next allowance stored space ≡ stops Output
       unfolding next nextCall
-      next-output c e h = simp (ne-eqb (length stored) 0 more, ne-eqb allowance 0 allowed, e, lt-leb leastSpace space h)
+      next-output c e h = simp (ne-eqb (length stored) 0 more, ne-eqb allowance 0 allowed, e, lt-leb (leastSpace c) space h)
 
-      pub next-plays : (c : Call) → firstCall stored ≡ call c → leastSpace ≤ space → next allowance stored space ≡ plays c
+      pub next-plays : (c : Call) → firstCall stored ≡ call c → leastSpace c ≤ space → next allowance stored space ≡ plays c
       unfolding next nextCall
-      next-plays c e h = simp (ne-eqb (length stored) 0 more, ne-eqb allowance 0 allowed, e, le-leb leastSpace space h)
+      next-plays c e h = simp (ne-eqb (length stored) 0 more, ne-eqb allowance 0 allowed, e, le-leb (leastSpace c) space h)
 
 -- what a call that comes next says
 pub record Comes (allowance : ℕ) (stored : List ℕ) (space : ℕ) (c : Call) : Type 0 where
   pub allowed : allowance ≡ 0 → ⊥
   pub first : firstCall stored ≡ call c
-  pub room : leastSpace ≤ space
+  pub room : leastSpace c ≤ space
 
 pub next-is : (allowance : ℕ) (stored : List ℕ) (space : ℕ) (c : Call) → next allowance stored space ≡ plays c → Comes allowance stored space c
 unfolding next nextCall
@@ -54,10 +63,14 @@ next-is allowance stored space c e = at-end (eqb (length stored) 0) e
   where
     with-call : (f : First) → firstCall stored ≡ f → (allowance ≡ 0 → ⊥) → nextCall f space ≡ plays c → Comes allowance stored space c
     with-call none q a e = let z : stops NoCall ≡ plays c = e in absurd (false≢true (cc))
-    with-call (call d) q a e = with-space (leb leastSpace space) refl e
+    with-call (call d) q a e = with-space (leb (leastSpace d) space) refl e
       where
-        with-space : (t : Bool) → leb leastSpace space ≡ t → cond t (plays d) (stops Output) ≡ plays c → Comes allowance stored space c
-        with-space true l e = let same : d ≡ c = cc in record { allowed = a; first = q ∙ ap call same; room = leb-true leastSpace space l }
+        with-space : (t : Bool) → leb (leastSpace d) space ≡ t → cond t (plays d) (stops Output) ≡ plays c → Comes allowance stored space c
+        with-space true l e = let same : d ≡ c = cc in record {
+          allowed = a;
+          first = q ∙ ap call same;
+          room = subst (λ (x : Call). leastSpace x ≤ space) same (leb-true (leastSpace d) space l);
+        }
         with-space false l e = let z : stops Output ≡ plays c = e in absurd (false≢true (cc))
 
     at-allowance : (t : Bool) → eqb allowance 0 ≡ t → cond t (stops Allowance) (nextCall (firstCall stored) space) ≡ plays c → Comes allowance stored space c

@@ -12,25 +12,25 @@ use Rattle.packet.specs.declared.parts.ConnectionNumber.{ConnectionNumber}
 use Rattle.rules.specs.Room.{firstNumber, numberOfPlace, Key, Seat, Found, none, at, find, routeTo, isFree, routesOf}
 use Rattle.rules.specs.Call.{accepted}
 use Rattle.rules.specs.Outcome.{act, accept, requestAt, tellBoth, to, peer, routeGiven}
-use Rattle.room.specs.declared.layout.Seat as seats
+use Rattle.seat.specs.declared.Seat as seats
 use Rattle.room.specs.declared.lookup.FoundNumber.{FoundNumber}
 use Rattle.room.specs.declared.lookup.FoundNumber.the-variants as number
 use Rattle.room.specs.Layout.{routesTable}
-use Rattle.room.specs.View.{viewRoom, viewRoutes}
+use Rattle.room.specs.View.{viewRoom, viewRoutes, seatHeld}
 use Rattle.room.specs.Whole.{roomWhole}
 use Rattle.room.specs.Lookup.{routeWanting, lowestRoute}
 use Rattle.room.specs.Numbers.{numberFound, givenNumber}
 use Rattle.room.specs.Store.{store, storeAll}
 use Rattle.room_laws.proofs.LookupLaws.{route-wanting-finds, lowest-route-finds}
 use Rattle.room_laws.proofs.AnswerLaws.{number-found, number-not-found}
-use Rattle.relay.specs.declared.peer.Peer as code
-use Rattle.relay.specs.Peers.{peerFound, peerOf}
-use Rattle.relay.specs.Output.{Appends}
+use Rattle.room.specs.declared.peer.Peer as code
+use Rattle.room.specs.Numbers.{peerFound, peerOf}
 use Rattle.relay.specs.Calls.{Leaves}
 use Rattle.relay.specs.Steps.{Sits, Gives}
 use Rattle.relay.proofs.SeatedClient.{sits-taken}
-use Rattle.relay.proofs.PeersFound.{found-back}
-use Rattle.relay.proofs.AppendLaws.{appends-none, appends-more, appends-one-next, appends-front, appends-front-answer}
+use Rattle.room_laws.proofs.PeersFound.{found-back}
+use Rattle.records.specs.Output.{Appends}
+use Rattle.records.proofs.AppendLaws.{appends-none, appends-more, appends-one-next, appends-front, appends-front-answer}
 
 -- ---- the peer that the code has, read back
 
@@ -112,7 +112,7 @@ module _ (s n : ℕ) (b : List ℕ) (i : ℕ) (key wanted : Key) (whole : roomWh
   module _ (out : List ℕ) (bytes : ℕ) (out′ : List ℕ) (first : FoundNumber) (looked : first ≡ numberFound (routeWanting s n b i wanted)) where
     -- an old number
     pub request-old : (old : ConnectionNumber) → first ≡ number.At old → Appends (to i (routingResponse (old .0) wanted) ∷ []) out 0 bytes out′
-        → Leaves s n (act (routingRequest wanted) (viewRoom s n b) i key (viewRoutes n (routesTable s n b i))) b out (accepted i bytes) b out′
+        → Leaves s n (act (routingRequest wanted) (viewRoom s n b) i (seatHeld s n b i key)) b out (accepted i bytes) b out′
     unfolding act requestAt accept storeAll
     request-old old e p =
         let f = number-found (routeWanting s n b i wanted) old (sym looked ∙ e) in
@@ -131,7 +131,7 @@ module _ (s n : ℕ) (b : List ℕ) (i : ℕ) (key wanted : Key) (whole : roomWh
 
       -- none free
       pub request-full : second ≡ number.None → Appends (to i (routingResponse 0 wanted) ∷ []) out 0 bytes out′
-          → Leaves s n (act (routingRequest wanted) (viewRoom s n b) i key (viewRoutes n (routesTable s n b i))) b out (accepted i bytes) b out′
+          → Leaves s n (act (routingRequest wanted) (viewRoom s n b) i (seatHeld s n b i key)) b out (accepted i bytes) b out′
       unfolding act requestAt accept storeAll
       request-full e p =
           let g : find isFree (viewRoutes n (routesTable s n b i)) ≡ none = sym lowest ∙ number-not-found (lowestRoute s n b i) (sym looked′ ∙ e) in
@@ -144,7 +144,7 @@ module _ (s n : ℕ) (b : List ℕ) (i : ℕ) (key wanted : Key) (whole : roomWh
 
       -- a number given
       pub request-given : (given : ConnectionNumber) → second ≡ number.At given → (b′ : List ℕ) → Gives s n b i key wanted (given .0) out bytes b′ out′
-          → Leaves s n (act (routingRequest wanted) (viewRoom s n b) i key (viewRoutes n (routesTable s n b i))) b out (accepted i bytes) b′ out′
+          → Leaves s n (act (routingRequest wanted) (viewRoom s n b) i (seatHeld s n b i key)) b out (accepted i bytes) b′ out′
       unfolding act requestAt accept storeAll
       request-given given e b′ p =
           let f = number-found (lowestRoute s n b i) given (sym looked′ ∙ e) in

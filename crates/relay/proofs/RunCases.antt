@@ -18,9 +18,9 @@ use Rattle.stored.specs.Stored.{storedBytes, storedAll, call, firstCall}
 use Rattle.stored.proofs.StoredLaws.{Formed, arrives, leaves, sends, givenIn, first-is}
 use Rattle.relay.specs.declared.play.Run as code
 use Rattle.relay.specs.declared.play.Stop.{Stop}
-use Rattle.relay.specs.Output.{appended}
+use Rattle.records.specs.Output.{appended}
 use Rattle.relay.specs.Play.{entryBytes, entriesBytes, plays, next, Run, run, changesAll, played, LeavesRun}
-use Rattle.relay.proofs.AppendLaws.{length-appended, appended-more, appended-front, appended-none}
+use Rattle.records.proofs.AppendLaws.{length-appended, appended-more, appended-front, appended-none}
 use Rattle.relay.proofs.PlayLaws.{ended, firstThen, run-plays, store-all-append, next-is}
 
 -- ---- what is left to play

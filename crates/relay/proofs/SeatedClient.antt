@@ -7,13 +7,15 @@ use lib.Dec.{ltb}
 use lib.ListN.{getD}
 use borrow.Author.Tests.{le-ltb}
 use Rattle.rules.specs.Room.{Key, Route, free, wants, Seat, isVacant, routesOf, routeAt, firstNumber}
+use Rattle.rules.specs.Outcome.{peer}
 use Rattle.room.specs.declared.lookup.Wanted.{Wanted}
+use Rattle.room.specs.declared.peer.Peer.{Peer}
 use Rattle.room.specs.Layout.{routesTable}
-use Rattle.room.specs.View.{viewRoutes}
+use Rattle.room.specs.View.{viewRoom, viewRoutes}
 use Rattle.room.specs.Whole.{roomWhole}
-use Rattle.room.specs.Lookup.{taken, routeAtPlace}
-use Rattle.room.specs.Numbers.{routeNumbered, wantedOf}
-use Rattle.room_laws.proofs.LookupLaws.{taken-is, route-at-place-is}
+use Rattle.room.specs.Lookup.{taken, routeAtPlace, peerWanting}
+use Rattle.room.specs.Numbers.{routeNumbered, wantedOf, peerFound}
+use Rattle.room_laws.proofs.LookupLaws.{taken-is, route-at-place-is, peer-wanting-is}
 use Rattle.relay.specs.Steps.{Sits}
 
 pub wanted-free : (r : Route) (w : Wanted) → w ≡ wantedOf r → w .held ≡ false → r ≡ free
@@ -42,3 +44,8 @@ module _ (s n : ℕ) (b : List ℕ) (whole : roomWhole s n b ≡ true) (i : ℕ)
 pub route-of-number : (routes : List Route) (number : ℕ) → 16 ≤ number → routeAt routes number ≡ getD routes (number - 16) free
 unfolding routeAt
 route-of-number routes number h = rw (le-ltb number firstNumber h)
+
+-- the peer that the code found by the bytes is the one in the room
+pub peer-is : (s n : ℕ) (b : List ℕ) → roomWhole s n b ≡ true → (i : ℕ) (key wanted : Key) (p : Peer) → p ≡ peerFound (peerWanting s n b i key wanted)
+    → p ≡ peerFound (peer (viewRoom s n b) i key wanted)
+peer-is s n b whole i key wanted p e = e ∙ ap peerFound (peer-wanting-is s n b whole i key wanted)

@@ -18,7 +18,7 @@ use Rattle.stored.proofs.StoredLaws.{first-within}
 use Rattle.relay.specs.declared.play.Next as code
 use Rattle.relay.specs.declared.play.Run as answer
 use Rattle.relay.specs.declared.play.Stop.{Stop}
-use Rattle.relay.specs.Output.{appended}
+use Rattle.records.specs.Output.{appended}
 use Rattle.relay.specs.Play.{Next, stops, plays, next, Run, run}
 use Rattle.relay.specs.PlaySteps.{Takes, stopped, played}
 use Rattle.relay.proofs.PlayLaws.{ended, run-stops, next-is}

@@ -14,18 +14,7 @@ use Rattle.rules.specs.Outcome.{Outcome, outcome, refuse, sentBytes}
 use Rattle.room.specs.View.{viewRoom}
 use Rattle.room.specs.Whole.{roomWhole}
 use Rattle.room.specs.Store.{storeAll}
-use Rattle.relay.specs.declared.answer.Answer.{Answer}
-use Rattle.relay.specs.declared.answer.Answer.the-variants as answer
-
--- an answer of the code, as the rules have it
-unfoldable pub answerOf : Answer → rules.Answer
-answerOf (answer.Accepted seat bytes) = rules.accepted (seat .0) bytes
-answerOf (answer.Refused why) = rules.refused why
-
--- "An accepted call answers how many bytes it wrote", "A refusal answers its number with 0 bytes written"
-unfoldable pub written : rules.Answer → ℕ
-written (rules.accepted seat count) = count
-written (rules.refused why) = 0
+unfoldable pub use Rattle.records.specs.Entry.{answerOf, written}
 
 -- what an outcome leaves: the answer, the room with the changes stored, the output with the records and what stood behind them
 pub record Leaves (s n : ℕ) (o : Outcome) (b out : List ℕ) (given : rules.Answer) (b′ out′ : List ℕ) : Type 0 where
@@ -33,23 +22,13 @@ pub record Leaves (s n : ℕ) (o : Outcome) (b out : List ℕ) (given : rules.An
   pub stores : b′ ≡ storeAll s n b (o .changes)
   pub writes : out′ ≡ sentBytes (o .sent) ++ drop (length (sentBytes (o .sent))) out
 
--- "lent output too short: under 2,048 for packet and leave"
-abbrev pub leastOutput : ℕ
-leastOutput = 2048
-
 -- the outcome of a call on lent memory: "Every lent state is tested in full before use"
 unfoldable pub tested : ℕ → ℕ → List ℕ → rules.Call → Outcome
 tested s n b call = cond (roomWhole s n b) (outcome (viewRoom s n b) call) (refuse RoomNotWhole)
 
--- the output that a call needs: an Arrive "writes nothing"
-abbrev pub needed : rules.Call → ℕ
-needed (rules.arrive key) = 0
-needed (rules.leave seat) = leastOutput
-needed (rules.packetCall seat packet) = leastOutput
-
 -- "Order for a packet call: 10, 11, 3, ..", "Leave: 10, 11, 3": 10 comes first
 unfoldable pub ifLong : ℕ → rules.Call → Outcome → Outcome
-ifLong space call o = cond (leb (needed call) space) o (refuse OutputTooShort)
+ifLong space call o = cond (leb (rules.needed call) space) o (refuse OutputTooShort)
 
 -- the outcome of a call on lent memory with a lent output
 unfoldable pub withOutput : ℕ → ℕ → List ℕ → List ℕ → rules.Call → Outcome

@@ -7,28 +7,21 @@ use mathlib.Core.Path.{_≡_}
 use Prim.Native.Nat.{ℕ, zero, suc, _+_, _-_}
 use lib.Dec.{eqb, leb}
 use lib.ListN.{length, drop}
-use Rattle.refusal.specs.Numbers.{refusalNumber}
 use Rattle.refusal.specs.declared.Refusal.the-variants.{RoomNotWhole}
-use Rattle.wire.specs.Numbers.{bytesOf}
 use Rattle.rules.specs.Room.{Sizes, Room}
-use Rattle.rules.specs.Call.{Call, Answer, accepted, refused}
+use Rattle.rules.specs.Call.{Call, mostNeeded, arrive, leave, needed, packetCall}
 use Rattle.rules.specs.Outcome.{Change, outcome, roomAfter, sentBytes}
 use Rattle.rules.specs.History.{Event, event, transcript}
+unfoldable pub use Rattle.records.specs.Entry.{entryHead}
 use Rattle.stored.specs.Stored.{storedBytes, storedAll, First, none, call, firstCall}
 use Rattle.room.specs.View.{viewRoom}
 use Rattle.room.specs.Whole.{roomWhole}
 use Rattle.room.specs.Store.{storeAll}
-use Rattle.relay.specs.Calls.{leastOutput}
 use Rattle.relay.specs.declared.play.Run as code
 use Rattle.relay.specs.declared.play.Stop.{Stop}
 use Rattle.relay.specs.declared.play.Stop.the-variants.{End, NoCall, Allowance, Output}
 
 -- ---- what is written for a call
-
--- refusal (1 byte, 0 for none), seat (1, 0 for a refused call), length (2)
-unfoldable pub entryHead : Answer → List ℕ
-entryHead (accepted seat count) = 0 ∷ seat ∷ bytesOf 2 count
-entryHead (refused why) = refusalNumber why ∷ 0 ∷ bytesOf 2 0
 
 -- the head and the records
 unfoldable pub entryBytes : Event → List ℕ
@@ -45,13 +38,19 @@ pub data Next : Type 0 where
   stops : Stop → Next
   plays : Call → Next
 
--- a call is played with output for its head and for what any call may write
-abbrev pub leastSpace : ℕ
-leastSpace = 4 + leastOutput
+-- a call is played with output for its head and for what it needs; before an arrival, which writes nothing, as much is asked as before a packet
+abbrev pub leastSpace : Call → ℕ
+leastSpace (arrive key) = 4 + 2048
+leastSpace (leave seat) = 4 + needed (leave seat)
+leastSpace (packetCall seat bytes) = 4 + needed (packetCall seat bytes)
+
+-- no call is asked for more
+abbrev pub mostSpace : ℕ
+mostSpace = 4 + mostNeeded
 
 unfoldable pub nextCall : First → ℕ → Next
 nextCall none space = stops NoCall
-nextCall (call c) space = cond (leb leastSpace space) (plays c) (stops Output)
+nextCall (call c) space = cond (leb (leastSpace c) space) (plays c) (stops Output)
 
 -- the grounds to stop, in the order in which they are tested
 unfoldable pub next : ℕ → List ℕ → ℕ → Next

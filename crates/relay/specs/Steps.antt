@@ -11,14 +11,13 @@ use Rattle.rules.specs.Room.{Key, holds, seatAt, firstNumber}
 use Rattle.rules.specs.Call.{Answer}
 use Rattle.relay.specs.Calls.{Leaves}
 use Rattle.rules.specs.Outcome.{Outcome, routeGiven, to, tellBoth, peer}
-use Rattle.relay.specs.Output.{Appends}
+use Rattle.records.specs.Output.{Appends}
 use Rattle.room.specs.Store.{store}
-use Rattle.room.specs.Layout.{routesTable}
-use Rattle.room.specs.View.{viewRoom, viewRoutes}
+use Rattle.room.specs.View.{viewRoom, seatHeld}
 
 -- the client `key` sits in seat i
 abbrev pub Sits : ℕ → ℕ → List ℕ → ℕ → Key → Type 0
-Sits s n b i key = seatAt (viewRoom s n b) i ≡ holds key (viewRoutes n (routesTable s n b i))
+Sits s n b i key = seatAt (viewRoom s n b) i ≡ holds (seatHeld s n b i key)
 
 -- a number given to a request: the route is stored, and the answer and the notifications are written
 pub record Gives (s n : ℕ) (b : List ℕ) (seat : ℕ) (key wanted : Key) (number : ℕ) (out : List ℕ) (bytes : ℕ) (b′ out′ : List ℕ) : Type 0 where

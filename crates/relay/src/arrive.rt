@@ -7,10 +7,9 @@ ghost use Rattle.rules.specs.Outcome.{outcome};
 ghost use Rattle.room.specs.View.{viewRoom};
 ghost use Rattle.room.specs.Whole.{roomWhole};
 ghost use Rattle.relay.specs.Calls.{answerOf, Leaves};
-use crate::answer::Answer;
 use key::Key;
+use records::answer::Answer;
 use refusal::Refusal;
-use room::Seat;
 use room::change;
 use room::lookup;
 use room::lookup::FoundSeat;
@@ -20,15 +19,12 @@ pub(crate) fn step(memory: &mut [u8], seats: usize, numbers: usize, key: Key) ->
     requires { ⌜ roomWhole seats numbers (now memory) ≡ true ⌝ }
     ensures { λ r. ⌜ Leaves seats numbers (outcome (viewRoom seats numbers (now (memory .entry))) (arrive (key .0))) (now (memory .entry)) [] (answerOf r) (now (memory .exit)) [] ⌝ }
 {
-    let seated = lookup::seat_of(memory, seats, numbers, key);
-    let FoundSeat::None = seated else {
+    let FoundSeat::None = lookup::seat_of(memory, seats, numbers, key) else {
         return Answer::Refused(Refusal::AlreadySeated);
     };
-    match lookup::lowest_empty(memory, seats, numbers) {
-        FoundSeat::At(seat) => {
-            change::take_seat(memory, seats, numbers, seat, key);
-            Answer::Accepted(seat, 0)
-        }
-        FoundSeat::None => Answer::Refused(Refusal::RoomFull),
-    }
+    let FoundSeat::At(seat) = lookup::lowest_empty(memory, seats, numbers) else {
+        return Answer::Refused(Refusal::RoomFull);
+    };
+    change::take_seat(memory, seats, numbers, seat, key);
+    Answer::Accepted(seat, 0)
 }

@@ -1,15 +1,15 @@
 // The public calls: each tests the lent output and the lent room in full, and then takes the step. Document 01's sizes, 40 seats and 32 numbers, are
 // fixed here and in `play`, and nowhere below.
 ghost use Rattle.relay.specs.Calls.{answerOf, Arrives, Departs, Sends};
-use crate::answer::Answer;
 use crate::arrive;
 use crate::leave;
 use crate::packet_call;
 use key::Key;
+use records::answer::Answer;
 use refusal::Refusal;
 use room::Room;
-use room::Seat;
 use room::whole;
+use seat::Seat;
 
 // "lent output too short: under 2,048 for packet and leave".
 pub const LEAST_OUTPUT: usize = 2048;

@@ -6,22 +6,21 @@ ghost use Prim.Native.Nat.{_≤_};
 ghost use lib.ListN.{length};
 ghost use Rattle.packet.specs.FromClient.{oobSend, routedData};
 ghost use Rattle.rules.specs.Outcome.{act, carryTo};
-ghost use Rattle.room.specs.Layout.{routesTable};
-ghost use Rattle.room.specs.View.{viewRoom, viewRoutes};
+ghost use Rattle.room.specs.View.{viewRoom, seatHeld};
 ghost use Rattle.room.specs.Whole.{roomWhole};
 ghost use Rattle.relay.specs.Calls.{answerOf, Leaves};
-ghost use Rattle.relay.specs.Peers.{peerOf, PeerRight};
+ghost use Rattle.room.specs.Numbers.{peerOf, PeerRight};
 ghost use Rattle.relay.specs.Steps.{Sits, Carries};
-use crate::answer::Answer;
-use crate::peer;
-use crate::peer::Peer;
-use crate::record;
 use key::Key;
 use packet::ConnectionNumber;
+use records::answer::Answer;
+use records::record;
 use refusal::Refusal;
-use room::Seat;
 use room::lookup;
 use room::lookup::FoundSeat;
+use room::peer;
+use room::peer::Peer;
+use seat::Seat;
 
 // An out-of-band send.
 pub(crate) fn out_of_band(
@@ -35,15 +34,12 @@ pub(crate) fn out_of_band(
     out: &mut [u8],
 ) -> Answer
     requires { ⌜ (roomWhole seats numbers (now memory) ≡ true) × (2048 ≤ length (now out)) × (1 ≤ length (now «data»)) × (length (now «data») ≤ 1024) ⌝ }
-    ensures { λ r. ⌜ Leaves seats numbers (act (oobSend (wanted .0) (now («data» .entry))) (viewRoom seats numbers (now (memory .entry))) (seat .0) (key .0) (viewRoutes numbers (routesTable seats numbers (now (memory .entry)) (seat .0)))) (now (memory .entry)) (now (out .entry)) (answerOf r) (now (memory .entry)) (now (out .exit)) ⌝ }
+    ensures { λ r. ⌜ Leaves seats numbers (act (oobSend (wanted .0) (now («data» .entry))) (viewRoom seats numbers (now (memory .entry))) (seat .0) (seatHeld seats numbers (now (memory .entry)) (seat .0) (key .0))) (now (memory .entry)) (now (out .entry)) (answerOf r) (now (memory .entry)) (now (out .exit)) ⌝ }
 {
-    match lookup::seat_of(memory, seats, numbers, wanted) {
-        FoundSeat::At(other) => Answer::Accepted(
-            seat,
-            record::out_of_band(out, 0, other, key, data),
-        ),
-        FoundSeat::None => Answer::Accepted(seat, 0),
-    }
+    let FoundSeat::At(other) = lookup::seat_of(memory, seats, numbers, wanted) else {
+        return Answer::Accepted(seat, 0);
+    };
+    Answer::Accepted(seat, record::out_of_band(out, 0, other, key, data))
 }
 
 // Data for a peer: 9 where there is none. The payload is copied once, from the lent packet to the lent output.
@@ -51,13 +47,10 @@ fn to_peer(peer: Peer, seat: Seat, data: &[u8], out: &mut [u8]) -> Answer
     requires { ⌜ PeerRight peer × (2048 ≤ length (now out)) × (1 ≤ length (now «data»)) × (length (now «data») ≤ 2031) ⌝ }
     ensures { λ r. ⌜ Carries (carryTo (peerOf peer) (seat .0) (now («data» .entry))) (now (out .entry)) (answerOf r) (now (out .exit)) ⌝ }
 {
-    match peer {
-        Peer::Joined(other, number) => Answer::Accepted(
-            seat,
-            record::data(out, 0, other, number, data),
-        ),
-        Peer::Alone => Answer::Refused(Refusal::NotConnected),
-    }
+    let Peer::Joined(other, number) = peer else {
+        return Answer::Refused(Refusal::NotConnected);
+    };
+    Answer::Accepted(seat, record::data(out, 0, other, number, data))
 }
 
 // Data on a number: 8, 9.
@@ -72,7 +65,7 @@ pub(crate) fn data(
     out: &mut [u8],
 ) -> Answer
     requires { ⌜ (roomWhole seats numbers (now memory) ≡ true) × Sits seats numbers (now memory) (seat .0) (key .0) × (2048 ≤ length (now out)) × (1 ≤ length (now «data»)) × (length (now «data») ≤ 2031) ⌝ }
-    ensures { λ r. ⌜ Leaves seats numbers (act (routedData (number .0) (now («data» .entry))) (viewRoom seats numbers (now (memory .entry))) (seat .0) (key .0) (viewRoutes numbers (routesTable seats numbers (now (memory .entry)) (seat .0)))) (now (memory .entry)) (now (out .entry)) (answerOf r) (now (memory .entry)) (now (out .exit)) ⌝ }
+    ensures { λ r. ⌜ Leaves seats numbers (act (routedData (number .0) (now («data» .entry))) (viewRoom seats numbers (now (memory .entry))) (seat .0) (seatHeld seats numbers (now (memory .entry)) (seat .0) (key .0))) (now (memory .entry)) (now (out .entry)) (answerOf r) (now (memory .entry)) (now (out .exit)) ⌝ }
 {
     let wanted = lookup::wanted_by(memory, seats, numbers, seat, number);
     if !wanted.held {

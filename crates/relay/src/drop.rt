@@ -5,19 +5,18 @@ ghost use Prim.Native.Nat.{_≤_};
 ghost use lib.ListN.{length};
 ghost use Rattle.packet.specs.FromClient.{dropRoute};
 ghost use Rattle.rules.specs.Outcome.{act};
-ghost use Rattle.room.specs.Layout.{routesTable};
-ghost use Rattle.room.specs.View.{viewRoom, viewRoutes};
+ghost use Rattle.room.specs.View.{viewRoom, seatHeld};
 ghost use Rattle.room.specs.Whole.{roomWhole};
 ghost use Rattle.relay.specs.Calls.{answerOf, Leaves};
 ghost use Rattle.relay.specs.Steps.{Sits};
-use crate::answer::Answer;
 use crate::leave;
 use key::Key;
 use packet::ConnectionNumber;
+use records::answer::Answer;
 use refusal::Refusal;
-use room::Seat;
 use room::change;
 use room::lookup;
+use seat::Seat;
 
 // A client drops a number: 8.
 pub(crate) fn step(
@@ -30,7 +29,7 @@ pub(crate) fn step(
     out: &mut [u8],
 ) -> Answer
     requires { ⌜ (roomWhole seats numbers (now memory) ≡ true) × Sits seats numbers (now memory) (seat .0) (key .0) × (2048 ≤ length (now out)) ⌝ }
-    ensures { λ r. ⌜ Leaves seats numbers (act (dropRoute (number .0)) (viewRoom seats numbers (now (memory .entry))) (seat .0) (key .0) (viewRoutes numbers (routesTable seats numbers (now (memory .entry)) (seat .0)))) (now (memory .entry)) (now (out .entry)) (answerOf r) (now (memory .exit)) (now (out .exit)) ⌝ }
+    ensures { λ r. ⌜ Leaves seats numbers (act (dropRoute (number .0)) (viewRoom seats numbers (now (memory .entry))) (seat .0) (seatHeld seats numbers (now (memory .entry)) (seat .0) (key .0))) (now (memory .entry)) (now (out .entry)) (answerOf r) (now (memory .exit)) (now (out .exit)) ⌝ }
 {
     let wanted = lookup::wanted_by(memory, seats, numbers, seat, number);
     if !wanted.held {

@@ -10,20 +10,20 @@ ghost use Rattle.rules.specs.Outcome.{outcome, tellPeer, tellPeers};
 ghost use Rattle.room.specs.Layout.{routesTable};
 ghost use Rattle.room.specs.View.{viewRoom, viewRoutes};
 ghost use Rattle.room.specs.Whole.{roomWhole};
-ghost use Rattle.relay.specs.Output.{Appends};
+ghost use Rattle.records.specs.Output.{Appends};
 ghost use Rattle.relay.specs.Calls.{answerOf, Leaves};
 ghost use Rattle.relay.specs.Steps.{Sits};
-use crate::answer::Answer;
-use crate::peer;
-use crate::peer::Peer;
-use crate::record;
 use key::Key;
 use packet::ConnectionNumber;
+use records::answer::Answer;
+use records::record;
 use refusal::Refusal;
 use room::Room;
-use room::Seat;
 use room::change;
 use room::lookup;
+use room::peer;
+use room::peer::Peer;
+use seat::Seat;
 
 // The connected peer under one number of a client is told disconnected.
 pub(crate) fn tell_peer(

@@ -2,17 +2,13 @@
 //
 // A call, or a run of stored calls, is made on a room in lent memory, and writes records, each for a seat, into an output that the host lends; sockets,
 // sealing and opening stay with the host.
-mod answer;
 mod arrive;
 pub mod calls;
 mod carry;
 mod drop;
-mod entry;
 mod leave;
 mod packet_call;
-mod peer;
 pub mod play;
-mod record;
 mod request;
 
-pub use answer::Answer;
+pub use records::answer::Answer;

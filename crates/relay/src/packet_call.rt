@@ -7,23 +7,22 @@ ghost use lib.ListN.{length};
 ghost use Rattle.packet.specs.FromClient.{relayRead};
 ghost use Rattle.rules.specs.Call.{packetCall};
 ghost use Rattle.rules.specs.Outcome.{outcome, actOn};
-ghost use Rattle.room.specs.Layout.{routesTable};
-ghost use Rattle.room.specs.View.{viewRoom, viewRoutes};
+ghost use Rattle.room.specs.View.{viewRoom, seatHeld};
 ghost use Rattle.room.specs.Whole.{roomWhole};
 ghost use Rattle.relay.specs.Calls.{answerOf, Leaves};
 ghost use Rattle.relay.specs.Steps.{Sits, Shows};
-use crate::answer::Answer;
 use crate::carry;
 use crate::drop;
-use crate::record;
 use crate::request;
 use key::Key;
 use packet::relay;
 use packet::relay::ClientPacket;
 use packet::relay::RelayRead;
+use records::answer::Answer;
+use records::record;
 use refusal::Refusal;
-use room::Seat;
 use room::lookup;
+use seat::Seat;
 
 // What a packet that was read asks for: 8, 9.
 fn act(
@@ -37,7 +36,7 @@ fn act(
     out: &mut [u8],
 ) -> Answer
     requires { ⌜ (roomWhole seats numbers (now memory) ≡ true) × Sits seats numbers (now memory) (seat .0) (key .0) × Shows (now packet) shown × (2048 ≤ length (now out)) ⌝ }
-    ensures { λ r. ⌜ Leaves seats numbers (actOn (relayRead (now (packet .entry))) (viewRoom seats numbers (now (memory .entry))) (seat .0) (key .0) (viewRoutes numbers (routesTable seats numbers (now (memory .entry)) (seat .0)))) (now (memory .entry)) (now (out .entry)) (answerOf r) (now (memory .exit)) (now (out .exit)) ⌝ }
+    ensures { λ r. ⌜ Leaves seats numbers (actOn (relayRead (now (packet .entry))) (viewRoom seats numbers (now (memory .entry))) (seat .0) (seatHeld seats numbers (now (memory .entry)) (seat .0) (key .0))) (now (memory .entry)) (now (out .entry)) (answerOf r) (now (memory .exit)) (now (out .exit)) ⌝ }
 {
     match shown {
         ClientPacket::RoutingRequest { key: _ } => request::step(
@@ -46,7 +45,7 @@ fn act(
             numbers,
             seat,
             key,
-            relay::key(packet),
+            relay::key(packet, shown),
             out,
         ),
         ClientPacket::DropRoute(number) => drop::step(
@@ -66,8 +65,8 @@ fn act(
             numbers,
             seat,
             key,
-            relay::key(packet),
-            relay::payload(packet),
+            relay::key(packet, shown),
+            relay::payload(packet, shown),
             out,
         ),
         ClientPacket::Data(number, _) => carry::data(
@@ -77,21 +76,9 @@ fn act(
             seat,
             key,
             number,
-            relay::payload(packet),
+            relay::payload(packet, shown),
             out,
         ),
-    }
-}
-
-// The refusal in a read that is one. The `else` of a `let` binds no name, so `step` gets it from here. A `match` has to answer for a packet too; the
-// `requires` says that no call gets there.
-fn refusal_of(read: RelayRead) -> Refusal
-    requires { ⌜ ((why : Refusal) × (read ≡ RelayRead.Refused why)) ⌝ }
-    ensures { λ r. ⌜ read ≡ RelayRead.Refused r ⌝ }
-{
-    match read {
-        RelayRead::Refused(why) => why,
-        RelayRead::Packet(_) => Refusal::UnexpectedKind,
     }
 }
 
@@ -113,7 +100,7 @@ pub(crate) fn step(
     let key = lookup::key_in(memory, seats, numbers, seat);
     let read = relay::read(packet);
     let RelayRead::Packet(shown) = read else {
-        return Answer::Refused(refusal_of(read));
+        return Answer::Refused(read.refusal());
     };
     act(memory, seats, numbers, seat, key, packet, shown, out)
 }

@@ -7,13 +7,13 @@ ghost use Rattle.room.specs.Whole.{roomWhole};
 ghost use Rattle.relay.specs.Calls.{answerOf};
 ghost use Rattle.relay.specs.Play.{Plays};
 ghost use Rattle.relay.specs.PlaySteps.{Reads, Makes, Takes, RunsOn};
-use crate::answer::Answer;
 use crate::arrive;
 use crate::calls;
-use crate::entry;
 use crate::leave;
 use crate::packet_call;
 use key::Key;
+use records::answer::Answer;
+use records::entry;
 use refusal::Refusal;
 use room::Room;
 use room::whole;
@@ -106,8 +106,13 @@ fn play_next(
     if out.len() < LEAST_SPACE {
         return Next::Stopped(Stop::Output);
     }
-    let answer = make(memory, seats, numbers, call, calls, &mut out[entry::HEAD..]);
-    Next::Played(size, entry::write(answer, out))
+    Next::Played(
+        size,
+        entry::write(
+            make(memory, seats, numbers, call, calls, &mut out[entry::HEAD..]),
+            out,
+        ),
+    )
 }
 
 // Call after call, on a whole room.

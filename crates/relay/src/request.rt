@@ -7,23 +7,22 @@ ghost use Prim.Native.Nat.{_+_, _≤_};
 ghost use lib.ListN.{length};
 ghost use Rattle.packet.specs.FromClient.{routingRequest};
 ghost use Rattle.rules.specs.Outcome.{act, tellBoth};
-ghost use Rattle.room.specs.Layout.{routesTable};
-ghost use Rattle.room.specs.View.{viewRoom, viewRoutes};
+ghost use Rattle.room.specs.View.{viewRoom, seatHeld};
 ghost use Rattle.room.specs.Whole.{roomWhole};
-ghost use Rattle.relay.specs.Output.{Appends};
+ghost use Rattle.records.specs.Output.{Appends};
 ghost use Rattle.relay.specs.Calls.{answerOf, Leaves};
-ghost use Rattle.relay.specs.Peers.{peerOf, PeerRight};
+ghost use Rattle.room.specs.Numbers.{peerOf, PeerRight};
 ghost use Rattle.relay.specs.Steps.{Sits, Gives};
-use crate::answer::Answer;
-use crate::peer;
-use crate::peer::Peer;
-use crate::record;
 use key::Key;
 use packet::ConnectionNumber;
-use room::Seat;
+use records::answer::Answer;
+use records::record;
 use room::change;
 use room::lookup;
 use room::lookup::FoundNumber;
+use room::peer;
+use room::peer::Peer;
+use seat::Seat;
 
 // Both are told that they are connected: the asker, then the peer.
 fn tell_both(out: &mut [u8], at: usize, seat: Seat, number: ConnectionNumber, peer: Peer) -> usize
@@ -71,19 +70,19 @@ pub(crate) fn step(
     out: &mut [u8],
 ) -> Answer
     requires { ⌜ (roomWhole seats numbers (now memory) ≡ true) × Sits seats numbers (now memory) (seat .0) (key .0) × (2048 ≤ length (now out)) ⌝ }
-    ensures { λ r. ⌜ Leaves seats numbers (act (routingRequest (wanted .0)) (viewRoom seats numbers (now (memory .entry))) (seat .0) (key .0) (viewRoutes numbers (routesTable seats numbers (now (memory .entry)) (seat .0)))) (now (memory .entry)) (now (out .entry)) (answerOf r) (now (memory .exit)) (now (out .exit)) ⌝ }
+    ensures { λ r. ⌜ Leaves seats numbers (act (routingRequest (wanted .0)) (viewRoom seats numbers (now (memory .entry))) (seat .0) (seatHeld seats numbers (now (memory .entry)) (seat .0) (key .0))) (now (memory .entry)) (now (out .entry)) (answerOf r) (now (memory .exit)) (now (out .exit)) ⌝ }
 {
     if let FoundNumber::At(old) = lookup::number_of(memory, seats, numbers, seat, wanted) {
         return Answer::Accepted(seat, record::response(out, 0, seat, old, wanted));
     }
-    match lookup::lowest_free(memory, seats, numbers, seat) {
-        FoundNumber::At(number) => Answer::Accepted(
-            seat,
-            give(memory, seats, numbers, seat, key, wanted, number, out),
-        ),
-        FoundNumber::None => Answer::Accepted(
+    let FoundNumber::At(number) = lookup::lowest_free(memory, seats, numbers, seat) else {
+        return Answer::Accepted(
             seat,
             record::response(out, 0, seat, ConnectionNumber(0), wanted),
-        ),
-    }
+        );
+    };
+    Answer::Accepted(
+        seat,
+        give(memory, seats, numbers, seat, key, wanted, number, out),
+    )
 }

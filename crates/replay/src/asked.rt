@@ -1,8 +1,8 @@
 // What a packet asks for, as the relay reads it.
-use crate::from_client;
-use crate::say;
 use packet::relay as relay_end;
 use packet::relay::RelayRead;
+use telling::from_client;
+use telling::say;
 
 fn tell_kind(kind: u8) {
     say::words(b", kind ");

@@ -3,16 +3,16 @@ ghost use Prim.Native.Nat.{_≤_};
 ghost use lib.ListN.{length};
 ghost use Rattle.relay.specs.Calls.{answerOf, written};
 use crate::asked;
-use crate::records;
-use crate::refused;
-use crate::say;
+use crate::handed;
 use crate::who;
 use key::Key;
 use refusal::Refusal;
 use relay::Answer;
 use relay::calls;
-use room::Seat;
+use seat::Seat;
 use stored::StoredCall;
+use telling::refused;
+use telling::say;
 
 fn tell_refused(why: Refusal) {
     say::words(b"  ");
@@ -28,7 +28,7 @@ fn tell_accepted(memory: &[u8], count: usize, out: &[u8])
     say::words(b"  accepted: ");
     say::bytes(count);
     say::words(b"\n");
-    records::tell_all(memory, &out[0..count]);
+    handed::tell_all(memory, &out[0..count]);
 }
 
 // The answer to a leave or a packet.

@@ -1,8 +1,8 @@
 // What is wrong with bytes at whose front no stored call stands: "1 byte for the call (0 arrive, 1 leave, 2 packet), 1 for the seat (0 where it names
 // none), a 2-byte length and the bytes the call is given; no other form is one."
-use crate::say;
 use key::Key;
 use stored::HEAD;
+use telling::say;
 
 const ARRIVE: u8 = 0;
 

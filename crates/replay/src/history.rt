@@ -3,9 +3,9 @@ ghost use Prim.Native.Nat.{_≤_};
 ghost use lib.ListN.{length};
 use crate::call;
 use crate::fault;
-use crate::say;
 use room::Room;
 use stored::StoredRead;
+use telling::say;
 
 // How many calls were played, and the place behind the last of them.
 struct Played {

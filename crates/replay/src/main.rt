@@ -6,12 +6,8 @@ ghost use lib.ListN.{length};
 mod asked;
 mod call;
 mod fault;
-mod from_client;
-mod from_relay;
+mod handed;
 mod history;
-mod records;
-mod refused;
-mod say;
 mod who;
 
 use libc::STDERR_FILENO;

@@ -1,8 +1,8 @@
 // Who a client is: its seat, and the key that is seated there.
-use crate::say;
 use room::Room;
-use room::Seat;
 use room::lookup;
+use seat::Seat;
+use telling::say;
 
 pub(crate) fn tell_seat(seat: Seat) {
     say::words(b"seat ");

@@ -52,12 +52,15 @@ fitsRoom s n b = sizesRight s n && leb (roomBytes s n) (length b)
 unfoldable pub seatTable : ℕ → ℕ → List ℕ → List ℕ
 seatTable s n b = take (seatsBytes s n) (drop roomHeader b)
 
--- where seat i stands, and its table of routes
+-- where seat i stands, and its table of routes, and where that ends
 abbrev pub seatStart : ℕ → ℕ → ℕ → ℕ
 seatStart s n i = roomHeader + (1 + s + i * seatBytes n)
 
 abbrev pub routesStart : ℕ → ℕ → ℕ → ℕ
 routesStart s n i = seatStart s n i + routesInSeat
+
+abbrev pub routesEnd : ℕ → ℕ → ℕ → ℕ
+routesEnd s n i = routesStart s n i + routesBytes n
 
 unfoldable pub routesTable : ℕ → ℕ → List ℕ → ℕ → List ℕ
 routesTable s n b i = take (routesBytes n) (drop (routesStart s n i) b)

@@ -1,13 +1,14 @@
 -- What is looked up in the bytes of a room. In a whole room each says what the rules' lookup says of the room that the bytes are (`LookupLaws`).
-use mathlib.Core.Bool.{Bool, true, false, _&&_, cond}
+use mathlib.Core.Bool.{Bool, _&&_, cond}
 use mathlib.Core.List.{List}
-use Prim.Native.Nat.{ℕ, _-_}
-use lib.Dec.{ltb}
+use Prim.Native.Nat.{ℕ}
+use lib.Dec.{eqb, ltb}
 use lib.ListN.{replicate}
 use Rattle.table.specs.Table.{found, keyOfPlace, isUsed, lowestFree, recordAt}
-use Rattle.rules.specs.Room.{Key, Route, free, Seat, vacant, Found, none, at, firstNumber}
+use Rattle.rules.specs.Room.{Key, Route, free, Found, none, at, Peer, alone}
+use Rattle.rules.specs.Outcome.{joinedBy}
 use Rattle.room.specs.Layout.{keyBytes, seatBytes, fitsRoom, seatTable, routesTable}
-use Rattle.room.specs.View.{seatIn, routeIn}
+use Rattle.room.specs.View.{routeIn}
 
 -- a place of p, or none
 unfoldable pub placeIn : ℕ → ℕ → Found
@@ -47,3 +48,12 @@ routeOfPlace n table j = cond (ltb j n) (routeIn (isUsed n table j) (recordAt n 
 
 unfoldable pub routeAtPlace : ℕ → ℕ → List ℕ → ℕ → ℕ → Route
 routeAtPlace s n b i j = cond (hasSeat s n b i) (routeOfPlace n (routesTable s n b i) j) free
+
+-- the peer in the seat found, which is another than seat i: the place of its route that wants a key
+unfoldable pub peerInSeat : ℕ → ℕ → List ℕ → ℕ → Key → Found → Peer
+peerInSeat s n b i key none = alone
+peerInSeat s n b i key (at other) = cond (eqb i other) alone (joinedBy other (routeWanting s n b other key))
+
+-- the peer of the client in seat i, whose key is `key`, on a route that names `wanted`
+unfoldable pub peerWanting : ℕ → ℕ → List ℕ → ℕ → Key → Key → Peer
+peerWanting s n b i key wanted = peerInSeat s n b i key (seatHolding s n b wanted)

@@ -2,16 +2,17 @@
 -- kept apart": a seat and a number are types of their own in the code.
 use mathlib.Core.Bool.{true, false, cond}
 use mathlib.Core.List.{List}
-use Prim.Native.Nat.{ℕ, _-_}
+use Prim.Native.Nat.{ℕ, _-_, _≤_}
 use lib.Dec.{ltb}
 use lib.ListN.{replicate}
-use Rattle.rules.specs.Room.{Key, Route, free, wants, Found, none, at, firstNumber, numberOfPlace}
+use Rattle.rules.specs.Room.{Key, Route, free, wants, Found, none, at, firstNumber, numberOfPlace, Peer, alone, joined}
 use Rattle.rules.specs.Outcome.{routeGiven, routeFreed}
 use Rattle.room.specs.declared.lookup.FoundSeat.{FoundSeat}
 use Rattle.room.specs.declared.lookup.FoundSeat.the-variants as seat
 use Rattle.room.specs.declared.lookup.FoundNumber.{FoundNumber}
 use Rattle.room.specs.declared.lookup.FoundNumber.the-variants as number
 use Rattle.room.specs.declared.lookup.Wanted.{Wanted}
+use Rattle.room.specs.declared.peer.Peer as code
 use Rattle.room.specs.Layout.{keyBytes}
 use Rattle.room.specs.Store.{store}
 use Rattle.room.specs.Lookup.{routeAtPlace}
@@ -32,6 +33,19 @@ routeNumbered s n b i number = cond (ltb number firstNumber) free (routeAtPlace 
 unfoldable pub wantedOf : Route → Wanted
 wantedOf free = record { held = false; key = record { 0 = replicate keyBytes 0 } }
 wantedOf (wants key) = record { held = true; key = record { 0 = key } }
+
+-- the answer that says a peer, the same read back, and that its number is one
+unfoldable pub peerFound : Peer → code.Peer
+peerFound (joined seat place) = code.the-variants.Joined (record { 0 = seat }) (record { 0 = numberOfPlace place })
+peerFound alone = code.the-variants.Alone
+
+unfoldable pub peerOf : code.Peer → Peer
+peerOf (code.the-variants.Joined seat number) = joined (seat .0) (number .0 - firstNumber)
+peerOf code.the-variants.Alone = alone
+
+unfoldable pub PeerRight : code.Peer → Type 0
+PeerRight (code.the-variants.Joined seat number) = firstNumber ≤ number .0
+PeerRight code.the-variants.Alone = Unit {0}
 
 -- a route of seat i is given under a number, and freed; a number below the first names none, and nothing changes
 unfoldable pub givenNumber : ℕ → ℕ → List ℕ → ℕ → ℕ → Key → List ℕ

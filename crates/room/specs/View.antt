@@ -5,8 +5,8 @@ use mathlib.Core.List.{List}
 use Prim.Native.Nat.{ℕ}
 use lib.ListN.{take, drop}
 use Rattle.table.specs.Table.{view}
-use Rattle.rules.specs.Room.{Route, free, wants, Seat, vacant, holds, Room}
-use Rattle.room.specs.Layout.{keyBytes, routesInSeat, seatBytes, seatTable}
+use Rattle.rules.specs.Room.{Key, Route, free, wants, Held, Seat, vacant, holds, Room}
+use Rattle.room.specs.Layout.{keyBytes, routesInSeat, seatBytes, seatTable, routesTable}
 
 unfoldable pub routeIn : Bool → List ℕ → Route
 routeIn false bytes = free
@@ -15,9 +15,17 @@ routeIn true bytes = wants bytes
 unfoldable pub viewRoutes : ℕ → List ℕ → List Route
 viewRoutes n table = view n keyBytes routeIn table
 
+-- what the record of a seat holds
+abbrev pub heldIn : ℕ → List ℕ → Held
+heldIn n bytes = record { key = take keyBytes bytes; routes = viewRoutes n (drop routesInSeat bytes) }
+
 unfoldable pub seatIn : ℕ → Bool → List ℕ → Seat
 seatIn n false bytes = vacant
-seatIn n true bytes = holds (take keyBytes bytes) (viewRoutes n (drop routesInSeat bytes))
+seatIn n true bytes = holds (heldIn n bytes)
 
 unfoldable pub viewRoom : ℕ → ℕ → List ℕ → Room
-viewRoom s n b = view s (seatBytes n) (seatIn n) (seatTable s n b)
+viewRoom s n b = record { seats = view s (seatBytes n) (seatIn n) (seatTable s n b) }
+
+-- what seat i holds, by its key and its table of routes
+abbrev pub seatHeld : ℕ → ℕ → List ℕ → ℕ → Key → Held
+seatHeld s n b i key = record { key = key; routes = viewRoutes n (routesTable s n b i) }

@@ -2,23 +2,14 @@
 // whole room.
 ghost use mathlib.Core.Path.{_≡_};
 ghost use Rattle.rules.specs.Outcome.{seatTaken, seatEmptied};
-ghost use Rattle.room.specs.Store.{store, newSeat};
+ghost use Rattle.room.specs.Store.{store};
 ghost use Rattle.room.specs.Numbers.{givenNumber, freedNumber};
+use crate::empty::Room;
 use crate::layout;
-use crate::layout::Room;
-use crate::layout::Seat;
 use crate::lookup;
 use key::Key;
 use packet::ConnectionNumber;
-
-// How the record of a seat that is taken begins: its key, a header of zeros, and no route.
-fn new_seat(key: Key) -> [u8; 41]
-    ensures { λ r. ⌜ r ≡ newSeat (key .0) ⌝ }
-{
-    let mut record = [0u8; 41];
-    key.write(&mut record[0..32]);
-    record
-}
+use seat::Seat;
 
 // A seat, which is empty, is taken by a key.
 pub fn take_seat(memory: &mut [u8], seats: usize, numbers: usize, seat: Seat, key: Key)
@@ -27,11 +18,11 @@ pub fn take_seat(memory: &mut [u8], seats: usize, numbers: usize, seat: Seat, ke
     if !layout::fits(memory, seats, numbers) {
         return;
     }
-    let record = new_seat(key);
+    let record = layout::new_seat(key);
     let width = layout::seat_bytes(numbers);
     let end = layout::room_bytes(seats, numbers);
     table::put(
-        &mut memory[layout::ROOM_HEADER..end],
+        &mut memory[layout::SEATS_START..end],
         seats,
         width,
         seat.0 as usize,
@@ -48,7 +39,7 @@ pub fn empty_seat(memory: &mut [u8], seats: usize, numbers: usize, seat: Seat)
     }
     let end = layout::room_bytes(seats, numbers);
     table::free(
-        &mut memory[layout::ROOM_HEADER..end],
+        &mut memory[layout::SEATS_START..end],
         seats,
         seat.0 as usize,
     );
@@ -74,7 +65,7 @@ pub fn give_route(
     let wanted = key.0;
     let place = (number.0 - Room::FIRST_NUMBER) as usize;
     let at = layout::routes_start(seats, numbers, seat.0 as usize);
-    let end = at + layout::routes_bytes(numbers);
+    let end = layout::routes_end(seats, numbers, seat.0 as usize);
     table::put(&mut memory[at..end], numbers, Key::BYTES, place, &wanted);
 }
 
@@ -96,6 +87,6 @@ pub fn free_route(
     }
     let place = (number.0 - Room::FIRST_NUMBER) as usize;
     let at = layout::routes_start(seats, numbers, seat.0 as usize);
-    let end = at + layout::routes_bytes(numbers);
+    let end = layout::routes_end(seats, numbers, seat.0 as usize);
     table::free(&mut memory[at..end], numbers, place);
 }

@@ -6,47 +6,29 @@
 ghost use mathlib.Core.Path.{_≡_};
 ghost use mathlib.Core.Bool.{true};
 ghost use Prim.Native.Nat.{_<_, _≤_};
-ghost use Rattle.room.specs.Layout.{routesBytes, seatBytes, roomBytes, sizesRight, fitsRoom, seatTable, routesStart, routesTable};
-ghost use Rattle.room.specs.Store.{MakesEmpty};
-use crate::whole;
+ghost use Rattle.room.specs.Layout.{routesBytes, seatBytes, roomBytes, sizesRight, fitsRoom, seatTable, routesStart, routesEnd, routesTable};
+ghost use Rattle.room.specs.Whole.{headerRight};
+ghost use Rattle.room.specs.Store.{emptied, newSeat};
 use key::Key;
-
-// Document 01's seat: one of the room's places for a client. A type of its own, so that no lookup can take it for a connection number.
-pub struct Seat(pub u8);
-
-// The room's constants and its constructor; the room itself is bytes that the host lends.
-pub struct Room {}
-
-impl Room {
-    // Document 01: "40 seats, 0 to 39; each is empty or holds one key and 32 routes, numbers 16 to 47".
-    pub const SEATS: usize = 40;
-
-    pub const NUMBERS: usize = 32;
-
-    pub const FIRST_NUMBER: u8 = 16;
-
-    // The bytes of a room of these sizes; an exported function hands it out, with the definition that it equals.
-    pub const BYTES: usize = 43923;
-
-    // Document 01: "The empty room and the empty list of size 8 are given." A room is lent bytes and no value, so it is written to them; false where they are
-    // too short, and then nothing changes.
-    pub fn empty(memory: &mut [u8]) -> bool
-        ensures { λ r. ⌜ MakesEmpty 40 32 (now (memory .entry)) (now (memory .exit)) r ⌝ }
-    {
-        whole::make_empty(memory, Room::SEATS, Room::NUMBERS)
-    }
-}
 
 // A seat is one byte of an order; connection numbers are 16 to 255 at most.
 pub const MOST_SEATS: usize = 255;
 
 pub const MOST_NUMBERS: usize = 240;
 
-// The sizes that the room was made for.
-pub const ROOM_HEADER: usize = 2;
+// The room's header: the sizes that the room was made for, a byte each.
+const SEATS_BYTE: usize = 0;
+
+const NUMBERS_BYTE: usize = 1;
+
+// Where the table of seats stands: behind the header. It ends where the room ends.
+pub(crate) const SEATS_START: usize = 2;
 
 // Where the table of routes stands in a seat's record: behind its key and 8 bytes in which nothing is kept yet.
-pub const ROUTES_IN_SEAT: usize = 40;
+const ROUTES_IN_SEAT: usize = Key::BYTES + 8;
+
+// How much of the record of a seat is written when it is taken: up to the count of its routes, the first byte of their table.
+pub(crate) const NEW_SEAT: usize = ROUTES_IN_SEAT + 1;
 
 // Whether a room can be of these sizes.
 pub fn sizes_right(seats: usize, numbers: usize) -> bool
@@ -80,7 +62,7 @@ pub(crate) fn room_bytes(seats: usize, numbers: usize) -> usize
     ensures { λ r. ⌜ r ≡ roomBytes seats numbers ⌝ }
 {
     let width = seat_bytes(numbers);
-    ROOM_HEADER + (1 + seats + seats * width)
+    SEATS_START + (1 + seats + seats * width)
 }
 
 // Where the table of routes of a seat stands.
@@ -89,7 +71,15 @@ pub(crate) fn routes_start(seats: usize, numbers: usize, seat: usize) -> usize
     ensures { λ r. ⌜ r ≡ routesStart seats numbers seat ⌝ }
 {
     let width = seat_bytes(numbers);
-    ROOM_HEADER + (1 + seats + seat * width) + ROUTES_IN_SEAT
+    SEATS_START + (1 + seats + seat * width) + ROUTES_IN_SEAT
+}
+
+// Where it ends.
+pub(crate) fn routes_end(seats: usize, numbers: usize, seat: usize) -> usize
+    requires { ⌜ (seats ≤ 255) × (numbers ≤ 240) × (seat < seats) ⌝ }
+    ensures { λ r. ⌜ r ≡ routesEnd seats numbers seat ⌝ }
+{
+    routes_start(seats, numbers, seat) + routes_bytes(numbers)
 }
 
 // Whether memory is long enough for a room of these sizes; it may be longer.
@@ -108,7 +98,7 @@ pub(crate) fn seat_table(memory: &[u8], seats: usize, numbers: usize) -> &[u8]
     ensures { λ r. ⌜ now r ≡ seatTable seats numbers (now (memory .entry)) ⌝ }
 {
     let end = room_bytes(seats, numbers);
-    &memory[ROOM_HEADER..end]
+    &memory[SEATS_START..end]
 }
 
 // The table of routes of a seat.
@@ -117,6 +107,36 @@ pub(crate) fn routes_table(memory: &[u8], seats: usize, numbers: usize, seat: us
     ensures { λ r. ⌜ now r ≡ routesTable seats numbers (now (memory .entry)) seat ⌝ }
 {
     let at = routes_start(seats, numbers, seat);
-    let end = at + routes_bytes(numbers);
+    let end = routes_end(seats, numbers, seat);
     &memory[at..end]
+}
+
+// Whether the header has the room's sizes.
+pub(crate) fn header_right(memory: &[u8], seats: usize, numbers: usize) -> bool
+    requires { ⌜ fitsRoom seats numbers (now memory) ≡ true ⌝ }
+    ensures { λ r. ⌜ r ≡ headerRight seats numbers (now (memory .entry)) ⌝ }
+{
+    if memory[SEATS_BYTE] as usize != seats {
+        return false;
+    }
+    memory[NUMBERS_BYTE] as usize == numbers
+}
+
+// Writes the header of a room of these sizes, and a table of seats that lists none: its count, the first byte, is 0.
+pub(crate) fn write_empty(memory: &mut [u8], seats: usize, numbers: usize)
+    requires { ⌜ fitsRoom seats numbers (now memory) ≡ true ⌝ }
+    ensures { λ _. ⌜ now (memory .exit) ≡ emptied seats numbers (now (memory .entry)) ⌝ }
+{
+    memory[SEATS_BYTE] = seats as u8;
+    memory[NUMBERS_BYTE] = numbers as u8;
+    memory[SEATS_START] = 0;
+}
+
+// How the record of a seat that is taken begins: its key, a header of zeros, and no route.
+pub(crate) fn new_seat(key: Key) -> [u8; NEW_SEAT]
+    ensures { λ r. ⌜ r ≡ newSeat (key .0) ⌝ }
+{
+    let mut record = [0u8; NEW_SEAT];
+    key.write(&mut record[0..Key::BYTES]);
+    record
 }

@@ -3,9 +3,10 @@
 //
 // Sizes are parameters here. Who calls, what a packet asks for and what is sent stand above; sockets and sealing stay with the host.
 pub mod change;
+mod empty;
 pub mod layout;
 pub mod lookup;
+pub mod peer;
 pub mod whole;
 
-pub use layout::Room;
-pub use layout::Seat;
+pub use empty::Room;

@@ -7,11 +7,11 @@ ghost use Rattle.table.specs.Table.{fitsTable};
 ghost use Rattle.rules.specs.Room.{free};
 ghost use Rattle.room.specs.Lookup.{placeIn, seatHolding, lowestEmpty, hasSeat, taken, keyIn, routeWanting, lowestRoute, routeOfPlace};
 ghost use Rattle.room.specs.Numbers.{seatFound, numberFound, routeNumbered, wantedOf};
+use crate::empty::Room;
 use crate::layout;
-use crate::layout::Room;
-use crate::layout::Seat;
 use key::Key;
 use packet::ConnectionNumber;
+use seat::Seat;
 
 // A seat, or none.
 pub enum FoundSeat {

@@ -5,7 +5,7 @@ use native.Mathlib.Nat.{add-sub-cancel-left}
 use native.Mathlib.Omega.{arith}
 use Rattle.packet.specs.declared.parts.ConnectionNumber.{ConnectionNumber}
 use Rattle.rules.specs.Room.{Found, none, at, firstNumber, numberOfPlace}
-use Rattle.room.specs.declared.layout.Seat.{Seat}
+use Rattle.seat.specs.declared.Seat.{Seat}
 use Rattle.room.specs.declared.lookup.FoundSeat.the-variants as seat
 use Rattle.room.specs.declared.lookup.FoundNumber.the-variants as number
 use Rattle.room.specs.Numbers.{seatFound, numberFound}

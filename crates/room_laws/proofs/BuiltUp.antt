@@ -10,7 +10,7 @@ use lib.ListN.{length, getD, set, replicate, length-set, length-replicate, getD-
 use lib.Seq.{ext-getD, set-set, set-getD, getD-set-other}
 use borrow.Author.Tests.{eqb-true, eqb-false}
 use Rattle.key.proofs.Same.{same-refl}
-use Rattle.rules.specs.Room.{Sizes, Key, Route, free, wants, Seat, vacant, holds, Room, emptyRoom, seatOf, routeTo, seatAt, sizesOf}
+use Rattle.rules.specs.Room.{Sizes, Key, Route, free, wants, Held, Seat, vacant, holds, Room, newcomer, setRoutes, setRoute, setSeats, setSeat, emptyRoom, seatOf, routeTo, seatAt, sizesOf}
 use Rattle.rules.specs.Outcome.{Change, seatTaken, seatEmptied, routeGiven, routeFreed, withRoute, apply}
 use Rattle.rules.specs.Whole.{Whole}
 use Rattle.rules.proofs.FindLaws.{Once, clash, set-default, set-all, once-set, find-clear, seat-set, held-within}
@@ -50,19 +50,19 @@ wanted-within (r ∷ routes) (suc j) key e = let h = wanted-within routes j key 
 
 -- ---- what the two changes do where they fit
 
-given-sets : (sizes : Sizes) (room : Room) (i : ℕ) (key : Key) (routes : List Route) (j : ℕ) (other : Key) → i < length room →
-    apply sizes (set room i (holds key routes)) (routeGiven i j other) ≡ set room i (holds key (set routes j (wants other)))
+given-sets : (sizes : Sizes) (room : Room) (i : ℕ) (held : Held) (j : ℕ) (other : Key) → i < length (room .seats) →
+    apply sizes (setSeat room i (holds held)) (routeGiven i j other) ≡ setSeat room i (holds (setRoute held j (wants other)))
 unfolding apply withRoute
-given-sets sizes room i key routes j other l =
-    rw (seat-set room i (holds key routes) l) (set-set room i (holds key routes) (holds key (set routes j (wants other))))
+given-sets sizes room i held j other l =
+    rw (seat-set room i (holds held) l) (ap (setSeats room) (set-set (room .seats) i (holds held) (holds (setRoute held j (wants other)))))
 
-taken-sets : (sizes : Sizes) (room : Room) (i : ℕ) (key : Key) → apply sizes room (seatTaken i key) ≡ set room i (holds key (replicate (sizes .numbers) free))
+taken-sets : (sizes : Sizes) (room : Room) (i : ℕ) (key : Key) → apply sizes room (seatTaken i key) ≡ setSeat room i (holds (newcomer sizes key))
 unfolding apply
 taken-sets sizes room i key = refl
 
-sits-itself : (room : Room) (i : ℕ) (key : Key) (routes : List Route) → seatAt room i ≡ holds key routes → seatOf key (getD room i vacant) ≡ true
+sits-itself : (room : Room) (i : ℕ) (held : Held) → seatAt room i ≡ holds held → seatOf (held .key) (getD (room .seats) i vacant) ≡ true
 unfolding seatOf seatAt
-sits-itself room i key routes e = rw e (same-refl key)
+sits-itself room i held e = rw e (same-refl (held .key))
 
 -- ---- what is asked of one seat's routes, and of each seat
 
@@ -73,11 +73,11 @@ record GoodRoutes (K : Key → Type 0) (n : ℕ) (routes : List Route) : Type 0 
 
 abbrev GoodSeat : (Key → Type 0) → ℕ → Seat → Type 0
 GoodSeat K n vacant = Unit {0}
-GoodSeat K n (holds key routes) = K key × GoodRoutes K n routes
+GoodSeat K n (holds held) = K (held .key) × GoodRoutes K n (held .routes)
 
 record Good (K : Key → Type 0) (s n : ℕ) (room : Room) : Type 0 where
-  long : length room ≡ s
-  once : (key : Key) → Once (seatOf key) vacant room
+  long : length (room .seats) ≡ s
+  once : (key : Key) → Once (seatOf key) vacant (room .seats)
   each : (i : ℕ) → GoodSeat K n (seatAt room i)
 
 -- a route freed, and a seat emptied
@@ -89,12 +89,12 @@ good-freed K n routes j g = record {
   keys = λ i key. set-all (λ (r : Route). r ≡ wants key → K key) free routes j free (λ e. clash (cc)) (λ i. g .keys i key) i;
 }
 
-good-emptied : (K : Key → Type 0) (s n : ℕ) (room : Room) (i : ℕ) → Good K s n room → Good K s n (set room i vacant)
+good-emptied : (K : Key → Type 0) (s n : ℕ) (room : Room) (i : ℕ) → Good K s n room → Good K s n (setSeat room i vacant)
 unfolding seatOf seatAt
 good-emptied K s n room i g = record {
-  long = length-set room i vacant ∙ g .long;
-  once = λ key. once-set (seatOf key) vacant room i vacant (g .once key) (λ e. absurd (false≢true e));
-  each = set-all (GoodSeat K n) vacant room i vacant tt (g .each);
+  long = length-set (room .seats) i vacant ∙ g .long;
+  once = λ key. once-set (seatOf key) vacant (room .seats) i vacant (g .once key) (λ e. absurd (false≢true e));
+  each = set-all (GoodSeat K n) vacant (room .seats) i vacant tt (g .each);
 }
 
 -- ---- THE LAW
@@ -102,54 +102,55 @@ good-emptied K s n room i g = record {
 module _ (s n : ℕ) (K : Key → Type 0) (thirty-two : (key : Key) → K key → length key ≡ 32) (P : Room → Type 0) (begins : P (emptyRoom (sizesOf s n)))
     (goes-on : (room : Room) (change : Change) → P room → Fit s n room change → Brings K change → P (apply (sizesOf s n) room change)) where
   -- the routes of a seat, from the lowest place on
-  routes-given : (room : Room) (i : ℕ) (key : Key) → i < length room → P (set room i (holds key (replicate n free))) →
-      (k : ℕ) (routes : List Route) → GoodRoutes K n routes → ((j : ℕ) → k ≤ j → getD routes j free ≡ free) → P (set room i (holds key routes))
-  routes-given room i key l h zero routes g past =
+  routes-given : (room : Room) (i : ℕ) (held : Held) → i < length (room .seats) → P (setSeat room i (holds (setRoutes held (replicate n free)))) →
+      (k : ℕ) (routes : List Route) → GoodRoutes K n routes → ((j : ℕ) → k ≤ j → getD routes j free ≡ free) → P (setSeat room i (holds (setRoutes held routes)))
+  routes-given room i held l h zero routes g past =
       let q : routes ≡ replicate n free = all-default free routes (λ j. past j (omega arith)) ∙ ap (λ (m : ℕ). replicate m free) (g .long) in
       rw q h
-  routes-given room i key l h (suc k) routes g past =
-      go (getD routes k free) refl (routes-given room i key l h k (set routes k free) (good-freed K n routes k g) (cleared free routes k past))
+  routes-given room i held l h (suc k) routes g past =
+      go (getD routes k free) refl (routes-given room i held l h k (set routes k free) (good-freed K n routes k g) (cleared free routes k past))
     where
-      go : (r : Route) → getD routes k free ≡ r → P (set room i (holds key (set routes k free))) → P (set room i (holds key routes))
+      go : (r : Route) → getD routes k free ≡ r → P (setSeat room i (holds (setRoutes held (set routes k free)))) → P (setSeat room i (holds (setRoutes held routes)))
       go free e h =
           let q : set routes k free ≡ routes = ap (set routes k) (sym e) ∙ set-getD routes k free in
           rw (← q) h
       go (wants other) e h =
-          let r : List Route = set routes k free in
-          let fit : Fit s n (set room i (holds key r)) (routeGiven i k other) =
-          gives {j = k} (seat-set room i (holds key r) l) (let q = g .long in let w = wanted-within routes k other e in omega arith)
+          let r : Held = setRoutes held (set routes k free) in
+          let fit : Fit s n (setSeat room i (holds r)) (routeGiven i k other) =
+          gives {j = k} (seat-set room i (holds r) l) (let q = g .long in let w = wanted-within routes k other e in omega arith)
           (set-default routes k free)
           (find-clear (routeTo other) free routes k free (g .once other) (wants-passes other (getD routes k free) e) (unfold routeTo in refl))
           (thirty-two other (g .keys k other e)) in
           subst P
-          (given-sets (sizesOf s n) room i key r k other l
-          ∙ ap (λ (x : List Route). set room i (holds key x)) (put-again routes k free (wants other) free e))
-          (goes-on (set room i (holds key r)) (routeGiven i k other) h fit (g .keys k other e))
+          (given-sets (sizesOf s n) room i r k other l
+          ∙ ap (λ (x : List Route). setSeat room i (holds (setRoutes held x))) (put-again routes k free (wants other) free e))
+          (goes-on (setSeat room i (holds r)) (routeGiven i k other) h fit (g .keys k other e))
 
   -- the seats, from the lowest on
-  seats-taken : (k : ℕ) (room : Room) → Good K s n room → ((i : ℕ) → k ≤ i → getD room i vacant ≡ vacant) → P room
+  seats-taken : (k : ℕ) (room : Room) → Good K s n room → ((i : ℕ) → k ≤ i → getD (room .seats) i vacant ≡ vacant) → P room
   unfolding emptyRoom seatAt
   seats-taken zero room g past =
-      let q : room ≡ replicate s vacant = all-default vacant room (λ i. past i (omega arith)) ∙ ap (λ (m : ℕ). replicate m vacant) (g .long) in
-      rw q begins
+      let q : room .seats ≡ replicate s vacant =
+      all-default vacant (room .seats) (λ i. past i (omega arith)) ∙ ap (λ (m : ℕ). replicate m vacant) (g .long) in
+      subst P (ap (setSeats room) (sym q)) begins
   seats-taken (suc k) room g past =
-      go (seatAt room k) refl (g .each k) (seats-taken k (set room k vacant) (good-emptied K s n room k g) (cleared vacant room k past))
+      go (seatAt room k) refl (g .each k) (seats-taken k (setSeat room k vacant) (good-emptied K s n room k g) (cleared vacant (room .seats) k past))
     where
-      go : (seat : Seat) → seatAt room k ≡ seat → GoodSeat K n seat → P (set room k vacant) → P room
+      go : (seat : Seat) → seatAt room k ≡ seat → GoodSeat K n seat → P (setSeat room k vacant) → P room
       go vacant e a h =
-          let q : set room k vacant ≡ room = ap (set room k) (sym e) ∙ set-getD room k vacant in
-          rw (← q) h
-      go (holds key routes) e a h =
-          let less : Room = set room k vacant in
-          let w : k < length room = held-within room k key routes e in
+          subst P (ap (setSeats room) (ap (set (room .seats) k) (sym e) ∙ set-getD (room .seats) k vacant)) h
+      go (holds held) e a h =
+          let less : Room = setSeat room k vacant in
+          let key = held .key in
+          let w : k < length (room .seats) = held-within room k held e in
           let fit : Fit s n less (seatTaken k key) =
-          takes {i = k} (let q = g .long in omega arith) (set-default room k vacant)
-          (find-clear (seatOf key) vacant room k vacant (g .once key) (sits-itself room k key routes e) (unfold seatOf in refl)) (thirty-two key (a .0)) in
+          takes {i = k} (let q = g .long in omega arith) (set-default (room .seats) k vacant)
+          (find-clear (seatOf key) vacant (room .seats) k vacant (g .once key) (sits-itself room k held e) (unfold seatOf in refl)) (thirty-two key (a .0)) in
           let r = a .1 in
-          subst P (put-again room k vacant (holds key routes) vacant e)
-          (routes-given less k key (rw (length-set room k vacant) w)
+          subst P (ap (setSeats room) (put-again (room .seats) k vacant (holds held) vacant e))
+          (routes-given less k held (rw (length-set (room .seats) k vacant) w)
           (subst P (taken-sets (sizesOf s n) less k key) (goes-on less (seatTaken k key) h fit (a .0)))
-          n routes r (λ j l. List·getD-eq-default routes free (rw (r .long) l)))
+          n (held .routes) r (λ j l. List·getD-eq-default (held .routes) free (rw (r .long) l)))
 
   pub every-room-built-up : (room : Room) → Whole (sizesOf s n) room → KeysAre K room → P room
   every-room-built-up room whole keys =
@@ -159,15 +160,15 @@ module _ (s n : ℕ) (K : Key → Type 0) (thirty-two : (key : Key) → K key �
         once = key-once (sizesOf s n) room whole;
         each = λ i. good i (seatAt room i) refl;
       }
-      (λ i l. List·getD-eq-default room vacant (rw (whole .seats) l))
+      (λ i l. List·getD-eq-default (room .seats) vacant (rw (whole .seats) l))
     where
       good : (i : ℕ) (seat : Seat) → seatAt room i ≡ seat → GoodSeat K n seat
       good i vacant e = tt
-      good i (holds key routes) e = (
-        keys .seated i key routes e,
+      good i (holds held) e = (
+        keys .seated i held e,
         record {
-          long = whole .numbers i key routes e;
-          once = wanted-once (sizesOf s n) room whole i key routes e;
-          keys = keys .wanted i key routes e;
+          long = whole .numbers i held e;
+          once = wanted-once (sizesOf s n) room whole i held e;
+          keys = keys .wanted i held e;
         },
       )

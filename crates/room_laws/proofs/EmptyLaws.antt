@@ -1,5 +1,5 @@
 -- The empty room: where the memory is long enough, what is written is a whole room, it is the rules' empty room, and the memory keeps its length.
-use mathlib.Core.Path.{_≡_, refl, _∙_}
+use mathlib.Core.Path.{_≡_, refl, _∙_, ap}
 use mathlib.Core.Bool.{true}
 use mathlib.Core.List.{List, _∷_}
 use Prim.Native.Nat.{ℕ}
@@ -12,7 +12,7 @@ use Rattle.table.specs.Table.{count, listed, tableWhole}
 use Rattle.table.proofs.KeyOrder.{no}
 use Rattle.table.proofs.Listed.{whole-none}
 use Rattle.table.proofs.NoneListed.{listed-none, view-none}
-use Rattle.rules.specs.Room.{vacant, emptyRoom, sizesOf}
+use Rattle.rules.specs.Room.{vacant, setSeats, emptyRoom, sizesOf}
 use Rattle.room.specs.Layout.{keyBytes, seatBytes, seatsBytes, fitsRoom, seatTable, routesTable}
 use Rattle.room.specs.View.{seatIn, viewRoom}
 use Rattle.room.specs.Whole.{headerRight, roomWhole}
@@ -44,4 +44,5 @@ module _ (s n : ℕ) (b : List ℕ) (f : fitsRoom s n b ≡ true) where
 
   pub empty-view : viewRoom s n (emptied s n b) ≡ emptyRoom (sizesOf s n)
   unfolding viewRoom emptyRoom seatIn
-  empty-view = view-none s (seatBytes n) (seatIn n) (seatTable s n (emptied s n b)) vacant empty-count (λ r. refl)
+  empty-view =
+      ap (setSeats (emptyRoom (sizesOf s n))) (view-none s (seatBytes n) (seatIn n) (seatTable s n (emptied s n b)) vacant empty-count (λ r. refl))

@@ -14,3 +14,4 @@ pub mod BuiltUp
 pub mod StoreBytes
 pub mod EveryRoom
 pub mod AnswerLaws
+pub mod PeersFound

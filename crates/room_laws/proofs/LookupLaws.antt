@@ -1,11 +1,12 @@
 -- What is looked up in the bytes of a whole room is what the rules look up in the room that the bytes are: the seat that holds a key, the lowest
--- empty seat, whether a seat is taken and what it holds, the route of a seat that wants a key, its lowest free place, and the route at a place.
+-- empty seat, whether a seat is taken and what it holds, the route of a seat that wants a key, its lowest free place, the route at a place, and the peer on
+-- a route.
 use mathlib.Core.Path.{_≡_, refl, sym, ap, ap₂, _∙_}
 use mathlib.Core.Bool.{Bool, true, false, _&&_, not, cond, Bool·not-not}
 use mathlib.Core.List.{List}
 use Prim.Native.Nat.{ℕ, _<_}
 use native.Mathlib.Omega.{arith}
-use lib.Dec.{ltb}
+use lib.Dec.{eqb, ltb}
 use lib.ListN.{length, take, drop, getD}
 use borrow.Author.Tests.{ltb-true, ltb-false, lt-ltb}
 use Rattle.key.specs.Keys.{sameKey}
@@ -14,12 +15,13 @@ use Rattle.table.specs.Table.{listed, recordAt, keyAt}
 use Rattle.table.proofs.KeyOrder.{both}
 use Rattle.table.proofs.FitsLaws.{used-in}
 use Rattle.table.proofs.TableLaws.{key-record}
-use Rattle.rules.specs.Room.{Key, free, vacant, holds, find, seatOf, isVacant, routeTo, isFree, routesOf, seatAt}
-use Rattle.rules.proofs.FindLaws.{vacant-no-key, free-not-to}
+use Rattle.rules.specs.Room.{Key, Route, free, vacant, holds, setRoutes, find, seatOf, isVacant, routeTo, isFree, routesOf, seatAt, Seat, Found, none, at, alone}
+use Rattle.rules.proofs.FindLaws.{vacant-no-key, free-not-to, find-hit}
+use Rattle.rules.specs.Outcome.{joinedBy, peer, peerIn, peerAt}
 use Rattle.room.specs.Layout.{seatBytes, fitsRoom, seatTable, seatStart, routesTable}
-use Rattle.room.specs.View.{routeIn, viewRoutes, seatIn, viewRoom}
+use Rattle.room.specs.View.{routeIn, viewRoutes, seatIn, viewRoom, seatHeld}
 use Rattle.room.specs.Whole.{roomWhole}
-use Rattle.room.specs.Lookup.{seatHolding, lowestEmpty, taken, routeWanting, lowestRoute, routeAtPlace, routeOfPlace, hasSeat}
+use Rattle.room.specs.Lookup.{seatHolding, lowestEmpty, taken, routeWanting, lowestRoute, routeAtPlace, routeOfPlace, hasSeat, peerInSeat, peerWanting}
 use Rattle.room.proofs.LayoutLaws.{length-seats, length-routes}
 use Rattle.room_laws.proofs.TablesLaws.{seat-key-stands, routes-in-record}
 use Rattle.room_laws.proofs.ViewLaws.{route-at, route-past, seat-at, seat-past}
@@ -58,7 +60,7 @@ module _ (s n : ℕ) (b : List ℕ) (whole : roomWhole s n b ≡ true) where
 
   -- ---- seats
 
-  pub seat-holding-finds : (key : Key) → seatHolding s n b key ≡ find (seatOf key) (viewRoom s n b)
+  pub seat-holding-finds : (key : Key) → seatHolding s n b key ≡ find (seatOf key) (viewRoom s n b .seats)
   unfolding seatHolding viewRoom
   seat-holding-finds key =
       rw fits
@@ -68,7 +70,7 @@ module _ (s n : ℕ) (b : List ℕ) (whole : roomWhole s n b ≡ true) where
       seat-keyed n key (recordAt s (seatBytes n) (seatTable s n b) m)
       ∙ ap (λ (k : Key). sameKey k key) (sym (key-record s (seatBytes n) (seatTable s n b) m (omega arith))))))
 
-  pub lowest-empty-finds : lowestEmpty s n b ≡ find isVacant (viewRoom s n b)
+  pub lowest-empty-finds : lowestEmpty s n b ≡ find isVacant (viewRoom s n b .seats)
   unfolding lowestEmpty viewRoom
   lowest-empty-finds =
       rw fits
@@ -95,11 +97,12 @@ module _ (s n : ℕ) (b : List ℕ) (whole : roomWhole s n b ≡ true) where
     unfolding taken
     lists = sym (used-in s (seatTable s n b) long i) ∙ both (fitsRoom s n b && ltb i s) _ sits .1
 
-    pub taken-holds : seatAt (viewRoom s n b) i ≡ holds (take 32 (drop (seatStart s n i) b)) (viewRoutes n (routesTable s n b i))
+    pub taken-holds : seatAt (viewRoom s n b) i ≡ holds (seatHeld s n b i (take 32 (drop (seatStart s n i) b)))
     unfolding seatIn
     taken-holds =
         rw (seat-at s n b i within, lists)
-        (ap₂ holds (seat-key-stands s n b i within) (ap (viewRoutes n) (sym (routes-in-record s n b i within))))
+        (ap₂ (λ (k : Key) (t : List Route). holds (setRoutes (seatHeld s n b i k) t)) (seat-key-stands s n b i within)
+        (ap (viewRoutes n) (sym (routes-in-record s n b i within))))
 
     routes-are : routesOf (seatAt (viewRoom s n b) i) ≡ viewRoutes n (routesTable s n b i)
     unfolding routesOf
@@ -129,3 +132,26 @@ module _ (s n : ℕ) (b : List ℕ) (whole : roomWhole s n b ≡ true) where
             ≡ getD (viewRoutes n (routesTable s n b i)) j free
         go true e = sym (route-at n (routesTable s n b i) j (ltb-true j n e))
         go false e = sym (route-past n (routesTable s n b i) j (ltb-false j n e))
+
+  -- ---- the peer
+
+  found-taken : (wanted : Key) (other : ℕ) → find (seatOf wanted) (viewRoom s n b .seats) ≡ at other → taken s n b other ≡ true
+  unfolding seatAt
+  found-taken wanted other e = taken-is other ∙ held (seatAt (viewRoom s n b) other) (find-hit (seatOf wanted) vacant (viewRoom s n b .seats) other e)
+    where
+      held : (sits : Seat) → seatOf wanted sits ≡ true → not (isVacant sits) ≡ true
+      held vacant h = let z : _≡_ {A = Bool} false true = unfold seatOf in h in cc
+      held (holds client) h = unfold isVacant in refl
+
+  pub peer-wanting-is : (i : ℕ) (key wanted : Key) → peerWanting s n b i key wanted ≡ peer (viewRoom s n b) i key wanted
+  unfolding peerWanting peerInSeat peer peerIn peerAt
+  peer-wanting-is i key wanted = ap (peerInSeat s n b i key) (seat-holding-finds wanted) ∙ go (find (seatOf wanted) (viewRoom s n b .seats)) refl
+    where
+      at-seat : (other : ℕ) → taken s n b other ≡ true → (own : Bool) →
+          cond own alone (joinedBy other (routeWanting s n b other key)) ≡ peerAt own (viewRoom s n b) key other
+      at-seat other sits true = refl
+      at-seat other sits false = ap (joinedBy other) (route-wanting-finds other sits key)
+
+      go : (f : Found) → find (seatOf wanted) (viewRoom s n b .seats) ≡ f → peerInSeat s n b i key f ≡ peerIn f (viewRoom s n b) i key
+      go none e = refl
+      go (at other) e = at-seat other (found-taken wanted other e) (eqb i other)

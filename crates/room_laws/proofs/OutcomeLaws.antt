@@ -1,6 +1,6 @@
 -- What a call makes of a whole room fits it. So a call's changes stored in the bytes of a whole room are the room that the rules leave, and the
 -- bytes stay whole. The key of one who arrives has 32 bytes; that of a routing request has, by the packet's length. And what a call sends is within document
--- 01's bound for lent output, 2,048 bytes. Assumes nothing.
+-- 01's bound for lent output. Assumes nothing.
 use mathlib.Core.Path.{_≡_, refl, ap}
 use mathlib.Core.Bool.{true, false≢true}
 use mathlib.Core.List.{List}
@@ -11,9 +11,9 @@ use Rattle.packet.specs.Read.{Read}
 use Rattle.packet.specs.Read as read
 use Rattle.packet.specs.FromClient as client
 use Rattle.packet.proofs.ReadBounds.{request-key-long}
-use Rattle.rules.specs.Room.{Key, Route, free, wants, Seat, vacant, holds, Room, Found, none, at, find, seatOf, isVacant, routeTo, isFree, seatAt, routeAt, Peer, alone, joined, sizesOf}
+use Rattle.rules.specs.Room.{Key, Route, free, wants, Held, Seat, vacant, holds, Room, Found, none, at, find, seatOf, isVacant, routeTo, isFree, seatAt, routeAt, Peer, alone, joined, sizesOf}
 use Rattle.rules.specs.Whole.{Whole, ShortKeys}
-use Rattle.rules.specs.Call.{Call, arrive, leave, packetCall, KeyOf32}
+use Rattle.rules.specs.Call.{Call, arrive, leave, packetCall, KeyOf32, needed}
 use Rattle.rules.specs.Outcome.{refuse, accept, sentBytes, roomAfter, peer, arriveAt, leaveFrom, requestAt, dropAt, oobTo, carryTo, dataAt, act, actOn, packetFrom, outcome}
 use Rattle.rules.proofs.FindLaws.{find-hit, find-within, wanted-place}
 use Rattle.rules.proofs.WithinOutput.{sent-within}
@@ -30,7 +30,7 @@ use Rattle.room_laws.proofs.StoreLaws.{store-all-is-apply-all}
 is-vacant : (x : Seat) → isVacant x ≡ true → x ≡ vacant
 unfolding isVacant
 is-vacant vacant h = refl
-is-vacant (holds k routes) h = absurd (false≢true h)
+is-vacant (holds held) h = absurd (false≢true h)
 
 is-free : (x : Route) → isFree x ≡ true → x ≡ free
 unfolding isFree
@@ -38,40 +38,40 @@ is-free free h = refl
 is-free (wants k) h = absurd (false≢true h)
 
 module _ (s n : ℕ) (room : Room) (whole : Whole (sizesOf s n) room) where
-  arrive-fits : (key : Key) → length key ≡ 32 → (seated empty : Found) → find (seatOf key) room ≡ seated → find isVacant room ≡ empty
+  arrive-fits : (key : Key) → length key ≡ 32 → (seated empty : Found) → find (seatOf key) (room .seats) ≡ seated → find isVacant (room .seats) ≡ empty
       → FitAll s n room (arriveAt seated empty key .changes)
   unfolding arriveAt refuse accept
   arrive-fits key l (at i) empty e d = tt
   arrive-fits key l none none e d = tt
   arrive-fits key l none (at seat) e d =
-      let w = find-within isVacant room seat d in
+      let w = find-within isVacant (room .seats) seat d in
       let q = whole .seats in
       let below : seat < s = omega arith in
-      (takes below (unfold seatAt in is-vacant (getD room seat vacant) (find-hit isVacant vacant room seat d)) e l, tt)
+      (takes below (unfold seatAt in is-vacant (getD (room .seats) seat vacant) (find-hit isVacant vacant (room .seats) seat d)) e l, tt)
 
   leave-fits : (seat : ℕ) (x : Seat) → seatAt room seat ≡ x → FitAll s n room (leaveFrom x room seat .changes)
   unfolding leaveFrom refuse accept
   leave-fits seat vacant e = tt
-  leave-fits seat (holds key routes) e = (empties e, tt)
+  leave-fits seat (holds held) e = (empties e, tt)
 
-  module _ (seat : ℕ) (key : Key) (routes : List Route) (sits : seatAt room seat ≡ holds key routes) where
-    request-fits : (wanted : Key) → length wanted ≡ 32 → (held lowest : Found) → find (routeTo wanted) routes ≡ held → find isFree routes ≡ lowest
-        → FitAll s n room (requestAt held lowest room seat key wanted .changes)
+  module _ (seat : ℕ) (held : Held) (sits : seatAt room seat ≡ holds held) where
+    request-fits : (wanted : Key) → length wanted ≡ 32 → (old lowest : Found) → find (routeTo wanted) (held .routes) ≡ old → find isFree (held .routes) ≡ lowest
+        → FitAll s n room (requestAt old lowest room seat (held .key) wanted .changes)
     unfolding requestAt accept
     request-fits wanted l (at place) lowest e d = tt
     request-fits wanted l none none e d = tt
     request-fits wanted l none (at place) e d =
-        let w = find-within isFree routes place d in
-        let q = whole .numbers seat key routes sits in
+        let w = find-within isFree (held .routes) place d in
+        let q = whole .numbers seat held sits in
         let below : place < n = omega arith in
-        (gives sits below (is-free (getD routes place free) (find-hit isFree free routes place d)) e l, tt)
+        (gives sits below (is-free (getD (held .routes) place free) (find-hit isFree free (held .routes) place d)) e l, tt)
 
-    drop-fits : (number : ℕ) (route : Route) → routeAt routes number ≡ route → FitAll s n room (dropAt route room seat key number .changes)
+    drop-fits : (number : ℕ) (route : Route) → routeAt (held .routes) number ≡ route → FitAll s n room (dropAt route room seat (held .key) number .changes)
     unfolding dropAt accept refuse
     drop-fits number free e = tt
-    drop-fits number (wants wanted) e = (frees sits (wanted-place routes number wanted e), tt)
+    drop-fits number (wants wanted) e = (frees sits (wanted-place (held .routes) number wanted e), tt)
 
-    oob-fits : (other : Found) (bytes : List ℕ) → FitAll s n room (oobTo other seat key bytes .changes)
+    oob-fits : (other : Found) (bytes : List ℕ) → FitAll s n room (oobTo other seat (held .key) bytes .changes)
     unfolding oobTo accept
     oob-fits none bytes = tt
     oob-fits (at other) bytes = tt
@@ -81,22 +81,22 @@ module _ (s n : ℕ) (room : Room) (whole : Whole (sizesOf s n) room) where
     carry-fits alone bytes = tt
     carry-fits (joined other place) bytes = tt
 
-    data-fits : (route : Route) (bytes : List ℕ) → FitAll s n room (dataAt route room seat key bytes .changes)
+    data-fits : (route : Route) (bytes : List ℕ) → FitAll s n room (dataAt route room seat (held .key) bytes .changes)
     unfolding dataAt refuse
     data-fits free bytes = tt
-    data-fits (wants wanted) bytes = carry-fits (peer room seat key wanted) bytes
+    data-fits (wants wanted) bytes = carry-fits (peer room seat (held .key) wanted) bytes
 
-    act-fits : (bytes : List ℕ) (p : client.FromClient) → client.relayRead bytes ≡ read.packet p → FitAll s n room (act p room seat key routes .changes)
+    act-fits : (bytes : List ℕ) (p : client.FromClient) → client.relayRead bytes ≡ read.packet p → FitAll s n room (act p room seat held .changes)
     unfolding act accept
     act-fits bytes (client.routingRequest wanted) e =
-        request-fits wanted (request-key-long bytes wanted e) (find (routeTo wanted) routes) (find isFree routes) refl refl
-    act-fits bytes (client.dropRoute number) e = drop-fits number (routeAt routes number) refl
+        request-fits wanted (request-key-long bytes wanted e) (find (routeTo wanted) (held .routes)) (find isFree (held .routes)) refl refl
+    act-fits bytes (client.dropRoute number) e = drop-fits number (routeAt (held .routes) number) refl
     act-fits bytes (client.ping m) e = tt
     act-fits bytes (client.pong m) e = tt
-    act-fits bytes (client.oobSend wanted content) e = oob-fits (find (seatOf wanted) room) content
-    act-fits bytes (client.routedData number content) e = data-fits (routeAt routes number) content
+    act-fits bytes (client.oobSend wanted content) e = oob-fits (find (seatOf wanted) (room .seats)) content
+    act-fits bytes (client.routedData number content) e = data-fits (routeAt (held .routes) number) content
 
-    read-fits : (bytes : List ℕ) (r : Read client.FromClient) → client.relayRead bytes ≡ r → FitAll s n room (actOn r room seat key routes .changes)
+    read-fits : (bytes : List ℕ) (r : Read client.FromClient) → client.relayRead bytes ≡ r → FitAll s n room (actOn r room seat held .changes)
     unfolding actOn refuse
     read-fits bytes (read.packet p) e = act-fits bytes p e
     read-fits bytes (read.refused why) e = tt
@@ -104,12 +104,12 @@ module _ (s n : ℕ) (room : Room) (whole : Whole (sizesOf s n) room) where
   packet-fits : (seat : ℕ) (bytes : List ℕ) (x : Seat) → seatAt room seat ≡ x → FitAll s n room (packetFrom x room seat bytes .changes)
   unfolding packetFrom refuse
   packet-fits seat bytes vacant e = tt
-  packet-fits seat bytes (holds key routes) e = read-fits seat key routes e bytes (client.relayRead bytes) refl
+  packet-fits seat bytes (holds held) e = read-fits seat held e bytes (client.relayRead bytes) refl
 
   -- what a call makes of a whole room fits it
   pub outcome-fits : (call : Call) → KeyOf32 call → FitAll s n room (outcome room call .changes)
   unfolding outcome
-  outcome-fits (arrive key) l = arrive-fits key l (find (seatOf key) room) (find isVacant room) refl refl
+  outcome-fits (arrive key) l = arrive-fits key l (find (seatOf key) (room .seats)) (find isVacant (room .seats)) refl refl
   outcome-fits (leave seat) l = leave-fits seat (seatAt room seat) refl
   outcome-fits (packetCall seat bytes) l = packet-fits seat bytes (seatAt room seat) refl
 
@@ -126,9 +126,9 @@ outcome-stored s n b o call l =
 
 -- a key in lent bytes has 32 at most
 pub view-keys : (s n : ℕ) (b : List ℕ) → ShortKeys (viewRoom s n b)
-view-keys s n b seat key routes e =
+view-keys s n b seat held e =
     let kept = recordAt s (seatBytes n) (seatTable s n b) seat in
-    omega (arith, ap length (seat-holds s n b seat key routes e .2), length-take keyBytes kept)
+    omega (arith, ap (λ (h : Held). length (h .key)) (seat-holds s n b seat held e .2), length-take keyBytes kept)
 
-pub outcome-within : (s n : ℕ) (b : List ℕ) → roomWhole s n b ≡ true → (call : Call) → length (sentBytes (outcome (viewRoom s n b) call .sent)) ≤ 2048
+pub outcome-within : (s n : ℕ) (b : List ℕ) → roomWhole s n b ≡ true → (call : Call) → length (sentBytes (outcome (viewRoom s n b) call .sent)) ≤ needed call
 outcome-within s n b o = sent-within (sizesOf s n) (whole-few s n b o) (viewRoom s n b) (whole-view s n b o) (view-keys s n b)

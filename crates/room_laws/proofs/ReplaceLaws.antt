@@ -16,7 +16,7 @@ use Rattle.table.proofs.Stores.{length-splice}
 use Rattle.table.proofs.Places.{splice-inner}
 use Rattle.table.proofs.TableLaws.{length-record}
 use Rattle.table.proofs.RecordLaws.{refilled, refilled-length, refilled-listed, refilled-other, refilled-same, view-refilled, refilled-whole}
-use Rattle.rules.specs.Room.{Key, Route, Seat, holds, seatAt}
+use Rattle.rules.specs.Room.{Key, Route, Held, Seat, holds, setKey, setRoutes, setSeats, setSeat, seatAt}
 use Rattle.room.specs.Layout.{roomHeader, keyBytes, routesBytes, routesInSeat, seatBytes, seatsBytes, fitsRoom, seatTable, routesStart, routesTable}
 use Rattle.room.specs.View.{seatIn, viewRoutes, viewRoom}
 use Rattle.room.specs.Whole.{headerRight, roomWhole}
@@ -55,9 +55,9 @@ module _ (s n : ℕ) (b : List ℕ) (f : fitsRoom s n b ≡ true) (table : List 
   unfolding headerRight
   seats-header = rw (header-byte 0 (omega arith), header-byte 1 (omega arith))
 
-  pub seats-view : viewRoom s n (withSeats s n b table) ≡ view s (seatBytes n) (seatIn n) table
+  pub seats-view : viewRoom s n (withSeats s n b table) ≡ setSeats (viewRoom s n b) (view s (seatBytes n) (seatIn n) table)
   unfolding viewRoom
-  seats-view = ap (view s (seatBytes n) (seatIn n)) seats-replaced
+  seats-view = ap (λ (x : List ℕ). setSeats (viewRoom s n b) (view s (seatBytes n) (seatIn n) x)) seats-replaced
 
   pub seats-whole : headerRight s n b ≡ true → tableWhole s (seatBytes n) table ≡ true
       → ((i : ℕ) → member i (listed s table) ≡ true → (i < s) × (tableWhole n keyBytes (drop routesInSeat (recordAt s (seatBytes n) table i)) ≡ true))
@@ -81,8 +81,8 @@ end-replaced a w r new l e =
     ap (λ (x : List ℕ). take a r ++ x)
     (ap (λ (x : List ℕ). new ++ x) (drop-of-length-le (drop a r) {i = length new} (rw length-drop (omega arith))) ∙ append-nil new)
 
-module _ (s n : ℕ) (b : List ℕ) (o : roomWhole s n b ≡ true) (i : ℕ) (key : Key) (routes : List Route)
-    (e : seatAt (viewRoom s n b) i ≡ holds key routes) (new : List ℕ) (l : length new ≡ routesBytes n) where
+module _ (s n : ℕ) (b : List ℕ) (o : roomWhole s n b ≡ true) (i : ℕ) (held : Held)
+    (e : seatAt (viewRoom s n b) i ≡ holds held) (new : List ℕ) (l : length new ≡ routesBytes n) where
   f : fitsRoom s n b ≡ true
   f = whole-fits s n b o
 
@@ -90,7 +90,7 @@ module _ (s n : ℕ) (b : List ℕ) (o : roomWhole s n b ≡ true) (i : ℕ) (ke
   t = whole-seat-table s n b o
 
   below : i < s
-  below = seat-holds s n b i key routes e .0
+  below = seat-holds s n b i held e .0
 
   most : routesInSeat + length new ≤ seatBytes n
   most = omega arith
@@ -120,28 +120,29 @@ module _ (s n : ℕ) (b : List ℕ) (o : roomWhole s n b ≡ true) (i : ℕ) (ke
   behind : drop routesInSeat (take routesInSeat (recordAt s (seatBytes n) (seatTable s n b) i) ++ new) ≡ new
   behind = drop-at (take routesInSeat (recordAt s (seatBytes n) (seatTable s n b) i)) new routesInSeat front
 
-  seat : seatIn n true (take routesInSeat (recordAt s (seatBytes n) (seatTable s n b) i) ++ new) ≡ holds key (viewRoutes n new)
+  seat : seatIn n true (take routesInSeat (recordAt s (seatBytes n) (seatTable s n b) i) ++ new) ≡ holds (setRoutes held (viewRoutes n new))
   unfolding seatIn
   seat =
-      ap₂ holds
+      ap₂ (λ (k : Key) (t : List Route). holds (setRoutes (setKey held k) t))
       (take-append-le keyBytes (take routesInSeat (recordAt s (seatBytes n) (seatTable s n b) i)) new (let q = front in omega arith)
       ∙ take-take keyBytes routesInSeat (recordAt s (seatBytes n) (seatTable s n b) i) (omega arith)
-      ∙ seat-holds s n b i key routes e .2)
+      ∙ ap (λ (h : Held). h .key) (seat-holds s n b i held e .2))
       (ap (viewRoutes n) behind)
 
   -- THE LAW: that seat has the new routes
-  pub routes-view : viewRoom s n (withRoutes s n b i new) ≡ set (viewRoom s n b) i (holds key (viewRoutes n new))
+  pub routes-view : viewRoom s n (withRoutes s n b i new) ≡ setSeat (viewRoom s n b) i (holds (setRoutes held (viewRoutes n new)))
   routes-view =
       ap (viewRoom s n) routes-as-seats
       ∙ seats-view s n b f (refilled s (seatBytes n) (seatTable s n b) i routesInSeat new) long
-      ∙ view-refilled s (seatBytes n) (seatTable s n b) t i below routesInSeat new most (seatIn n)
-      ∙ ap₂ (λ (x : List Seat) (y : Seat). set x i y) (view-is s n b) here
+      ∙ ap (setSeats (viewRoom s n b))
+      (view-refilled s (seatBytes n) (seatTable s n b) t i below routesInSeat new most (seatIn n)
+      ∙ ap₂ (λ (x : List Seat) (y : Seat). set x i y) (view-is s n b) here)
     where
       here : seatIn n (member i (listed s (seatTable s n b))) (splice (recordAt s (seatBytes n) (seatTable s n b) i) routesInSeat new (length new))
-          ≡ holds key (viewRoutes n new)
+          ≡ holds (setRoutes held (viewRoutes n new))
       here =
           rw (
-            seat-holds s n b i key routes e .1,
+            seat-holds s n b i held e .1,
             end-replaced routesInSeat (seatBytes n) (recordAt s (seatBytes n) (seatTable s n b) i) new (length-record s (seatBytes n) (seatTable s n b) t i below) (omega arith),
           )
           seat

@@ -18,7 +18,7 @@ use Rattle.table.proofs.Distinct.{member-less, unlisted-leaves-room}
 use Rattle.table.proofs.FitsLaws.{freed-in}
 use Rattle.table.proofs.PutLaws.{put-in-is-put}
 use Rattle.table.proofs.NoneListed.{view-none}
-use Rattle.rules.specs.Room.{Key, Route, free, Seat, vacant, holds, none, find, seatOf, seatAt}
+use Rattle.rules.specs.Room.{sizesOf, Key, Route, free, Held, Seat, vacant, holds, newcomer, setRoutes, setSeats, setSeat, none, find, seatOf, seatAt}
 use Rattle.rules.proofs.FindLaws.{find-miss}
 use Rattle.room.specs.Layout.{keyBytes, routesInSeat, seatBytes, seatsBytes, fitsRoom, seatTable}
 use Rattle.room.specs.View.{routeIn, viewRoutes, seatIn, viewRoom}
@@ -57,9 +57,9 @@ module _ (key : Key) (e : length key ≡ 32) where
         ap (take 32) (append-assoc key (replicate 8 0 ++ (0 ∷ [])) x)
         ∙ take-at key ((replicate 8 0 ++ (0 ∷ [])) ++ x) 32 e
 
-    new-seat : (n : ℕ) → seatIn n true (newSeat key ++ x) ≡ holds key (replicate n free)
+    new-seat : (s n : ℕ) → seatIn n true (newSeat key ++ x) ≡ holds (newcomer (sizesOf s n) key)
     unfolding seatIn
-    new-seat n = ap₂ holds first-key (ap (viewRoutes n) new-routes ∙ no-routes n x)
+    new-seat s n = ap₂ (λ (k : Key) (t : List Route). holds (setRoutes (newcomer (sizesOf s n) k) t)) first-key (ap (viewRoutes n) new-routes ∙ no-routes n x)
 
 module _ (s n : ℕ) (b : List ℕ) (o : roomWhole s n b ≡ true) (i : ℕ) where
   f : fitsRoom s n b ≡ true
@@ -73,7 +73,7 @@ module _ (s n : ℕ) (b : List ℕ) (o : roomWhole s n b ≡ true) (i : ℕ) whe
 
   -- ---- taken
 
-  module _ (h : i < s) (key : Key) (e : length key ≡ 32) (unused : seatAt (viewRoom s n b) i ≡ vacant) (fresh : find (seatOf key) (viewRoom s n b) ≡ none) where
+  module _ (h : i < s) (key : Key) (e : length key ≡ 32) (unused : seatAt (viewRoom s n b) i ≡ vacant) (fresh : find (seatOf key) (viewRoom s n b .seats) ≡ none) where
     absent : member i (listed s (seatTable s n b)) ≡ false
     absent = seat-vacant s n b i h unused
 
@@ -106,7 +106,7 @@ module _ (s n : ℕ) (b : List ℕ) (o : roomWhole s n b ≡ true) (i : ℕ) whe
         ∙ missed)
       where
         missed : seatOf key (seatAt (viewRoom s n b) x) ≡ false
-        missed = unfold seatAt in find-miss (seatOf key) vacant (viewRoom s n b) (unfold seatOf in refl) fresh x
+        missed = unfold seatAt in find-miss (seatOf key) vacant (viewRoom s n b .seats) (unfold seatOf in refl) fresh x
 
     put-routes : (j : ℕ) (u : Bool) → eqb i j ≡ u → (u || member j (listed s (seatTable s n b))) ≡ true
         → (j < s) × (tableWhole n keyBytes (drop routesInSeat (recordAt s (seatBytes n) (put s (seatBytes n) (seatTable s n b) i (newSeat key)) j)) ≡ true)
@@ -124,13 +124,14 @@ module _ (s n : ℕ) (b : List ℕ) (o : roomWhole s n b ≡ true) (i : ℕ) whe
           ∙ whole-record-routes s n b o j m,
     )
 
-    pub seat-taken : (viewRoom s n (withSeats s n b (putIn s (seatBytes n) (seatTable s n b) i (newSeat key))) ≡ set (viewRoom s n b) i (holds key (replicate n free)))
+    pub seat-taken : (viewRoom s n (withSeats s n b (putIn s (seatBytes n) (seatTable s n b) i (newSeat key))) ≡ setSeat (viewRoom s n b) i (holds (newcomer (sizesOf s n) key)))
         × (roomWhole s n (withSeats s n b (putIn s (seatBytes n) (seatTable s n b) i (newSeat key))) ≡ true)
         × (length (withSeats s n b (putIn s (seatBytes n) (seatTable s n b) i (newSeat key))) ≡ length b)
     seat-taken = rw is-put (
       seats-view s n b f (put s (seatBytes n) (seatTable s n b) i (newSeat key)) put-long
-          ∙ view-put s (seatBytes n) (seatTable s n b) i (newSeat key) t left-room h most (seatIn n)
-          ∙ ap₂ (λ (x : List Seat) (y : Seat). set x i y) (view-is s n b) (new-seat key e (drop (length (newSeat key)) (recordAt s (seatBytes n) (seatTable s n b) i)) n),
+          ∙ ap (setSeats (viewRoom s n b))
+          (view-put s (seatBytes n) (seatTable s n b) i (newSeat key) t left-room h most (seatIn n)
+          ∙ ap₂ (λ (x : List Seat) (y : Seat). set x i y) (view-is s n b) (new-seat key e (drop (length (newSeat key)) (recordAt s (seatBytes n) (seatTable s n b) i)) s n)),
       seats-whole s n b f (put s (seatBytes n) (seatTable s n b) i (newSeat key)) put-long (whole-header s n b o)
           (whole-put s (seatBytes n) (seatTable s n b) i (newSeat key) t left-room h most (whole-seats s n b o) (let q = new-length key e in omega arith) absent key-fresh)
           (λ j m. put-routes j (eqb i j) refl
@@ -141,9 +142,9 @@ module _ (s n : ℕ) (b : List ℕ) (o : roomWhole s n b ≡ true) (i : ℕ) whe
 
   -- ---- emptied
 
-  module _ (key : Key) (routes : List Route) (e : seatAt (viewRoom s n b) i ≡ holds key routes) where
+  module _ (held : Held) (e : seatAt (viewRoom s n b) i ≡ holds held) where
     present : member i (listed s (seatTable s n b)) ≡ true
-    present = seat-holds s n b i key routes e .1
+    present = seat-holds s n b i held e .1
 
     freed-long : length (freed s (seatTable s n b) i) ≡ seatsBytes s n
     freed-long = length-freed s (seatBytes n) (seatTable s n b) i t (whole-seats s n b o) present ∙ t .long
@@ -158,13 +159,14 @@ module _ (s n : ℕ) (b : List ℕ) (o : roomWhole s n b ≡ true) (i : ℕ) whe
               ∙ whole-record-routes s n b o j d,
         )
 
-    pub seat-emptied : (viewRoom s n (withSeats s n b (freedIn s (seatTable s n b) i)) ≡ set (viewRoom s n b) i vacant)
+    pub seat-emptied : (viewRoom s n (withSeats s n b (freedIn s (seatTable s n b) i)) ≡ setSeat (viewRoom s n b) i vacant)
         × (roomWhole s n (withSeats s n b (freedIn s (seatTable s n b) i)) ≡ true)
         × (length (withSeats s n b (freedIn s (seatTable s n b) i)) ≡ length b)
     seat-emptied = rw (freed-in s (seatTable s n b) long (whole-count s (seatBytes n) (seatTable s n b) (whole-seats s n b o)) i) (
       seats-view s n b f (freed s (seatTable s n b) i) freed-long
-          ∙ view-freed s (seatBytes n) (seatTable s n b) i t (whole-seats s n b o) present (seatIn n)
-          ∙ ap₂ (λ (x : List Seat) (y : Seat). set x i y) (view-is s n b) empty,
+          ∙ ap (setSeats (viewRoom s n b))
+          (view-freed s (seatBytes n) (seatTable s n b) i t (whole-seats s n b o) present (seatIn n)
+          ∙ ap₂ (λ (x : List Seat) (y : Seat). set x i y) (view-is s n b) empty),
       seats-whole s n b f (freed s (seatTable s n b) i) freed-long (whole-header s n b o)
           (whole-freed s (seatBytes n) (seatTable s n b) i t (whole-seats s n b o) present) freed-routes,
       seats-length s n b f (freed s (seatTable s n b) i) freed-long,

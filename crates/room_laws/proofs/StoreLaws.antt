@@ -9,7 +9,7 @@ use lib.ListN.{length, getD, set}
 use lib.Dec.{ltb}
 use borrow.Author.Tests.{lt-ltb}
 use Rattle.table.specs.Table.{Table, tableWhole, putIn, freedIn}
-use Rattle.rules.specs.Room.{Key, Route, free, wants, Seat, holds, Room, find, routeTo, seatAt, sizesOf}
+use Rattle.rules.specs.Room.{Route, free, wants, Held, Seat, holds, Room, setRoutes, setSeat, find, routeTo, seatAt, sizesOf}
 use Rattle.rules.specs.Outcome.{Change, seatTaken, seatEmptied, routeGiven, routeFreed, withRoute, apply, applyAll}
 use Rattle.room.specs.Layout.{keyBytes, routesBytes, fitsRoom, routesTable}
 use Rattle.room.specs.View.{viewRoutes, viewRoom}
@@ -29,35 +29,35 @@ module _ (s n : ℕ) (b : List ℕ) (o : roomWhole s n b ≡ true) where
   fits-at i h = rw (whole-fits s n b o, lt-ltb i s h)
 
   -- a seat's routes replaced by a whole table that has one of them changed
-  module _ (i : ℕ) (key : Key) (routes : List Route) (e : seatAt (viewRoom s n b) i ≡ holds key routes) (j : ℕ) (route : Route) (new : List ℕ)
+  module _ (i : ℕ) (held : Held) (e : seatAt (viewRoom s n b) i ≡ holds held) (j : ℕ) (route : Route) (new : List ℕ)
       (q : (viewRoutes n new ≡ set (viewRoutes n (routesTable s n b i)) j route) × (tableWhole n keyBytes new ≡ true) × (length new ≡ length (routesTable s n b i))) where
     below : i < s
-    below = seat-holds s n b i key routes e .0
+    below = seat-holds s n b i held e .0
 
     long : length new ≡ routesBytes n
     long = q .2 ∙ length-routes s n b (whole-fits s n b o) i below
 
-    route-changed : (viewRoom s n (withRoutes s n b i new) ≡ set (viewRoom s n b) i (withRoute (seatAt (viewRoom s n b) i) j route))
+    route-changed : (viewRoom s n (withRoutes s n b i new) ≡ setSeat (viewRoom s n b) i (withRoute (seatAt (viewRoom s n b) i) j route))
         × (roomWhole s n (withRoutes s n b i new) ≡ true) × (length (withRoutes s n b i new) ≡ length b)
     unfolding withRoute
     route-changed = (
-      routes-view s n b o i key routes e new long
-          ∙ ap (λ (x : List Route). set (viewRoom s n b) i (holds key x)) (q .0 ∙ ap (λ (x : List Route). set x j route) (held-routes s n b o i key routes e .1))
-          ∙ ap (λ (x : Seat). set (viewRoom s n b) i (withRoute x j route)) (sym e),
-      routes-whole s n b o i key routes e new long (q .1),
-      routes-length s n b o i key routes e new long,
+      routes-view s n b o i held e new long
+          ∙ ap (λ (x : List Route). setSeat (viewRoom s n b) i (holds (setRoutes held x))) (q .0 ∙ ap (λ (x : List Route). set x j route) (held-routes s n b o i held e .1))
+          ∙ ap (λ (x : Seat). setSeat (viewRoom s n b) i (withRoute x j route)) (sym e),
+      routes-whole s n b o i held e new long (q .1),
+      routes-length s n b o i held e new long,
     )
 
   -- the table of routes of a seat that holds a key
-  module _ (i : ℕ) (key : Key) (routes : List Route) (e : seatAt (viewRoom s n b) i ≡ holds key routes) where
+  module _ (i : ℕ) (held : Held) (e : seatAt (viewRoom s n b) i ≡ holds held) where
     held-table : Table n keyBytes (routesTable s n b i)
-    held-table = whole-routes-table s n b o i (seat-holds s n b i key routes e .1)
+    held-table = whole-routes-table s n b o i (seat-holds s n b i held e .1)
 
     held-whole : tableWhole n keyBytes (routesTable s n b i) ≡ true
-    held-whole = held-routes s n b o i key routes e .0
+    held-whole = held-routes s n b o i held e .0
 
-    held-view : viewRoutes n (routesTable s n b i) ≡ routes
-    held-view = held-routes s n b o i key routes e .1
+    held-view : viewRoutes n (routesTable s n b i) ≡ held .routes
+    held-view = held-routes s n b o i held e .1
 
   -- THE LAW
   pub store-is-apply : (change : Change) → Fit s n (viewRoom s n b) change
@@ -66,19 +66,19 @@ module _ (s n : ℕ) (b : List ℕ) (o : roomWhole s n b ≡ true) where
   unfolding store apply
   store-is-apply (seatTaken i key) (takes h unused fresh long) =
       rw (whole-fits s n b o) (seat-taken s n b o i h key long unused fresh)
-  store-is-apply (seatEmptied i) (empties {key = key} {routes = routes} e) =
-      rw (whole-fits s n b o) (seat-emptied s n b o i key routes e)
-  store-is-apply (routeGiven i j key) (gives {k = k} {routes = routes} e h unused fresh long) =
-      rw (fits-at i (seat-holds s n b i k routes e .0))
-      (route-changed i k routes e j (wants key) (putIn n keyBytes (routesTable s n b i) j key)
-      (route-put n (routesTable s n b i) (held-table i k routes e) (held-whole i k routes e) j h key long
-      (ap (λ (x : List Route). getD x j free) (held-view i k routes e) ∙ unused)
-      (ap (find (routeTo key)) (held-view i k routes e) ∙ fresh)))
-  store-is-apply (routeFreed i j) (frees {k = k} {w = w} {routes = routes} e h) =
-      rw (fits-at i (seat-holds s n b i k routes e .0))
-      (route-changed i k routes e j free (freedIn n (routesTable s n b i) j)
-      (route-out n (routesTable s n b i) (held-table i k routes e) (held-whole i k routes e) j w
-      (ap (λ (x : List Route). getD x j free) (held-view i k routes e) ∙ h)))
+  store-is-apply (seatEmptied i) (empties {held = held} e) =
+      rw (whole-fits s n b o) (seat-emptied s n b o i held e)
+  store-is-apply (routeGiven i j key) (gives {held = held} e h unused fresh long) =
+      rw (fits-at i (seat-holds s n b i held e .0))
+      (route-changed i held e j (wants key) (putIn n keyBytes (routesTable s n b i) j key)
+      (route-put n (routesTable s n b i) (held-table i held e) (held-whole i held e) j h key long
+      (ap (λ (x : List Route). getD x j free) (held-view i held e) ∙ unused)
+      (ap (find (routeTo key)) (held-view i held e) ∙ fresh)))
+  store-is-apply (routeFreed i j) (frees {w = w} {held = held} e h) =
+      rw (fits-at i (seat-holds s n b i held e .0))
+      (route-changed i held e j free (freedIn n (routesTable s n b i) j)
+      (route-out n (routesTable s n b i) (held-table i held e) (held-whole i held e) j w
+      (ap (λ (x : List Route). getD x j free) (held-view i held e) ∙ h)))
 
 -- ---- several changes
 

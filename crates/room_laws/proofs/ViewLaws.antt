@@ -4,16 +4,16 @@ use mathlib.Core.Path.{_≡_, refl, sym, _∙_}
 use mathlib.Core.Bool.{Bool, true, false}
 use mathlib.Core.List.{List}
 use Prim.Native.Nat.{ℕ, _≤_, _<_}
-use lib.ListN.{length, take, drop, getD}
+use lib.ListN.{length, getD}
 use lib.Dec.{ltb}
 use borrow.Author.Tests.{ltb-true, ltb-false}
 use Rattle.table.specs.Bytes.{member}
 use Rattle.table.specs.Table.{listed, recordAt, view}
 use Rattle.table.proofs.TableLaws.{view-at, length-view, view-past}
-use Rattle.rules.specs.Room.{Key, Route, free, wants, vacant, holds, seatAt}
+use Rattle.rules.specs.Room.{Key, free, wants, Held, vacant, holds, seatAt}
 use Rattle.rules.proofs.FindLaws.{clash}
-use Rattle.room.specs.Layout.{keyBytes, routesInSeat, seatBytes, seatTable}
-use Rattle.room.specs.View.{routeIn, viewRoutes, seatIn, viewRoom}
+use Rattle.room.specs.Layout.{keyBytes, seatBytes, seatTable}
+use Rattle.room.specs.View.{routeIn, viewRoutes, heldIn, seatIn, viewRoom}
 
 -- ---- one route and one seat, by whether it is listed
 
@@ -27,11 +27,10 @@ unfolding routeIn
 route-unlisted true r e = clash (cc)
 route-unlisted false r e = refl
 
-seat-listed : (n : ℕ) (t : Bool) (r : List ℕ) (k : Key) (routes : List Route) → seatIn n t r ≡ holds k routes
-    → (t ≡ true) × (take keyBytes r ≡ k) × (viewRoutes n (drop routesInSeat r) ≡ routes)
+seat-listed : (n : ℕ) (t : Bool) (r : List ℕ) (held : Held) → seatIn n t r ≡ holds held → (t ≡ true) × (heldIn n r ≡ held)
 unfolding seatIn
-seat-listed n true r k routes e = (refl, cc, cc)
-seat-listed n false r k routes e = clash (cc)
+seat-listed n true r held e = (refl, cc)
+seat-listed n false r held e = clash (cc)
 
 seat-unlisted : (n : ℕ) (t : Bool) (r : List ℕ) → seatIn n t r ≡ vacant → t ≡ false
 unfolding seatIn
@@ -70,11 +69,11 @@ module _ (n : ℕ) (r : List ℕ) where
 
 module _ (s n : ℕ) (b : List ℕ) where
   -- the room is what the table of seats says
-  pub view-is : view s (seatBytes n) (seatIn n) (seatTable s n b) ≡ viewRoom s n b
+  pub view-is : view s (seatBytes n) (seatIn n) (seatTable s n b) ≡ viewRoom s n b .seats
   unfolding viewRoom
   view-is = refl
 
-  pub view-room-length : length (viewRoom s n b) ≡ s
+  pub view-room-length : length (viewRoom s n b .seats) ≡ s
   unfolding viewRoom
   view-room-length = length-view s (seatBytes n) (seatIn n) (seatTable s n b)
 
@@ -89,16 +88,14 @@ module _ (s n : ℕ) (b : List ℕ) where
   pub seat-vacant : (i : ℕ) → i < s → seatAt (viewRoom s n b) i ≡ vacant → member i (listed s (seatTable s n b)) ≡ false
   seat-vacant i h e = seat-unlisted n (member i (listed s (seatTable s n b))) (recordAt s (seatBytes n) (seatTable s n b) i) (sym (seat-at i h) ∙ e)
 
-  pub seat-holds : (i : ℕ) (k : Key) (routes : List Route) → seatAt (viewRoom s n b) i ≡ holds k routes
-      → (i < s) × (member i (listed s (seatTable s n b)) ≡ true) × (take keyBytes (recordAt s (seatBytes n) (seatTable s n b) i) ≡ k)
-      × (viewRoutes n (drop routesInSeat (recordAt s (seatBytes n) (seatTable s n b) i)) ≡ routes)
-  seat-holds i k routes e = go (ltb i s) refl
+  pub seat-holds : (i : ℕ) (held : Held) → seatAt (viewRoom s n b) i ≡ holds held
+      → (i < s) × (member i (listed s (seatTable s n b)) ≡ true) × (heldIn n (recordAt s (seatBytes n) (seatTable s n b) i) ≡ held)
+  seat-holds i held e = go (ltb i s) refl
     where
       go : (t : Bool) → ltb i s ≡ t
-          → (i < s) × (member i (listed s (seatTable s n b)) ≡ true) × (take keyBytes (recordAt s (seatBytes n) (seatTable s n b) i) ≡ k)
-          × (viewRoutes n (drop routesInSeat (recordAt s (seatBytes n) (seatTable s n b) i)) ≡ routes)
+          → (i < s) × (member i (listed s (seatTable s n b)) ≡ true) × (heldIn n (recordAt s (seatBytes n) (seatTable s n b) i) ≡ held)
       go true h =
           let l = ltb-true i s h in
-          let q = seat-listed n (member i (listed s (seatTable s n b))) (recordAt s (seatBytes n) (seatTable s n b) i) k routes (sym (seat-at i l) ∙ e) in
-          (l, q .0, q .1, q .2)
+          let q = seat-listed n (member i (listed s (seatTable s n b))) (recordAt s (seatBytes n) (seatTable s n b) i) held (sym (seat-at i l) ∙ e) in
+          (l, q .0, q .1)
       go false h = let q = seat-past i (ltb-false i s h) in clash (cc)

@@ -13,7 +13,7 @@ use Rattle.table.specs.Table.{Table, listed, recordAt, keyAt, tableWhole}
 use Rattle.table.proofs.KeyOrder.{no, both, rising-below}
 use Rattle.table.proofs.Listed.{whole-rising}
 use Rattle.table.proofs.TableLaws.{keys-apart}
-use Rattle.rules.specs.Room.{Key, Route, free, wants, holds, seatAt, firstNumber, sizesOf}
+use Rattle.rules.specs.Room.{Key, Route, free, wants, Held, holds, seatAt, firstNumber, sizesOf}
 use Rattle.rules.specs.Whole.{Whole}
 use Rattle.rules.proofs.FindLaws.{wanted-high, wanted-place}
 use Rattle.room.specs.Layout.{keyBytes, routesInSeat, seatBytes, fitsRoom, seatTable, routesTable}
@@ -93,11 +93,11 @@ module _ (s n : ℕ) (b : List ℕ) (o : roomWhole s n b ≡ true) where
   whole-routes-table i m = routes-table s n b whole-fits i (listed-below i m)
 
   -- a seat that holds a key: its table of routes is whole, and has its routes
-  pub held-routes : (i : ℕ) (key : Key) (routes : List Route) → seatAt (viewRoom s n b) i ≡ holds key routes
-      → (tableWhole n keyBytes (routesTable s n b i) ≡ true) × (viewRoutes n (routesTable s n b i) ≡ routes)
-  held-routes i key routes e =
-      let q = seat-holds s n b i key routes e in
-      (whole-routes i (q .1), ap (viewRoutes n) (routes-in-record s n b i (q .0)) ∙ q .3)
+  pub held-routes : (i : ℕ) (held : Held) → seatAt (viewRoom s n b) i ≡ holds held
+      → (tableWhole n keyBytes (routesTable s n b i) ≡ true) × (viewRoutes n (routesTable s n b i) ≡ held .routes)
+  held-routes i held e =
+      let q = seat-holds s n b i held e in
+      (whole-routes i (q .1), ap (viewRoutes n) (routes-in-record s n b i (q .0)) ∙ ap (λ (h : Held). h .routes) (q .2))
 
 -- in a whole table of routes a key is wanted at one place
 wanted-once : (n : ℕ) (r : List ℕ) → tableWhole n keyBytes r ≡ true → (key : Key) (i j : ℕ)
@@ -111,18 +111,19 @@ wanted-once n r o key i j ei ej =
 pub whole-view : (s n : ℕ) (b : List ℕ) → roomWhole s n b ≡ true → Whole (sizesOf s n) (viewRoom s n b)
 whole-view s n b o = record {
   seats = view-room-length s n b;
-  numbers = λ i key routes e. ap length (sym (held-routes s n b o i key routes e .1)) ∙ view-routes-length n (routesTable s n b i);
-  seated = λ key i j routes routes′ ei ej.
-      let a = seat-holds s n b i key routes ei in
-      let c = seat-holds s n b j key routes′ ej in
-      keys-apart s (seatBytes n) (seatTable s n b) (whole-seats s n b o) (omega arith) i j (a .1) (c .1) (a .2 ∙ sym (c .2));
-  wanted = λ i key routes e other x y ex ey.
-      let q = held-routes s n b o i key routes e in
-      let hx = wanted-high routes x other ex in
-      let hy = wanted-high routes y other ey in
+  numbers = λ i held e. ap length (sym (held-routes s n b o i held e .1)) ∙ view-routes-length n (routesTable s n b i);
+  seated = λ i j held held′ ei ej same.
+      let a = seat-holds s n b i held ei in
+      let c = seat-holds s n b j held′ ej in
+      keys-apart s (seatBytes n) (seatTable s n b) (whole-seats s n b o) (omega arith) i j (a .1) (c .1)
+      (ap (λ (h : Held). h .key) (a .2) ∙ same ∙ sym (ap (λ (h : Held). h .key) (c .2)));
+  wanted = λ i held e other x y ex ey.
+      let q = held-routes s n b o i held e in
+      let hx = wanted-high (held .routes) x other ex in
+      let hy = wanted-high (held .routes) y other ey in
       let z : x - firstNumber ≡ y - firstNumber
       = wanted-once n (routesTable s n b i) (q .0) other (x - firstNumber) (y - firstNumber)
-      (ap (λ (l : List Route). getD l (x - firstNumber) free) (q .1) ∙ wanted-place routes x other ex)
-      (ap (λ (l : List Route). getD l (y - firstNumber) free) (q .1) ∙ wanted-place routes y other ey) in
+      (ap (λ (l : List Route). getD l (x - firstNumber) free) (q .1) ∙ wanted-place (held .routes) x other ex)
+      (ap (λ (l : List Route). getD l (y - firstNumber) free) (q .1) ∙ wanted-place (held .routes) y other ey) in
       omega arith;
 }

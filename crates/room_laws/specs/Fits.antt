@@ -5,15 +5,15 @@ use mathlib.Core.List.{List, [], _∷_}
 use mathlib.Core.Path.{_≡_}
 use Prim.Native.Nat.{ℕ, _<_}
 use lib.ListN.{length, getD}
-use Rattle.rules.specs.Room.{sizesOf, Key, Route, free, wants, vacant, holds, Room, none, find, seatOf, routeTo, seatAt}
+use Rattle.rules.specs.Room.{sizesOf, Key, free, wants, Held, vacant, holds, Room, none, find, seatOf, routeTo, seatAt}
 use Rattle.rules.specs.Outcome.{Change, seatTaken, seatEmptied, routeGiven, routeFreed, apply}
 
 pub data Fit (s n : ℕ) (room : Room) : Change → Type 0 where
-  takes : {i : ℕ} {key : Key} → i < s → seatAt room i ≡ vacant → find (seatOf key) room ≡ none → length key ≡ 32 → Fit s n room (seatTaken i key)
-  empties : {i : ℕ} {key : Key} {routes : List Route} → seatAt room i ≡ holds key routes → Fit s n room (seatEmptied i)
-  gives : {i j : ℕ} {key k : Key} {routes : List Route} → seatAt room i ≡ holds k routes → j < n → getD routes j free ≡ free
-      → find (routeTo key) routes ≡ none → length key ≡ 32 → Fit s n room (routeGiven i j key)
-  frees : {i j : ℕ} {k w : Key} {routes : List Route} → seatAt room i ≡ holds k routes → getD routes j free ≡ wants w → Fit s n room (routeFreed i j)
+  takes : {i : ℕ} {key : Key} → i < s → seatAt room i ≡ vacant → find (seatOf key) (room .seats) ≡ none → length key ≡ 32 → Fit s n room (seatTaken i key)
+  empties : {i : ℕ} {held : Held} → seatAt room i ≡ holds held → Fit s n room (seatEmptied i)
+  gives : {i j : ℕ} {key : Key} {held : Held} → seatAt room i ≡ holds held → j < n → getD (held .routes) j free ≡ free
+      → find (routeTo key) (held .routes) ≡ none → length key ≡ 32 → Fit s n room (routeGiven i j key)
+  frees : {i j : ℕ} {w : Key} {held : Held} → seatAt room i ≡ holds held → getD (held .routes) j free ≡ wants w → Fit s n room (routeFreed i j)
 
 -- each fits the room that those before it leave
 abbrev pub FitAll : ℕ → ℕ → Room → List Change → Type 0

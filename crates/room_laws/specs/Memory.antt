@@ -5,15 +5,15 @@ use mathlib.Core.Path.{_≡_}
 use Prim.Native.Nat.{ℕ}
 use lib.ListN.{length, getD}
 use Rattle.wire.specs.Numbers.{Bytes}
-use Rattle.rules.specs.Room.{Key, Route, free, wants, holds, Room, seatAt}
+use Rattle.rules.specs.Room.{Key, free, wants, Held, holds, Room, seatAt}
 use Rattle.room.specs.Layout.{roomBytes}
 use Rattle.room.specs.View.{viewRoom}
 use Rattle.room.specs.Whole.{roomWhole}
 
 -- what each key of a room, seated or wanted, is
 pub record KeysAre (K : Key → Type 0) (room : Room) : Type 0 where
-  pub seated : (i : ℕ) (key : Key) (routes : List Route) → seatAt room i ≡ holds key routes → K key
-  pub wanted : (i : ℕ) (key : Key) (routes : List Route) → seatAt room i ≡ holds key routes → (j : ℕ) (other : Key) → getD routes j free ≡ wants other → K other
+  pub seated : (i : ℕ) (held : Held) → seatAt room i ≡ holds held → K (held .key)
+  pub wanted : (i : ℕ) (held : Held) → seatAt room i ≡ holds held → (j : ℕ) (other : Key) → getD (held .routes) j free ≡ wants other → K other
 
 -- bytes that are a room
 pub record HasBytes (s n : ℕ) (room : Room) : Type 0 where

@@ -9,7 +9,7 @@ use Rattle.refusal.specs.declared.Refusal.the-variants.{NotSeated, NoSuchRoute,
 use Rattle.packet.specs.Read as read
 use Rattle.packet.specs.FromClient as client
 use Rattle.packet.specs.FromRelay as relay
-use Rattle.rules.specs.Room.{Sizes, Key, Route, free, wants, Seat, vacant, holds, Room, emptyRoom, seatAt, routeAt, numberOfPlace, Peer, alone, joined}
+use Rattle.rules.specs.Room.{Sizes, Key, Route, free, wants, Seat, vacant, holds, Room, emptyRoom, seatAt, routeAt, numberOfPlace, Peer, alone, joined, Held}
 use Rattle.rules.specs.Whole.{Whole}
 use Rattle.rules.specs.Call.{Call, packetCall, refused, Sent}
 use Rattle.rules.specs.Outcome.{refuse, accept, to, Outcome, peer, carryTo, dataAt, act, actOn, packetFrom, outcome}
@@ -100,31 +100,31 @@ module _ (sizes : Sizes) (start : Start) (past : Past) (room : Room) (whole : Wh
   abbrev Goes : Outcome → Type 0
   Goes o = DataGoesOn start past seat number payload (record { call = packetCall seat bytes; answer = o .answer; sent = o .sent })
 
-  module _ (key : Key) (routes : List Route) (sits : seatAt room seat ≡ holds key routes) where
-    goes-peer : (wanted : Key) → routeAt routes number ≡ wants wanted → (p : Peer) → OnlyPeer start past seat number p → Goes (carryTo p seat payload)
+  module _ (held : Held) (sits : seatAt room seat ≡ holds held) where
+    goes-peer : (wanted : Key) → routeAt (held .routes) number ≡ wants wanted → (p : Peer) → OnlyPeer start past seat number p → Goes (carryTo p seat payload)
     unfolding carryTo refuse accept OnlyPeer
     goes-peer wanted asks alone only =
         case-waits start past seat number payload _ refl refl
         (record {
-          key = key;
+          key = held .key;
           wanted = wanted;
-          here = record { sits = sitter-is sizes start past room whole tie seat key routes sits; asked = wants-stands sizes start past room whole tie seat key routes sits number wanted asks };
+          here = record { sits = sitter-is sizes start past room whole tie seat held sits; asked = wants-stands sizes start past room whole tie seat held sits number wanted asks };
           alone = only;
         })
     goes-peer wanted asks (joined other place) only =
         case-connected start past seat number payload _ other (numberOfPlace place) (record { answer = refl; sent = refl }) (only .0) (only .1)
 
-    goes-route : (route : Route) → routeAt routes number ≡ route → Goes (dataAt route room seat key payload)
+    goes-route : (route : Route) → routeAt (held .routes) number ≡ route → Goes (dataAt route room seat (held .key) payload)
     unfolding dataAt refuse
     goes-route free h =
         case-none start past seat number payload _ refl refl
-        (record { key = key; sits = sitter-is sizes start past room whole tie seat key routes sits; asked = free-stands sizes start past room whole tie seat key routes sits number h })
-    goes-route (wants wanted) h = goes-peer wanted h (peer room seat key wanted) (peer-is-connected sizes start past room whole tie seat key routes sits number wanted h)
+        (record { key = held .key; sits = sitter-is sizes start past room whole tie seat held sits; asked = free-stands sizes start past room whole tie seat held sits number h })
+    goes-route (wants wanted) h = goes-peer wanted h (peer room seat (held .key) wanted) (peer-is-connected sizes start past room whole tie seat held sits number wanted h)
 
   goes-seat : (s : Seat) → seatAt room seat ≡ s → Goes (packetFrom s room seat bytes)
   unfolding packetFrom actOn act refuse clientIn
   goes-seat vacant h = case-nobody start past seat number payload _ refl refl (tie .sits seat ∙ ap clientIn h)
-  goes-seat (holds key routes) h = rw e (goes-route key routes h (routeAt routes number) refl)
+  goes-seat (holds held) h = rw e (goes-route held h (routeAt (held .routes) number) refl)
 
   pub data-goes-on : DataGoesOn start past seat number payload (event room (packetCall seat bytes))
   unfolding event outcome

@@ -13,7 +13,7 @@ use lib.Seq.{getD-set-same, getD-set-other}
 use borrow.Author.Tests.{ltb-false, le-ltb}
 use Rattle.key.specs.Keys.{sameKey}
 use Rattle.key.proofs.Same.{same-refl, same-sound}
-use Rattle.rules.specs.Room.{Key, Route, free, wants, Seat, vacant, holds, Room, Found, none, at, orLater, find, seatOf, isVacant, routeTo, isFree, routesOf, seatAt, firstNumber, numberOfPlace, routeAt}
+use Rattle.rules.specs.Room.{sizesOf, Key, Route, free, wants, Held, Seat, vacant, holds, Room, newcomer, setKey, setSeat, Found, none, at, orLater, find, seatOf, isVacant, routeTo, isFree, routesOf, seatAt, firstNumber, numberOfPlace, routeAt}
 
 -- from two constructors that are equal
 pub clash : {A : Type 0} → _≡_ {A = ℕ} 0 1 → A
@@ -181,28 +181,41 @@ module _ {A : Type 0} where
 pub vacant-no-key : (key : Key) (seat : Seat) → isVacant seat ≡ true → seatOf key seat ≡ false
 unfolding isVacant seatOf
 vacant-no-key key vacant h = refl
-vacant-no-key key (holds k routes) h = absurd (false≢true h)
+vacant-no-key key (holds held) h = absurd (false≢true h)
+
+-- what a seat holds; of an empty one nothing is said
+abbrev pub heldOf : Seat → Held
+heldOf vacant = newcomer (sizesOf 0 0) []
+heldOf (holds held) = held
+
+pub routes-held : (s : Seat) → routesOf s ≡ heldOf s .routes
+unfolding routesOf
+routes-held vacant = refl
+routes-held (holds held) = refl
 
 -- a seat that passes for a key holds it
-pub seat-of-holds : (key : Key) (s : Seat) → seatOf key s ≡ true → s ≡ holds key (routesOf s)
-unfolding seatOf routesOf
+pub seat-of-holds : (key : Key) (s : Seat) → seatOf key s ≡ true → s ≡ holds (setKey (heldOf s) key)
+unfolding seatOf
 seat-of-holds key vacant h = absurd (false≢true h)
-seat-of-holds key (holds k routes) h = ap (λ (x : Key). holds x routes) (same-sound k key h)
+seat-of-holds key (holds held) h = ap (λ (k : Key). holds (setKey held k)) (same-sound (held .key) key h)
 
-pub seat-set : (room : Room) (seat : ℕ) (s : Seat) → seat < length room → seatAt (set room seat s) seat ≡ s
+pub seat-set : (room : Room) (seat : ℕ) (s : Seat) → seat < length (room .seats) → seatAt (setSeat room seat s) seat ≡ s
 unfolding seatAt
-seat-set room seat s h = getD-set-same room seat s vacant h
+seat-set room seat s h = getD-set-same (room .seats) seat s vacant h
 
-pub seat-set-other : (room : Room) (seat : ℕ) (s : Seat) (other : ℕ) → other ≢ seat → seatAt (set room seat s) other ≡ seatAt room other
+pub seat-set-other : (room : Room) (seat : ℕ) (s : Seat) (other : ℕ) → other ≢ seat → seatAt (setSeat room seat s) other ≡ seatAt room other
 unfolding seatAt
-seat-set-other room seat s other h = getD-set-other room seat other s vacant h
+seat-set-other room seat s other h = getD-set-other (room .seats) seat other s vacant h
 
 -- a seat that holds a key is one of the room's
-pub held-within : (room : Room) (seat : ℕ) (key : Key) (routes : List Route) → seatAt room seat ≡ holds key routes → seat < length room
+pub held-within : (room : Room) (seat : ℕ) (held : Held) → seatAt room seat ≡ holds held → seat < length (room .seats)
 unfolding seatAt
-held-within [] seat key routes e = clash (cc)
-held-within (s ∷ room) zero key routes e = omega arith
-held-within (s ∷ room) (suc seat) key routes e = let h = held-within room seat key routes e in omega arith
+held-within room seat held e = go (room .seats) seat e
+  where
+    go : (seats : List Seat) (seat : ℕ) → getD seats seat vacant ≡ holds held → seat < length seats
+    go [] seat e = clash (cc)
+    go (s ∷ seats) zero e = omega arith
+    go (s ∷ seats) (suc seat) e = let h = go seats seat e in omega arith
 
 -- ---- routes
 

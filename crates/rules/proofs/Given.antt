@@ -16,7 +16,7 @@ use Rattle.key.proofs.Same.{same-refl}
 use Rattle.packet.specs.Read as read
 use Rattle.packet.specs.FromClient as client
 use Rattle.packet.specs.FromRelay as relay
-use Rattle.rules.specs.Room.{Sizes, Key, Route, free, wants, Seat, vacant, holds, Room, emptyRoom, Found, none, at, find, seatOf, isVacant, routeTo, isFree, routesOf, seatAt, routeAt, firstNumber, numberOfPlace}
+use Rattle.rules.specs.Room.{Sizes, Key, Route, free, wants, Seat, vacant, holds, Room, emptyRoom, Found, none, at, find, seatOf, isVacant, routeTo, isFree, seatAt, routeAt, firstNumber, numberOfPlace, Held, setKey}
 use Rattle.rules.specs.Whole.{Whole}
 use Rattle.rules.specs.Call.{Call, arrive, leave, packetCall, refused, Sent}
 use Rattle.rules.specs.Outcome.{refuse, sentBytes, accept, to, arriveAt, leaveFrom, requestAt, dropAt, act, actOn, packetFrom, outcome}
@@ -24,7 +24,7 @@ use Rattle.rules.specs.History.{Event, event, transcript}
 use Rattle.rules.specs.Transcript.{Past, nobody, clientOf, Start, fromEmpty, isAccepted, sitter, stands}
 use Rattle.rules.specs.After.{pastAfter, clientIn, Tied}
 use Rattle.rules.specs.Given.{ArriveAnswered, seated, full, takes, LeaveAnswered, empty, left, Taken, Numbered, oldNumber, noneFree, lowestFree, DropAnswered, noRoute, dropped}
-use Rattle.rules.proofs.FindLaws.{clash, find-hit, find-miss, find-within, find-before, find-none, seat-of-holds, route-to-wants, route-at-place, wanted-place}
+use Rattle.rules.proofs.FindLaws.{clash, find-hit, find-miss, find-within, find-before, find-none, seat-of-holds, route-to-wants, route-at-place, wanted-place, heldOf}
 use Rattle.rules.proofs.Tied.{tied-here, seat-holds, sitter-is, wants-stands, free-stands}
 use Rattle.rules.proofs.EachEvent.{from-empty}
 
@@ -33,44 +33,44 @@ use Rattle.rules.proofs.EachEvent.{from-empty}
 held-somebody : (s : Seat) → isVacant s ≡ false → clientIn s ≢ nobody
 unfolding isVacant clientIn
 held-somebody vacant h q = absurd (true≢false h)
-held-somebody (holds key routes) h q = clash (cc)
+held-somebody (holds held) h q = clash (cc)
 
 vacant-nobody : (s : Seat) → isVacant s ≡ true → clientIn s ≡ nobody
 unfolding isVacant clientIn
 vacant-nobody vacant h = refl
-vacant-nobody (holds key routes) h = absurd (true≢false (sym h))
+vacant-nobody (holds held) h = absurd (true≢false (sym h))
 
 module _ (sizes : Sizes) (start : Start) (past : Past) (room : Room) (whole : Whole sizes room) (tie : Tied start past room) where
   -- an arrival
   module _ (key : Key) where
-    pub sits-nowhere : find (seatOf key) room ≡ none → (seat : ℕ) → sitter start past seat ≢ clientOf key
+    pub sits-nowhere : find (seatOf key) (room .seats) ≡ none → (seat : ℕ) → sitter start past seat ≢ clientOf key
     unfolding seatOf seatAt
     sits-nowhere e seat q =
         let there = seat-holds sizes start past room whole tie seat key q in
-        true≢false (sym (ap (seatOf key) there ∙ same-refl key) ∙ find-miss (seatOf key) vacant room refl e seat)
+        true≢false (sym (ap (seatOf key) there ∙ same-refl key) ∙ find-miss (seatOf key) vacant (room .seats) refl e seat)
 
     taken : (seat : ℕ) → isVacant (seatAt room seat) ≡ false → sitter start past seat ≢ nobody
     taken seat h q = held-somebody (seatAt room seat) h (sym (tie .sits seat) ∙ q)
 
-    arrive-found : (held lowest : Found) → find (seatOf key) room ≡ held → find isVacant room ≡ lowest → ArriveAnswered sizes start past key (arriveAt held lowest key .answer)
+    arrive-found : (old lowest : Found) → find (seatOf key) (room .seats) ≡ old → find isVacant (room .seats) ≡ lowest → ArriveAnswered sizes start past key (arriveAt old lowest key .answer)
     unfolding arriveAt refuse accept sentBytes seatAt clientIn
     arrive-found (at seat) lowest h l =
-        seated seat (tie .sits seat ∙ ap clientIn (seat-of-holds key (seatAt room seat) (find-hit (seatOf key) vacant room seat h))) refl
-    arrive-found none none h l = full (sits-nowhere h) (λ seat within. taken seat (find-none isVacant vacant room l seat (let n = whole .seats in omega arith))) refl
+        seated seat (tie .sits seat ∙ ap clientIn (seat-of-holds key (seatAt room seat) (find-hit (seatOf key) vacant (room .seats) seat h))) refl
+    arrive-found none none h l = full (sits-nowhere h) (λ seat within. taken seat (find-none isVacant vacant (room .seats) l seat (let n = whole .seats in omega arith))) refl
     arrive-found none (at seat) h l =
-        takes seat (sits-nowhere h) (let n = whole .seats in let w = find-within isVacant room seat l in omega arith)
-        (tie .sits seat ∙ vacant-nobody (seatAt room seat) (find-hit isVacant vacant room seat l))
-        (λ lower less. taken lower (find-before isVacant vacant room seat l lower less)) refl
+        takes seat (sits-nowhere h) (let n = whole .seats in let w = find-within isVacant (room .seats) seat l in omega arith)
+        (tie .sits seat ∙ vacant-nobody (seatAt room seat) (find-hit isVacant vacant (room .seats) seat l))
+        (λ lower less. taken lower (find-before isVacant vacant (room .seats) seat l lower less)) refl
 
     pub arrive-answered : ArriveAnswered sizes start past key (event room (arrive key) .answer)
     unfolding event outcome
-    arrive-answered = arrive-found (find (seatOf key) room) (find isVacant room) refl refl
+    arrive-answered = arrive-found (find (seatOf key) (room .seats)) (find isVacant (room .seats)) refl refl
 
   module _ (seat : ℕ) where
     leave-seat : (s : Seat) → seatAt room seat ≡ s → LeaveAnswered start past seat (leaveFrom s room seat .answer)
     unfolding leaveFrom refuse accept clientIn isAccepted
     leave-seat vacant h = empty (tie .sits seat ∙ ap clientIn h) refl
-    leave-seat (holds key routes) h = left key (tie .sits seat ∙ ap clientIn h) refl
+    leave-seat (holds held) h = left (held .key) (tie .sits seat ∙ ap clientIn h) refl
 
     pub leave-answered : LeaveAnswered start past seat (event room (leave seat) .answer)
     unfolding event outcome
@@ -80,7 +80,7 @@ module _ (sizes : Sizes) (start : Start) (past : Past) (room : Room) (whole : Wh
     nobodys : (bytes : List ℕ) (s : Seat) → clientIn s ≡ nobody → packetFrom s room seat bytes .answer ≡ refused NotSeated
     unfolding packetFrom refuse clientIn
     nobodys bytes vacant h = refl
-    nobodys bytes (holds key routes) h = clash (cc)
+    nobodys bytes (holds held) h = clash (cc)
 
     pub nobodys-packet : (bytes : List ℕ) → sitter start past seat ≡ nobody → event room (packetCall seat bytes) .answer ≡ refused NotSeated
     unfolding event outcome
@@ -93,49 +93,49 @@ module _ (sizes : Sizes) (start : Start) (past : Past) (room : Room) (whole : Wh
     unread-packet key by bytes why e = rw (seat-holds sizes start past room whole tie seat key by, e)
 
     -- a drop
-    drop-route : (key : Key) (routes : List Route) → seatAt room seat ≡ holds key routes → (number : ℕ) (route : Route) → routeAt routes number ≡ route
-        → DropAnswered start past seat number (dropAt route room seat key number .answer)
+    drop-route : (held : Held) → seatAt room seat ≡ holds held → (number : ℕ) (route : Route) → routeAt (held .routes) number ≡ route
+        → DropAnswered start past seat number (dropAt route room seat (held .key) number .answer)
     unfolding dropAt refuse accept isAccepted
-    drop-route key routes sits number free h =
-        noRoute (record { key = key; sits = sitter-is sizes start past room whole tie seat key routes sits; asked = free-stands sizes start past room whole tie seat key routes sits number h }) refl
-    drop-route key routes sits number (wants wanted) h =
-        dropped key wanted (record { sits = sitter-is sizes start past room whole tie seat key routes sits; asked = wants-stands sizes start past room whole tie seat key routes sits number wanted h }) refl
+    drop-route held sits number free h =
+        noRoute (record { key = held .key; sits = sitter-is sizes start past room whole tie seat held sits; asked = free-stands sizes start past room whole tie seat held sits number h }) refl
+    drop-route held sits number (wants wanted) h =
+        dropped (held .key) wanted (record { sits = sitter-is sizes start past room whole tie seat held sits; asked = wants-stands sizes start past room whole tie seat held sits number wanted h }) refl
 
     drop-seat : (number : ℕ) (bytes : List ℕ) → client.relayRead bytes ≡ read.packet (client.dropRoute number) → (s : Seat) → seatAt room seat ≡ s
         → DropAnswered start past seat number (packetFrom s room seat bytes .answer)
     unfolding packetFrom actOn act refuse clientIn
     drop-seat number bytes e vacant h = empty (tie .sits seat ∙ ap clientIn h) refl
-    drop-seat number bytes e (holds key routes) h = rw e (drop-route key routes h number (routeAt routes number) refl)
+    drop-seat number bytes e (holds held) h = rw e (drop-route held h number (routeAt (held .routes) number) refl)
 
     pub drop-answered : (number : ℕ) (bytes : List ℕ) → client.relayRead bytes ≡ read.packet (client.dropRoute number) → DropAnswered start past seat number (event room (packetCall seat bytes) .answer)
     unfolding event outcome
     drop-answered number bytes e = drop-seat number bytes e (seatAt room seat) refl
 
   -- a request
-  module _ (seat : ℕ) (key : Key) (routes : List Route) (sits : seatAt room seat ≡ holds key routes) (wanted : Key) where
-    not-asked : find (routeTo wanted) routes ≡ none → (n : ℕ) → stands start past key n wanted ≡ false
+  module _ (seat : ℕ) (held : Held) (sits : seatAt room seat ≡ holds held) (wanted : Key) where
+    not-asked : find (routeTo wanted) (held .routes) ≡ none → (n : ℕ) → stands start past (held .key) n wanted ≡ false
     unfolding routeTo
-    not-asked h n = tied-here sizes start past room whole tie seat key routes sits n wanted ∙ go (routeAt routes n) refl
+    not-asked h n = tied-here sizes start past room whole tie seat held sits n wanted ∙ go (routeAt (held .routes) n) refl
       where
-        go : (route : Route) → routeAt routes n ≡ route → routeTo wanted route ≡ false
+        go : (route : Route) → routeAt (held .routes) n ≡ route → routeTo wanted route ≡ false
         go free e = refl
         go (wants w) e =
-            ap (routeTo wanted) (sym (wanted-place routes n w e)) ∙ find-miss (routeTo wanted) free routes refl h (n - firstNumber)
+            ap (routeTo wanted) (sym (wanted-place (held .routes) n w e)) ∙ find-miss (routeTo wanted) free (held .routes) refl h (n - firstNumber)
 
-    not-free : (place : ℕ) → isFree (getD routes place free) ≡ false → Taken start past key (numberOfPlace place)
+    not-free : (place : ℕ) → isFree (getD (held .routes) place free) ≡ false → Taken start past (held .key) (numberOfPlace place)
     unfolding isFree
-    not-free place h = go (getD routes place free) refl h
+    not-free place h = go (getD (held .routes) place free) refl h
       where
-        go : (route : Route) → getD routes place free ≡ route → isFree route ≡ false → Taken start past key (numberOfPlace place)
+        go : (route : Route) → getD (held .routes) place free ≡ route → isFree route ≡ false → Taken start past (held .key) (numberOfPlace place)
         go free e q = absurd (true≢false q)
-        go (wants w) e q = record { wanted = w; asked = wants-stands sizes start past room whole tie seat key routes sits (numberOfPlace place) w (route-at-place routes place ∙ e) }
+        go (wants w) e q = record { wanted = w; asked = wants-stands sizes start past room whole tie seat held sits (numberOfPlace place) w (route-at-place (held .routes) place ∙ e) }
 
-    is-free : (place : ℕ) → isFree (getD routes place free) ≡ true → (other : Key) → stands start past key (numberOfPlace place) other ≡ false
+    is-free : (place : ℕ) → isFree (getD (held .routes) place free) ≡ true → (other : Key) → stands start past (held .key) (numberOfPlace place) other ≡ false
     unfolding isFree
-    is-free place h = go (getD routes place free) refl h
+    is-free place h = go (getD (held .routes) place free) refl h
       where
-        go : (route : Route) → getD routes place free ≡ route → isFree route ≡ true → (other : Key) → stands start past key (numberOfPlace place) other ≡ false
-        go free e q other = free-stands sizes start past room whole tie seat key routes sits (numberOfPlace place) (route-at-place routes place ∙ e) other
+        go : (route : Route) → getD (held .routes) place free ≡ route → isFree route ≡ true → (other : Key) → stands start past (held .key) (numberOfPlace place) other ≡ false
+        go free e q other = free-stands sizes start past room whole tie seat held sits (numberOfPlace place) (route-at-place (held .routes) place ∙ e) other
         go (wants w) e q other = absurd (true≢false (sym q))
 
     -- an answer tells its number
@@ -146,28 +146,28 @@ module _ (sizes : Sizes) (start : Start) (past : Past) (room : Room) (whole : Wh
         let b : _≡_ {A = List ℕ} (1 ∷ n ∷ wanted) (1 ∷ m ∷ wanted) = ap (λ (r : Sent). r .bytes) s in
         cc
 
-    request-found : (held lowest : Found) → find (routeTo wanted) routes ≡ held → find isFree routes ≡ lowest
-        → (number : ℕ) (later : List Sent) → requestAt held lowest room seat key wanted .sent ≡ to seat (relay.routingResponse number wanted) ∷ later → Numbered sizes start past key wanted number
+    request-found : (old lowest : Found) → find (routeTo wanted) (held .routes) ≡ old → find isFree (held .routes) ≡ lowest
+        → (number : ℕ) (later : List Sent) → requestAt old lowest room seat (held .key) wanted .sent ≡ to seat (relay.routingResponse number wanted) ∷ later → Numbered sizes start past (held .key) wanted number
     unfolding requestAt accept
     request-found (at place) lowest h l number later s =
         let q = same-number (numberOfPlace place) number _ later s in
-        oldNumber (subst (λ (n : ℕ). stands start past key n wanted ≡ true) q
-        (wants-stands sizes start past room whole tie seat key routes sits (numberOfPlace place) wanted (route-at-place routes place ∙ route-to-wants wanted _ (find-hit (routeTo wanted) free routes place h))))
+        oldNumber (subst (λ (n : ℕ). stands start past (held .key) n wanted ≡ true) q
+        (wants-stands sizes start past room whole tie seat held sits (numberOfPlace place) wanted (route-at-place (held .routes) place ∙ route-to-wants wanted _ (find-hit (routeTo wanted) free (held .routes) place h))))
     request-found none none h l number later s =
         noneFree
         (record {
           notAsked = not-asked h;
-          full = λ place within. not-free place (find-none isFree free routes l place (let n = whole .numbers seat key routes sits in omega arith));
+          full = λ place within. not-free place (find-none isFree free (held .routes) l place (let n = whole .numbers seat held sits in omega arith));
         })
         (sym (same-number 0 number _ later s))
     request-found none (at place) h l number later s =
-        lowestFree place (not-asked h) (let n = whole .numbers seat key routes sits in let w = find-within isFree routes place l in omega arith) (is-free place (find-hit isFree free routes place l))
-        (λ lower less. not-free lower (find-before isFree free routes place l lower less)) (sym (same-number (numberOfPlace place) number _ later s))
+        lowestFree place (not-asked h) (let n = whole .numbers seat held sits in let w = find-within isFree (held .routes) place l in omega arith) (is-free place (find-hit isFree free (held .routes) place l))
+        (λ lower less. not-free lower (find-before isFree free (held .routes) place l lower less)) (sym (same-number (numberOfPlace place) number _ later s))
 
     pub request-numbered : (bytes : List ℕ) → client.relayRead bytes ≡ read.packet (client.routingRequest wanted)
-        → (number : ℕ) (later : List Sent) → event room (packetCall seat bytes) .sent ≡ to seat (relay.routingResponse number wanted) ∷ later → Numbered sizes start past key wanted number
+        → (number : ℕ) (later : List Sent) → event room (packetCall seat bytes) .sent ≡ to seat (relay.routingResponse number wanted) ∷ later → Numbered sizes start past (held .key) wanted number
     unfolding event outcome packetFrom actOn act
-    request-numbered bytes asks number later s = request-found (find (routeTo wanted) routes) (find isFree routes) refl refl number later (rw (sits, asks) at s)
+    request-numbered bytes asks number later s = request-found (find (routeTo wanted) (held .routes)) (find isFree (held .routes)) refl refl number later (rw (sits, asks) at s)
 
 -- ---- every history, from the empty room
 
@@ -219,5 +219,5 @@ module _ (sizes : Sizes) (calls : List Call) (before : List Event) (e : Event) (
           of-each (λ past e. e .call ≡ packetCall seat bytes → sitter fromEmpty past seat ≡ clientOf key
           → (number : ℕ) (sent : List Sent) → e .sent ≡ to seat (relay.routingResponse number wanted) ∷ sent → Numbered sizes fromEmpty past key wanted number)
           (λ past room whole tie call c by number sent s.
-          request-numbered sizes fromEmpty past room whole tie seat key (routesOf (seatAt room seat)) (seat-holds sizes fromEmpty past room whole tie seat key by) wanted bytes r number sent
+          request-numbered sizes fromEmpty past room whole tie seat (setKey (heldOf (seatAt room seat)) key) (seat-holds sizes fromEmpty past room whole tie seat key by) wanted bytes r number sent
           (ap (λ (x : Call). event room x .sent) (sym c) ∙ s))

@@ -20,7 +20,7 @@ use Rattle.rules.specs.Transcript.{Past, Maker, nobody, clientOf, Start,
 use Rattle.rules.specs.After.{pastAfter, routesIn, routesBy, Tied}
 use Rattle.rules.specs.GoesOn.{Connected}
 use Rattle.rules.specs.Given.{Asked, under, notAsked}
-use Rattle.rules.proofs.FindLaws.{clash, find-hit, find-miss, seat-of-holds, route-to-wants, route-none, route-at-place, wanted-place}
+use Rattle.rules.proofs.FindLaws.{clash, find-hit, find-miss, routes-held, seat-of-holds, route-to-wants, route-none, route-at-place, wanted-place}
 use Rattle.rules.proofs.Tied.{either, seat-holds}
 use Rattle.rules.proofs.EachEvent.{moment-from-empty}
 
@@ -28,7 +28,7 @@ module _ (sizes : Sizes) (start : Start) (past : Past) (room : Room) (whole : Wh
   -- "seated keys differ": a key sits in one seat
   pub one-seat : (key : Key) (seat other : ℕ) → sitter start past seat ≡ clientOf key → sitter start past other ≡ clientOf key → seat ≡ other
   one-seat key seat other a b =
-      whole .seated key seat other _ _ (seat-holds sizes start past room whole tie seat key a) (seat-holds sizes start past room whole tie other key b)
+      whole .seated seat other _ _ (seat-holds sizes start past room whole tie seat key a) (seat-holds sizes start past room whole tie other key b) refl
 
   -- so "they sit in different seats" gives two different clients
   pub connected-differ : (seat number other number′ : ℕ) (c : Connected start past seat number other number′) → c .key ≢ c .wanted
@@ -52,11 +52,15 @@ module _ (sizes : Sizes) (start : Start) (past : Past) (room : Room) (whole : Wh
     there number a = route-to-wants wanted _ (sym (tie .requests key number wanted) ∙ a)
 
     -- under one number: the table is that of the seat where the client sits
-    one-number : (f : Found) → find (seatOf key) room ≡ f
+    one-number : (f : Found) → find (seatOf key) (room .seats) ≡ f
         → (n m : ℕ) → routeAt (routesIn f room) n ≡ wants wanted → routeAt (routesIn f room) m ≡ wants wanted → n ≡ m
     unfolding routesIn seatAt
     one-number none e n m a b = let q = route-none n in clash (cc)
-    one-number (at seat) e n m a b = whole .wanted seat key _ (seat-of-holds key (seatAt room seat) (find-hit (seatOf key) vacant room seat e)) wanted n m a b
+    one-number (at seat) e n m a b =
+        let here = seat-of-holds key (seatAt room seat) (find-hit (seatOf key) vacant (room .seats) seat e) in
+        let mine = ap (λ (t : List Route). routeAt t n) (routes-held (seatAt room seat)) in
+        let mine′ = ap (λ (t : List Route). routeAt t m) (routes-held (seatAt room seat)) in
+        whole .wanted seat _ here wanted n m (sym mine ∙ a) (sym mine′ ∙ b)
 
     asked-found : (f : Found) → find (routeTo wanted) mine ≡ f → Asked start past key wanted
     unfolding routeTo routesBy
@@ -69,7 +73,7 @@ module _ (sizes : Sizes) (start : Start) (past : Past) (room : Room) (whole : Wh
         let number = numberOfPlace place in
         let here : routeAt mine number ≡ wants wanted = route-at-place mine place ∙ route-to-wants wanted _ (find-hit (routeTo wanted) free mine place e) in
         under number (tie .requests key number wanted ∙ ap (routeTo wanted) here ∙ same-refl wanted)
-        (λ n a. one-number (find (seatOf key) room) refl n number (there n a) here)
+        (λ n a. one-number (find (seatOf key) (room .seats)) refl n number (there n a) here)
 
     pub asked-or-not : Asked start past key wanted
     asked-or-not = asked-found (find (routeTo wanted) mine) refl

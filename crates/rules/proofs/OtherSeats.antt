@@ -7,7 +7,7 @@ use Prim.Native.Nat.{ℕ, _-_}
 use Rattle.packet.specs.Read.{Read}
 use Rattle.packet.specs.Read as read
 use Rattle.packet.specs.FromClient as client
-use Rattle.rules.specs.Room.{Sizes, Key, Route, free, wants, Seat, vacant, holds, Room, Found, none, at, find, seatOf, isVacant, routeTo, isFree, seatAt, routeAt, firstNumber, Peer, alone, joined}
+use Rattle.rules.specs.Room.{Sizes, Key, Route, free, wants, Held, Seat, vacant, holds, Room, Found, none, at, find, seatOf, isVacant, routeTo, isFree, seatAt, routeAt, firstNumber, Peer, alone, joined}
 use Rattle.rules.specs.Call.{arrive, leave, packetCall, accepted}
 use Rattle.rules.specs.Outcome.{withRoute, apply, applyAll, Outcome, refuse, accept, roomAfter, peer, arriveAt, leaveFrom, requestAt, dropAt, oobTo, carryTo, dataAt, act, actOn, packetFrom, outcome}
 use Rattle.rules.proofs.FindLaws.{seat-set-other}
@@ -17,7 +17,7 @@ module _ (sizes : Sizes) (room : Room) (seat other : ℕ) (ne : other ≢ seat) 
   abbrev Stays : Outcome → Type 0
   Stays o = seatAt (roomAfter sizes room o) other ≡ seatAt room other
 
-  request-stays : (held lowest : Found) (key wanted : Key) → Stays (requestAt held lowest room seat key wanted)
+  request-stays : (old lowest : Found) (key wanted : Key) → Stays (requestAt old lowest room seat key wanted)
   unfolding requestAt accept roomAfter applyAll apply
   request-stays (at place) lowest key wanted = refl
   request-stays none none key wanted = refl
@@ -43,25 +43,25 @@ module _ (sizes : Sizes) (room : Room) (seat other : ℕ) (ne : other ≢ seat) 
   data-stays free key bytes = refl
   data-stays (wants wanted) key bytes = carry-stays (peer room seat key wanted) bytes
 
-  read-stays : (r : Read client.FromClient) (key : Key) (routes : List Route) → Stays (actOn r room seat key routes)
+  read-stays : (r : Read client.FromClient) (held : Held) → Stays (actOn r room seat held)
   unfolding actOn act accept refuse roomAfter applyAll
-  read-stays (read.packet (client.routingRequest wanted)) key routes = request-stays (find (routeTo wanted) routes) (find isFree routes) key wanted
-  read-stays (read.packet (client.dropRoute number)) key routes = drop-stays (routeAt routes number) key number
-  read-stays (read.packet (client.ping n)) key routes = refl
-  read-stays (read.packet (client.pong n)) key routes = refl
-  read-stays (read.packet (client.oobSend wanted bytes)) key routes = oob-stays (find (seatOf wanted) room) key bytes
-  read-stays (read.packet (client.routedData number bytes)) key routes = data-stays (routeAt routes number) key bytes
-  read-stays (read.refused why) key routes = refl
+  read-stays (read.packet (client.routingRequest wanted)) held = request-stays (find (routeTo wanted) (held .routes)) (find isFree (held .routes)) (held .key) wanted
+  read-stays (read.packet (client.dropRoute number)) held = drop-stays (routeAt (held .routes) number) (held .key) number
+  read-stays (read.packet (client.ping n)) held = refl
+  read-stays (read.packet (client.pong n)) held = refl
+  read-stays (read.packet (client.oobSend wanted bytes)) held = oob-stays (find (seatOf wanted) (room .seats)) (held .key) bytes
+  read-stays (read.packet (client.routedData number bytes)) held = data-stays (routeAt (held .routes) number) (held .key) bytes
+  read-stays (read.refused why) held = refl
 
   packet-from : (bytes : List ℕ) (s : Seat) → Stays (packetFrom s room seat bytes)
   unfolding packetFrom refuse roomAfter applyAll
   packet-from bytes vacant = refl
-  packet-from bytes (holds key routes) = read-stays (client.relayRead bytes) key routes
+  packet-from bytes (holds held) = read-stays (client.relayRead bytes) held
 
   leave-from : (s : Seat) → Stays (leaveFrom s room seat)
   unfolding leaveFrom accept refuse roomAfter applyAll apply
   leave-from vacant = refl
-  leave-from (holds key routes) = seat-set-other room seat vacant other ne
+  leave-from (holds held) = seat-set-other room seat vacant other ne
 
   arrive-at : (seated empty : Found) (key : Key) (count : ℕ) → arriveAt seated empty key .answer ≡ accepted seat count → Stays (arriveAt seated empty key)
   unfolding arriveAt accept refuse roomAfter applyAll apply
@@ -82,4 +82,4 @@ module _ (sizes : Sizes) (room : Room) (seat other : ℕ) (ne : other ≢ seat) 
   pub arrive-keeps-others : (key : Key) (count : ℕ) → outcome room (arrive key) .answer ≡ accepted seat count
       → seatAt (roomAfter sizes room (outcome room (arrive key))) other ≡ seatAt room other
   unfolding outcome
-  arrive-keeps-others key count h = arrive-at (find (seatOf key) room) (find isVacant room) key count h
+  arrive-keeps-others key count h = arrive-at (find (seatOf key) (room .seats)) (find isVacant (room .seats)) key count h

@@ -13,7 +13,7 @@ use Rattle.packet.specs.Read as read
 use Rattle.packet.specs.FromClient as client
 use Rattle.packet.specs.FromRelay as relay
 use Rattle.packet.proofs.ReadBounds.{request-key-long}
-use Rattle.rules.specs.Room.{Sizes, Key, Route, holds, Room, routesOf, seatAt, firstNumber, numberOfPlace}
+use Rattle.rules.specs.Room.{Sizes, Key, holds, Room, seatAt, firstNumber, numberOfPlace, Held, setKey}
 use Rattle.rules.specs.Whole.{Whole}
 use Rattle.rules.specs.Call.{Call, packetCall, Sent}
 use Rattle.rules.specs.Outcome.{to, roomAfter, outcome}
@@ -24,7 +24,7 @@ use Rattle.rules.specs.GoesOn.{Names, Waits}
 use Rattle.rules.specs.Given.{NoneFree, Numbered, oldNumber, noneFree, lowestFree}
 use Rattle.rules.specs.OwnKey.{OwnWaits, OwnKey}
 use Rattle.rules.specs.Told.{RequestTells}
-use Rattle.rules.proofs.FindLaws.{route-to-wants, wanted-high}
+use Rattle.rules.proofs.FindLaws.{route-to-wants, wanted-high, heldOf}
 use Rattle.rules.proofs.Whole.{whole-after}
 use Rattle.rules.proofs.AnswerLaws.{place-answered}
 use Rattle.rules.proofs.Tied.{tied-after, seat-holds}
@@ -61,18 +61,18 @@ module _ (sizes : Sizes) (start : Start) (past : Past) (room : Room) (whole : Wh
     abbrev asking : Event
     asking = event room (packetCall seat bytes)
 
-    abbrev routes : List Route
-    routes = routesOf (seatAt room seat)
+    abbrev held : Held
+    held = setKey (heldOf (seatAt room seat)) key
 
-    holder : seatAt room seat ≡ holds key routes
+    holder : seatAt room seat ≡ holds held
     holder = seat-holds sizes start past room whole tie seat key by
 
     told : RequestTells start past seat key wanted asking
-    told = request-tells sizes start past room whole tie seat key routes holder wanted bytes asks
+    told = request-tells sizes start past room whole tie seat held holder wanted bytes asks
 
     module _ (number : ℕ) (later : List Sent) (s : asking .sent ≡ to seat (relay.routingResponse number wanted) ∷ later) where
       numbered : Numbered sizes start past key wanted number
-      numbered = request-numbered sizes start past room whole tie seat key routes holder wanted bytes asks number later s
+      numbered = request-numbered sizes start past room whole tie seat held holder wanted bytes asks number later s
 
       pub zero-exactly-full : (number ≡ 0) ↔ NoneFree sizes start past key wanted
       zero-exactly-full = numbered-zero sizes start past key wanted (tied-none-under-zero start past room tie key wanted) number numbered

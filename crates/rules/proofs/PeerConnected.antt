@@ -3,64 +3,63 @@
 -- that are connected with it. Data, drops, leaves and requests all ask this search. Assumes nothing.
 use mathlib.Core.Path.{_≡_, refl, sym, ap, _∙_, subst}
 use mathlib.Core.Bool.{true}
-use mathlib.Core.List.{List}
 use Prim.Native.Nat.{ℕ, _-_}
-use Rattle.rules.specs.Room.{Sizes, Key, Route, wants, holds, Room, routesOf, seatAt, routeAt, firstNumber, numberOfPlace, Peer, alone, joined}
+use Rattle.rules.specs.Room.{Sizes, Key, wants, Held, holds, Room, setKey, seatAt, routeAt, firstNumber, numberOfPlace, Peer, alone, joined}
 use Rattle.rules.specs.Whole.{Whole}
 use Rattle.rules.specs.Outcome.{peer}
 use Rattle.rules.specs.Transcript.{Past, Start, stands}
 use Rattle.rules.specs.After.{Tied}
 use Rattle.rules.specs.GoesOn.{Connected, OnlyPeer}
-use Rattle.rules.proofs.FindLaws.{clash, wanted-high}
+use Rattle.rules.proofs.FindLaws.{clash, heldOf, wanted-high}
 use Rattle.rules.proofs.PeerLaws.{PeerHas, peer-has, has-peer}
 use Rattle.rules.proofs.Tied.{seat-holds, sitter-is, stands-wants, wants-stands}
 
 -- who is connected on a number asked under it
 pub connected-asks : (sizes : Sizes) (start : Start) (past : Past) (room : Room) (whole : Whole sizes room) (tie : Tied start past room)
-    (seat : ℕ) (key : Key) (routes : List Route) → seatAt room seat ≡ holds key routes
-    → (number other number′ : ℕ) (c : Connected start past seat number other number′) → (c .key ≡ key) × (routeAt routes number ≡ wants (c .wanted))
-connected-asks sizes start past room whole tie seat key routes sits number other number′ c =
-    let q : c .key ≡ key = (let a = c .here .sits in let b = sitter-is sizes start past room whole tie seat key routes sits in cc) in
-    (q, stands-wants sizes start past room whole tie seat key routes sits number (c .wanted) (subst (λ (k : Key). stands start past k number (c .wanted) ≡ true) q (c .here .asked)))
+    (seat : ℕ) (held : Held) → seatAt room seat ≡ holds held
+    → (number other number′ : ℕ) (c : Connected start past seat number other number′) → (c .key ≡ held .key) × (routeAt (held .routes) number ≡ wants (c .wanted))
+connected-asks sizes start past room whole tie seat held sits number other number′ c =
+    let q : c .key ≡ (held .key) = (let a = c .here .sits in let b = sitter-is sizes start past room whole tie seat held sits in cc) in
+    (q, stands-wants sizes start past room whole tie seat held sits number (c .wanted) (subst (λ (k : Key). stands start past k number (c .wanted) ≡ true) q (c .here .asked)))
 
-module _ (sizes : Sizes) (start : Start) (past : Past) (room : Room) (whole : Whole sizes room) (tie : Tied start past room) (seat : ℕ) (key : Key)
-    (routes : List Route) (sits : seatAt room seat ≡ holds key routes) (number : ℕ) (wanted : Key) (asks : routeAt routes number ≡ wants wanted) where
-  joined-connected : (other place : ℕ) → peer room seat key wanted ≡ joined other place → Connected start past seat number other (numberOfPlace place)
+module _ (sizes : Sizes) (start : Start) (past : Past) (room : Room) (whole : Whole sizes room) (tie : Tied start past room) (seat : ℕ) (held : Held)
+    (sits : seatAt room seat ≡ holds held) (number : ℕ) (wanted : Key) (asks : routeAt (held .routes) number ≡ wants wanted) where
+  joined-connected : (other place : ℕ) → peer room seat (held .key) wanted ≡ joined other place → Connected start past seat number other (numberOfPlace place)
   joined-connected other place e =
-      let has = peer-has room seat key wanted other place e in
+      let has = peer-has room seat (held .key) wanted other place e in
       record {
-        key = key;
+        key = held .key;
         wanted = wanted;
         apart = has .apart;
-        here = record { sits = sitter-is sizes start past room whole tie seat key routes sits; asked = wants-stands sizes start past room whole tie seat key routes sits number wanted asks };
-        there = record { sits = sitter-is sizes start past room whole tie other wanted (has .routes) (has .sits); asked = wants-stands sizes start past room whole tie other wanted (has .routes) (has .sits) (numberOfPlace place) key (has .asked) };
+        here = record { sits = sitter-is sizes start past room whole tie seat held sits; asked = wants-stands sizes start past room whole tie seat held sits number wanted asks };
+        there = record { sits = sitter-is sizes start past room whole tie other (setKey (has .held) wanted) (has .sits); asked = wants-stands sizes start past room whole tie other (setKey (has .held) wanted) (has .sits) (numberOfPlace place) (held .key) (has .asked) };
       }
 
-  connected-has : (other number′ : ℕ) → Connected start past seat number other number′ → PeerHas room seat key wanted other number′
+  connected-has : (other number′ : ℕ) → Connected start past seat number other number′ → PeerHas room seat (held .key) wanted other number′
   connected-has other number′ c =
-      let mine = connected-asks sizes start past room whole tie seat key routes sits number other number′ c in
+      let mine = connected-asks sizes start past room whole tie seat held sits number other number′ c in
       let q = mine .0 in
       let r : c .wanted ≡ wanted = (let a = mine .1 in cc) in
       let there = seat-holds sizes start past room whole tie other (c .wanted) (c .there .sits) in
       let has : PeerHas room seat (c .key) (c .wanted) other number′ = record {
         apart = c .apart;
-        routes = routesOf (seatAt room other);
+        held = heldOf (seatAt room other);
         sits = there;
-        asked = stands-wants sizes start past room whole tie other (c .wanted) (routesOf (seatAt room other)) there number′ (c .key) (c .there .asked);
+        asked = stands-wants sizes start past room whole tie other (setKey (heldOf (seatAt room other)) (c .wanted)) there number′ (c .key) (c .there .asked);
       } in
       rw (q, r) at has
 
   connected-joined : (other number′ : ℕ) → Connected start past seat number other number′
-      → (peer room seat key wanted ≡ joined other (number′ - firstNumber)) × (number′ ≡ numberOfPlace (number′ - firstNumber))
+      → (peer room seat (held .key) wanted ≡ joined other (number′ - firstNumber)) × (number′ ≡ numberOfPlace (number′ - firstNumber))
   connected-joined other number′ c =
       let has = connected-has other number′ c in
-      (has-peer room seat key wanted sizes whole other number′ has, wanted-high (has .routes) number′ key (has .asked))
+      (has-peer room seat (held .key) wanted sizes whole other number′ has, wanted-high (has .held .routes) number′ (held .key) (has .asked))
 
-  pub peer-is-connected : OnlyPeer start past seat number (peer room seat key wanted)
+  pub peer-is-connected : OnlyPeer start past seat number (peer room seat (held .key) wanted)
   unfolding OnlyPeer
-  peer-is-connected = go (peer room seat key wanted) refl
+  peer-is-connected = go (peer room seat (held .key) wanted) refl
     where
-      go : (p : Peer) → peer room seat key wanted ≡ p → OnlyPeer start past seat number p
+      go : (p : Peer) → peer room seat (held .key) wanted ≡ p → OnlyPeer start past seat number p
       go alone e = λ other number′ c. (let h = connected-joined other number′ c .0 in clash (cc))
       go (joined other place) e = (joined-connected other place e, only)
         where

@@ -10,7 +10,7 @@ use Rattle.rules.proofs.FindLaws.{clash}
 
 pub arrive-sends-nothing : (room : Room) (key : Key) → outcome room (arrive key) .sent ≡ []
 unfolding outcome arriveAt accept refuse
-arrive-sends-nothing room key = go (find (seatOf key) room) (find isVacant room)
+arrive-sends-nothing room key = go (find (seatOf key) (room .seats)) (find isVacant (room .seats))
   where
     go : (seated empty : Found) → arriveAt seated empty key .sent ≡ []
     go (at i) empty = refl

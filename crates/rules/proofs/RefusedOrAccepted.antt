@@ -8,7 +8,7 @@ use Rattle.refusal.specs.declared.Refusal.the-variants.{RoomFull, AlreadySeated
 use Rattle.packet.specs.Read.{Read}
 use Rattle.packet.specs.Read as read
 use Rattle.packet.specs.FromClient as client
-use Rattle.rules.specs.Room.{Sizes, Key, Route, free, wants, Seat, vacant, holds, Room, Found, none, at, find, seatOf, isVacant, routeTo, isFree, seatAt, routeAt, Peer, alone, joined}
+use Rattle.rules.specs.Room.{Sizes, Key, Route, free, wants, Held, Seat, vacant, holds, Room, Found, none, at, find, seatOf, isVacant, routeTo, isFree, seatAt, routeAt, Peer, alone, joined}
 use Rattle.rules.specs.Call.{Call, arrive, leave, packetCall}
 use Rattle.rules.specs.Outcome.{seatTaken, applyAll, Outcome, refuse, accept, roomAfter, peer, arriveAt, leaveFrom, requestAt, dropAt, oobTo, carryTo, dataAt, act, actOn, packetFrom, outcome}
 use Rattle.rules.specs.Transcript.{isAccepted}
@@ -28,9 +28,9 @@ module _ (room : Room) where
   leave-made : (s : Seat) (seat : ℕ) → MadeAt seat (leaveFrom s room seat)
   unfolding leaveFrom
   leave-made vacant seat = refusal NotSeated refl
-  leave-made (holds key routes) seat = acceptance _ _ refl
+  leave-made (holds held) seat = acceptance _ _ refl
 
-  request-made : (held lowest : Found) (seat : ℕ) (key wanted : Key) → MadeAt seat (requestAt held lowest room seat key wanted)
+  request-made : (old lowest : Found) (seat : ℕ) (key wanted : Key) → MadeAt seat (requestAt old lowest room seat key wanted)
   unfolding requestAt
   request-made (at place) lowest seat key wanted = acceptance _ _ refl
   request-made none none seat key wanted = acceptance _ _ refl
@@ -56,20 +56,20 @@ module _ (room : Room) where
   data-made free seat key bytes = refusal NoSuchRoute refl
   data-made (wants wanted) seat key bytes = carry-made (peer room seat key wanted) seat bytes
 
-  act-made : (r : Read client.FromClient) (seat : ℕ) (key : Key) (routes : List Route) → MadeAt seat (actOn r room seat key routes)
+  act-made : (r : Read client.FromClient) (seat : ℕ) (held : Held) → MadeAt seat (actOn r room seat held)
   unfolding actOn act
-  act-made (read.packet (client.routingRequest wanted)) seat key routes = request-made (find (routeTo wanted) routes) (find isFree routes) seat key wanted
-  act-made (read.packet (client.dropRoute number)) seat key routes = drop-made (routeAt routes number) seat key number
-  act-made (read.packet (client.ping n)) seat key routes = acceptance _ _ refl
-  act-made (read.packet (client.pong n)) seat key routes = acceptance _ _ refl
-  act-made (read.packet (client.oobSend wanted bytes)) seat key routes = oob-made (find (seatOf wanted) room) seat key bytes
-  act-made (read.packet (client.routedData number bytes)) seat key routes = data-made (routeAt routes number) seat key bytes
-  act-made (read.refused why) seat key routes = refusal why refl
+  act-made (read.packet (client.routingRequest wanted)) seat held = request-made (find (routeTo wanted) (held .routes)) (find isFree (held .routes)) seat (held .key) wanted
+  act-made (read.packet (client.dropRoute number)) seat held = drop-made (routeAt (held .routes) number) seat (held .key) number
+  act-made (read.packet (client.ping n)) seat held = acceptance _ _ refl
+  act-made (read.packet (client.pong n)) seat held = acceptance _ _ refl
+  act-made (read.packet (client.oobSend wanted bytes)) seat held = oob-made (find (seatOf wanted) (room .seats)) seat (held .key) bytes
+  act-made (read.packet (client.routedData number bytes)) seat held = data-made (routeAt (held .routes) number) seat (held .key) bytes
+  act-made (read.refused why) seat held = refusal why refl
 
   packet-made : (s : Seat) (seat : ℕ) (bytes : List ℕ) → MadeAt seat (packetFrom s room seat bytes)
   unfolding packetFrom
   packet-made vacant seat bytes = refusal NotSeated refl
-  packet-made (holds key routes) seat bytes = act-made (client.relayRead bytes) seat key routes
+  packet-made (holds held) seat bytes = act-made (client.relayRead bytes) seat held
 
   -- a Leave or a packet that is accepted answers its own seat
   pub leave-made-at : (seat : ℕ) → MadeAt seat (outcome room (leave seat))
@@ -82,7 +82,7 @@ module _ (room : Room) where
 
   pub outcome-made : (call : Call) → RefusedOrAccepted (outcome room call)
   unfolding outcome
-  outcome-made (arrive key) = arrive-made (find (seatOf key) room) (find isVacant room) key
+  outcome-made (arrive key) = arrive-made (find (seatOf key) (room .seats)) (find isVacant (room .seats)) key
   outcome-made (leave seat) = made-at seat (outcome room (leave seat)) (leave-made-at seat)
   outcome-made (packetCall seat bytes) = made-at seat (outcome room (packetCall seat bytes)) (packet-made-at seat bytes)
 

@@ -7,7 +7,7 @@ use mathlib.Core.List.{List, [], _∷_}
 use Prim.Native.Nat.{ℕ, zero, suc, _-_, _<_}
 use native.Mathlib.Omega.{arith}
 use lib.Dec.{eqb}
-use lib.ListN.{getD, set, replicate, length}
+use lib.ListN.{getD, set, length}
 use lib.Seq.{set-getD}
 use borrow.Author.Tests.{eqb-true, eqb-false, ne-eqb, not-true}
 use Rattle.key.specs.Keys.{sameKey}
@@ -17,14 +17,14 @@ use Rattle.packet.specs.Read.{Read}
 use Rattle.packet.specs.Read as read
 use Rattle.packet.specs.FromClient as client
 use Rattle.packet.proofs.ReadBounds.{request-key-long}
-use Rattle.rules.specs.Room.{Sizes, Key, Route, free, wants, Seat, vacant, holds, Room, emptyRoom, Found, none, at, find, seatOf, isVacant, routeTo, isFree, routesOf, seatAt, routeAt, firstNumber, numberOfPlace, Peer, alone, joined}
+use Rattle.rules.specs.Room.{Sizes, Key, Route, free, wants, Held, Seat, vacant, holds, Room, newcomer, setKey, setRoute, setSeats, setSeat, emptyRoom, Found, none, at, find, seatOf, isVacant, routeTo, isFree, routesOf, seatAt, routeAt, firstNumber, numberOfPlace, Peer, alone, joined}
 use Rattle.rules.specs.Whole.{Whole}
 use Rattle.rules.specs.Call.{Call, arrive, leave, packetCall, refused}
 use Rattle.rules.specs.Outcome.{withRoute, apply, applyAll, refuse, accept, Outcome, roomAfter, peer, arriveAt, leaveFrom, requestAt, dropAt, oobTo, carryTo, dataAt, act, actOn, packetFrom, outcome}
 use Rattle.rules.specs.History.{event, transcript}
 use Rattle.rules.specs.Transcript.{Past, Maker, nobody, clientOf, Start, fromEmpty, isAccepted, sitsAfterArrival, sitsAfter, sitter, maker, numberAnswered, standsAfterPacket, standsAfterOwn, standsAfter, stands}
 use Rattle.rules.specs.After.{roomAfterAll, pastAfter, clientIn, routesIn, routesBy, Tied, startOf}
-use Rattle.rules.proofs.FindLaws.{clash, route-to-wants, find-hit, find-within, find-replicate, getD-all, find-set-same, find-clear, vacant-no-key, seat-set, seat-set-other, held-within, free-not-to, route-none, route-at-place, wanted-high, route-set-other, route-set, route-freed, route-all-free}
+use Rattle.rules.proofs.FindLaws.{clash, route-to-wants, find-hit, find-within, find-replicate, getD-all, find-set-same, find-clear, vacant-no-key, heldOf, seat-set, seat-set-other, held-within, free-not-to, route-none, route-at-place, wanted-high, route-set-other, route-set, route-freed, route-all-free}
 use Rattle.rules.proofs.Whole.{key-once, key-found, whole-after, whole-empty}
 use Rattle.rules.proofs.AnswerLaws.{zero-answered, place-answered}
 
@@ -53,64 +53,67 @@ and-false false = refl
 
 -- ---- who sits where, after one seat is replaced
 
-module _ (room : Room) (seat : ℕ) (s : Seat) (within : seat < length room) where
-  pub client-set : (here : ℕ) → clientIn (seatAt (set room seat s) here) ≡ cond (eqb seat here) (clientIn s) (clientIn (seatAt room here))
+module _ (room : Room) (seat : ℕ) (s : Seat) (within : seat < length (room .seats)) where
+  pub client-set : (here : ℕ) → clientIn (seatAt (setSeat room seat s) here) ≡ cond (eqb seat here) (clientIn s) (clientIn (seatAt room here))
   client-set here = go (eqb seat here) refl
     where
-      go : (t : Bool) → eqb seat here ≡ t → clientIn (seatAt (set room seat s) here) ≡ cond t (clientIn s) (clientIn (seatAt room here))
-      go true e = ap clientIn (ap (seatAt (set room seat s)) (sym (eqb-true seat here e)) ∙ seat-set room seat s within)
+      go : (t : Bool) → eqb seat here ≡ t → clientIn (seatAt (setSeat room seat s) here) ≡ cond t (clientIn s) (clientIn (seatAt room here))
+      go true e = ap clientIn (ap (seatAt (setSeat room seat s)) (sym (eqb-true seat here e)) ∙ seat-set room seat s within)
       go false e = ap clientIn (seat-set-other room seat s here (λ q. eqb-false seat here e (sym q)))
 
--- the same client sits there with other routes
-pub client-kept : (room : Room) (seat : ℕ) (key : Key) (routes routes′ : List Route) → seatAt room seat ≡ holds key routes
-    → (here : ℕ) → clientIn (seatAt (set room seat (holds key routes′)) here) ≡ clientIn (seatAt room here)
+-- the same client sits there, whatever else of it is another
+pub client-kept : (room : Room) (seat : ℕ) (held held′ : Held) → held′ .key ≡ held .key → seatAt room seat ≡ holds held
+    → (here : ℕ) → clientIn (seatAt (setSeat room seat (holds held′)) here) ≡ clientIn (seatAt room here)
 unfolding clientIn
-client-kept room seat key routes routes′ e here = client-set room seat (holds key routes′) (held-within room seat key routes e) here ∙ go (eqb seat here) refl
+client-kept room seat held held′ same e here = client-set room seat (holds held′) (held-within room seat held e) here ∙ go (eqb seat here) refl
   where
-    go : (t : Bool) → eqb seat here ≡ t → cond t (clientOf key) (clientIn (seatAt room here)) ≡ clientIn (seatAt room here)
-    go true q = sym (ap clientIn (ap (seatAt room) (sym (eqb-true seat here q)) ∙ e))
+    go : (t : Bool) → eqb seat here ≡ t → cond t (clientOf (held′ .key)) (clientIn (seatAt room here)) ≡ clientIn (seatAt room here)
+    go true q = sym (ap clientIn (ap (seatAt room) (sym (eqb-true seat here q)) ∙ e) ∙ ap clientOf (sym same))
     go false q = refl
 
 -- ---- a client's routes, after one seat is replaced
 
 -- by one that holds another key where another key was held
-routes-else : (room : Room) (seat : ℕ) (s : Seat) (key : Key) → seatOf key (seatAt room seat) ≡ false → seatOf key s ≡ false → routesBy (set room seat s) key ≡ routesBy room key
+routes-else : (room : Room) (seat : ℕ) (s : Seat) (key : Key) → seatOf key (seatAt room seat) ≡ false → seatOf key s ≡ false → routesBy (setSeat room seat s) key ≡ routesBy room key
 unfolding routesBy routesIn seatAt
-routes-else room seat s key h hs = rw (find-set-same (seatOf key) vacant room seat s (hs ∙ sym h)) (go (find (seatOf key) room) refl)
+routes-else room seat s key h hs = rw (find-set-same (seatOf key) vacant (room .seats) seat s (hs ∙ sym h)) (go (find (seatOf key) (room .seats)) refl)
   where
-    go : (f : Found) → find (seatOf key) room ≡ f → routesIn f (set room seat s) ≡ routesIn f room
+    go : (f : Found) → find (seatOf key) (room .seats) ≡ f → routesIn f (setSeat room seat s) ≡ routesIn f room
     go none q = refl
-    go (at other) q = ap routesOf (seat-set-other room seat s other (λ z. true≢false (sym (find-hit (seatOf key) vacant room other q) ∙ rw z h)))
+    go (at other) q = ap routesOf (seat-set-other room seat s other (λ z. true≢false (sym (find-hit (seatOf key) vacant (room .seats) other q) ∙ rw z h)))
 
-module _ (sizes : Sizes) (room : Room) (whole : Whole sizes room) (seat : ℕ) (key : Key) (routes : List Route) (sits : seatAt room seat ≡ holds key routes) where
-  pub routes-mine : routesBy room key ≡ routes
+module _ (sizes : Sizes) (room : Room) (whole : Whole sizes room) (seat : ℕ) (held : Held) (sits : seatAt room seat ≡ holds held) where
+  pub routes-mine : routesBy room (held .key) ≡ held .routes
   unfolding routesBy routesIn routesOf
-  routes-mine = rw (key-found sizes room whole seat key routes sits, sits)
+  routes-mine = rw (key-found sizes room whole seat held sits, sits)
 
-  routes-put : (t : List Route) → routesBy (set room seat (holds key t)) key ≡ t
+  routes-put : (held′ : Held) → held′ .key ≡ held .key → routesBy (setSeat room seat (holds held′)) (held .key) ≡ held′ .routes
   unfolding routesBy routesIn routesOf seatOf seatAt
-  routes-put t =
-      rw (find-set-same (seatOf key) vacant room seat (holds key t) (sym (rw sits)), key-found sizes room whole seat key routes sits) (ap routesOf (seat-set room seat (holds key t) (held-within room seat key routes sits)))
+  routes-put held′ same =
+      rw (
+        find-set-same (seatOf (held .key)) vacant (room .seats) seat (holds held′) (rw (sits, same)),
+        key-found sizes room whole seat held sits,
+      ) (ap routesOf (seat-set room seat (holds held′) (held-within room seat held sits)))
 
-  routes-left : routesBy (set room seat vacant) key ≡ []
+  routes-left : routesBy (setSeat room seat vacant) (held .key) ≡ []
   unfolding routesBy routesIn seatOf seatAt
-  routes-left = rw (find-clear (seatOf key) vacant room seat vacant (key-once sizes room whole key) (rw sits (same-refl key)) refl)
+  routes-left = rw (find-clear (seatOf (held .key)) vacant (room .seats) seat vacant (key-once sizes room whole (held .key)) (rw sits (same-refl (held .key))) refl)
 
 -- an arrival takes a seat: whoever's routes they are, each number has what it had
-routes-arrived : (sizes : Sizes) (room : Room) (seat : ℕ) (key : Key) → find (seatOf key) room ≡ none → find isVacant room ≡ at seat
-    → Whole sizes (set room seat (holds key (replicate (sizes .numbers) free)))
-    → (k : Key) (number : ℕ) → routeAt (routesBy room k) number ≡ routeAt (routesBy (set room seat (holds key (replicate (sizes .numbers) free))) k) number
+routes-arrived : (sizes : Sizes) (room : Room) (seat : ℕ) (key : Key) → find (seatOf key) (room .seats) ≡ none → find isVacant (room .seats) ≡ at seat
+    → Whole sizes (setSeat room seat (holds (newcomer sizes key)))
+    → (k : Key) (number : ℕ) → routeAt (routesBy room k) number ≡ routeAt (routesBy (setSeat room seat (holds (newcomer sizes key))) k) number
 unfolding seatAt seatOf routesBy routesIn
 routes-arrived sizes room seat key hf he whole k number = go (sameKey key k) refl
   where
     s : Seat
-    s = holds key (replicate (sizes .numbers) free)
+    s = holds (newcomer sizes key)
 
-    go : (t : Bool) → sameKey key k ≡ t → routeAt (routesBy room k) number ≡ routeAt (routesBy (set room seat s) k) number
+    go : (t : Bool) → sameKey key k ≡ t → routeAt (routesBy room k) number ≡ routeAt (routesBy (setSeat room seat s) k) number
     go true q =
-        rw (← (same-sound key k q), hf, routes-mine sizes (set room seat s) whole seat key (replicate (sizes .numbers) free) (seat-set room seat s (find-within isVacant room seat he)))
+        rw (← (same-sound key k q), hf, routes-mine sizes (setSeat room seat s) whole seat (newcomer sizes key) (seat-set room seat s (find-within isVacant (room .seats) seat he)))
         (route-none number ∙ sym (route-all-free (sizes .numbers) number))
-    go false q = sym (ap (λ (t : List Route). routeAt t number) (routes-else room seat s k (vacant-no-key k (seatAt room seat) (find-hit isVacant vacant room seat he)) q))
+    go false q = sym (ap (λ (t : List Route). routeAt t number) (routes-else room seat s k (vacant-no-key k (seatAt room seat) (find-hit isVacant vacant (room .seats) seat he)) q))
 
 -- ---- each call
 
@@ -119,7 +122,7 @@ module _ (sizes : Sizes) (start : Start) (past : Past) (room : Room) (whole : Wh
   abbrev Keeps : Call → Outcome → Type 0
   Keeps call o = Tied start (record { call = call; answer = o .answer; sent = o .sent } ∷ past) (roomAfter sizes room o)
 
-  tied-arrive : (key : Key) (seated empty : Found) → find (seatOf key) room ≡ seated → find isVacant room ≡ empty
+  tied-arrive : (key : Key) (seated empty : Found) → find (seatOf key) (room .seats) ≡ seated → find isVacant (room .seats) ≡ empty
       → Whole sizes (roomAfter sizes room (arriveAt seated empty key)) → Keeps (arrive key) (arriveAt seated empty key)
   unfolding roomAfter applyAll apply arriveAt refuse accept sitter sitsAfter sitsAfterArrival stands standsAfter standsAfterOwn maker clientIn
   tied-arrive key (at i) empty hf he whole′ = record {
@@ -133,7 +136,7 @@ module _ (sizes : Sizes) (start : Start) (past : Past) (room : Room) (whole : Wh
   tied-arrive key none (at seat) hf he whole′ = record {
     sits = λ here.
         ap (cond (eqb seat here) (clientOf key)) (tie .sits here)
-        ∙ sym (client-set room seat (holds key (replicate (sizes .numbers) free)) (find-within isVacant room seat he) here);
+        ∙ sym (client-set room seat (holds (newcomer sizes key)) (find-within isVacant (room .seats) seat he) here);
     requests = λ k number wanted.
         either (sameKey key k) (stands start past k number wanted) ∙ tie .requests k number wanted ∙ ap (routeTo wanted) (routes-arrived sizes room seat key hf he whole′ k number);
   }
@@ -152,51 +155,52 @@ module _ (sizes : Sizes) (start : Start) (past : Past) (room : Room) (whole : Wh
     unfolding roomAfter applyAll packetFrom refuse sitter sitsAfter stands standsAfter maker
     tied-no-packet bytes = record { sits = tie .sits; requests = λ k number wanted. rw by-nobody (tie .requests k number wanted) }
 
-  module _ (seat : ℕ) (key : Key) (routes : List Route) (sits : seatAt room seat ≡ holds key routes) where
-    pub sitter-is : sitter start past seat ≡ clientOf key
+  module _ (seat : ℕ) (held : Held) (sits : seatAt room seat ≡ holds held) where
+    pub sitter-is : sitter start past seat ≡ clientOf (held .key)
     unfolding clientIn
     sitter-is = tie .sits seat ∙ ap clientIn sits
 
     -- what stands of its own
-    pub tied-here : (number : ℕ) (wanted : Key) → stands start past key number wanted ≡ routeTo wanted (routeAt routes number)
-    tied-here number wanted = tie .requests key number wanted ∙ ap (λ (t : List Route). routeTo wanted (routeAt t number)) (routes-mine sizes room whole seat key routes sits)
+    pub tied-here : (number : ℕ) (wanted : Key) → stands start past (held .key) number wanted ≡ routeTo wanted (routeAt (held .routes) number)
+    tied-here number wanted = tie .requests (held .key) number wanted ∙ ap (λ (t : List Route). routeTo wanted (routeAt t number)) (routes-mine sizes room whole seat held sits)
 
-    tied-leave : Keeps (leave seat) (leaveFrom (holds key routes) room seat)
+    tied-leave : Keeps (leave seat) (leaveFrom (holds held) room seat)
     unfolding roomAfter applyAll apply leaveFrom accept sitter sitsAfter isAccepted stands standsAfter standsAfterOwn maker clientIn seatOf routeTo
     tied-leave = record {
-      sits = λ here. ap (cond (eqb seat here) nobody) (tie .sits here) ∙ sym (client-set room seat vacant (held-within room seat key routes sits) here);
-      requests = λ k number wanted. rw sitter-is (on k number wanted (sameKey key k) refl);
+      sits = λ here. ap (cond (eqb seat here) nobody) (tie .sits here) ∙ sym (client-set room seat vacant (held-within room seat held sits) here);
+      requests = λ k number wanted. rw sitter-is (on k number wanted (sameKey (held .key) k) refl);
     }
       where
-        on : (k : Key) (number : ℕ) (wanted : Key) (t : Bool) → sameKey key k ≡ t
-            → cond t false (stands start past k number wanted) ≡ routeTo wanted (routeAt (routesBy (set room seat vacant) k) number)
-        on k number wanted true q = rw (← (same-sound key k q), routes-left sizes room whole seat key routes sits, route-none number)
+        on : (k : Key) (number : ℕ) (wanted : Key) (t : Bool) → sameKey (held .key) k ≡ t
+            → cond t false (stands start past k number wanted) ≡ routeTo wanted (routeAt (routesBy (setSeat room seat vacant) k) number)
+        on k number wanted true q = rw (← (same-sound (held .key) k q), routes-left sizes room whole seat held sits, route-none number)
         on k number wanted false q = rw (tie .requests k number wanted, routes-else room seat vacant k (rw sits q) refl)
 
     -- a packet of its own
     module _ (bytes : List ℕ) (r : Read client.FromClient) (e : client.relayRead bytes ≡ r) (o : Outcome) where
-      -- where its routes become `routes′`
-      keeps-with : (routes′ : List Route) → roomAfter sizes room o ≡ set room seat (holds key routes′)
-          → ((number : ℕ) (wanted : Key) → standsAfterPacket r (o .answer) (o .sent) number wanted (routeTo wanted (routeAt routes number)) ≡ routeTo wanted (routeAt routes′ number))
+      -- where its seat holds `held′` then
+      keeps-with : (held′ : Held) → held′ .key ≡ held .key → roomAfter sizes room o ≡ setSeat room seat (holds held′)
+          → ((number : ℕ) (wanted : Key) → standsAfterPacket r (o .answer) (o .sent) number wanted (routeTo wanted (routeAt (held .routes) number))
+          ≡ routeTo wanted (routeAt (held′ .routes) number))
           → Keeps (packetCall seat bytes) o
       unfolding sitter sitsAfter stands standsAfter standsAfterOwn maker seatOf
-      keeps-with routes′ after own = record {
-        sits = λ here. tie .sits here ∙ sym (ap (λ (r : Room). clientIn (seatAt r here)) after ∙ client-kept room seat key routes routes′ sits here);
-        requests = λ k number wanted. rw (sitter-is, after, e) (on k number wanted (sameKey key k) refl);
+      keeps-with held′ same after own = record {
+        sits = λ here. tie .sits here ∙ sym (ap (λ (r : Room). clientIn (seatAt r here)) after ∙ client-kept room seat held held′ same sits here);
+        requests = λ k number wanted. rw (sitter-is, after, e) (on k number wanted (sameKey (held .key) k) refl);
       }
         where
-          on : (k : Key) (number : ℕ) (wanted : Key) (t : Bool) → sameKey key k ≡ t
+          on : (k : Key) (number : ℕ) (wanted : Key) (t : Bool) → sameKey (held .key) k ≡ t
               → cond t (standsAfterPacket r (o .answer) (o .sent) number wanted (stands start past k number wanted)) (stands start past k number wanted)
-              ≡ routeTo wanted (routeAt (routesBy (set room seat (holds key routes′)) k) number)
-          on k number wanted true q = rw (← (same-sound key k q), tied-here number wanted, routes-put sizes room whole seat key routes sits routes′) (own number wanted)
-          on k number wanted false q = rw (tie .requests k number wanted, routes-else room seat (holds key routes′) k (rw sits q) q)
+              ≡ routeTo wanted (routeAt (routesBy (setSeat room seat (holds held′)) k) number)
+          on k number wanted true q = rw (← (same-sound (held .key) k q), tied-here number wanted, routes-put sizes room whole seat held sits held′ same) (own number wanted)
+          on k number wanted false q = rw (tie .requests k number wanted, routes-else room seat (holds held′) k (rw sits q) (rw same q))
 
       -- where nothing changes
       keeps-same : roomAfter sizes room o ≡ room
-          → ((number : ℕ) (wanted : Key) → standsAfterPacket r (o .answer) (o .sent) number wanted (routeTo wanted (routeAt routes number)) ≡ routeTo wanted (routeAt routes number))
+          → ((number : ℕ) (wanted : Key) → standsAfterPacket r (o .answer) (o .sent) number wanted (routeTo wanted (routeAt (held .routes) number)) ≡ routeTo wanted (routeAt (held .routes) number))
           → Keeps (packetCall seat bytes) o
       unfolding seatAt
-      keeps-same after own = keeps-with routes (after ∙ sym (set-getD room seat vacant) ∙ ap (set room seat) sits) own
+      keeps-same after own = keeps-with held refl (after ∙ ap (setSeats room) (sym (set-getD (room .seats) seat vacant)) ∙ ap (setSeat room seat) sits) own
 
     -- a request
     module _ (bytes : List ℕ) (wanted : Key) (e : client.relayRead bytes ≡ read.packet (client.routingRequest wanted)) where
@@ -207,64 +211,65 @@ module _ (sizes : Sizes) (start : Start) (past : Past) (room : Room) (whole : Wh
       abbrev Asked : ℕ → ℕ → Key → Bool
       Asked answered number w = (not (eqb number 0) && eqb answered number) && sameKey wanted w
 
-      tied-request : (held lowest : Found) → find (routeTo wanted) routes ≡ held → find isFree routes ≡ lowest
-          → Keeps (packetCall seat bytes) (requestAt held lowest room seat key wanted)
+      tied-request : (old lowest : Found) → find (routeTo wanted) (held .routes) ≡ old → find isFree (held .routes) ≡ lowest
+          → Keeps (packetCall seat bytes) (requestAt old lowest room seat (held .key) wanted)
       unfolding roomAfter applyAll apply withRoute requestAt accept standsAfterPacket routeTo
       tied-request (at place) lowest hf hg =
-          keeps-same bytes _ e (requestAt (at place) lowest room seat key wanted) refl
+          keeps-same bytes _ e (requestAt (at place) lowest room seat (held .key) wanted) refl
           (λ number w. rw (place-answered seat wanted long [] place) (absorb (Asked (numberOfPlace place) number w) _ (on number w)))
         where
-          on : (number : ℕ) (w : Key) → Asked (numberOfPlace place) number w ≡ true → routeTo w (routeAt routes number) ≡ true
+          on : (number : ℕ) (w : Key) → Asked (numberOfPlace place) number w ≡ true → routeTo w (routeAt (held .routes) number) ≡ true
           on number w t =
               let a = both-true (not (eqb number 0) && eqb (numberOfPlace place) number) (sameKey wanted w) t in
               let b = both-true (not (eqb number 0)) (eqb (numberOfPlace place) number) (a .0) in
-              rw (← (eqb-true (numberOfPlace place) number (b .1)), ← (same-sound wanted w (a .1)), route-at-place routes place) (find-hit (routeTo wanted) free routes place hf)
+              rw (← (eqb-true (numberOfPlace place) number (b .1)), ← (same-sound wanted w (a .1)), route-at-place (held .routes) place) (find-hit (routeTo wanted) free (held .routes) place hf)
       tied-request none none hf hg =
-          keeps-same bytes _ e (requestAt none none room seat key wanted) refl
+          keeps-same bytes _ e (requestAt none none room seat (held .key) wanted) refl
           (λ number w. rw (zero-answered seat wanted long []) (absorb (Asked 0 number w) _ (on number w)))
         where
-          on : (number : ℕ) (w : Key) → Asked 0 number w ≡ true → routeTo w (routeAt routes number) ≡ true
+          on : (number : ℕ) (w : Key) → Asked 0 number w ≡ true → routeTo w (routeAt (held .routes) number) ≡ true
           on number w t =
               let a = both-true (not (eqb number 0) && eqb 0 number) (sameKey wanted w) t in
               let b = both-true (not (eqb number 0)) (eqb 0 number) (a .0) in
               absurd (eqb-false number 0 (not-true (eqb number 0) (b .0)) (sym (eqb-true 0 number (b .1))))
       tied-request none (at place) hf hg =
-          keeps-with bytes _ e (requestAt none (at place) room seat key wanted) (set routes place (wants wanted)) (rw sits) (λ number w. rw (place-answered seat wanted long _ place) (on number w (eqb (numberOfPlace place) number) refl))
+          keeps-with bytes _ e (requestAt none (at place) room seat (held .key) wanted) (setRoute held place (wants wanted)) refl (rw sits)
+          (λ number w. rw (place-answered seat wanted long _ place) (on number w (eqb (numberOfPlace place) number) refl))
         where
           on : (number : ℕ) (w : Key) (t : Bool) → eqb (numberOfPlace place) number ≡ t
-              → cond ((not (eqb number 0) && t) && sameKey wanted w) true (routeTo w (routeAt routes number)) ≡ routeTo w (routeAt (set routes place (wants wanted)) number)
+              → cond ((not (eqb number 0) && t) && sameKey wanted w) true (routeTo w (routeAt (held .routes) number)) ≡ routeTo w (routeAt (set (held .routes) place (wants wanted)) number)
           on number w true q =
               rw (
                 ← (eqb-true (numberOfPlace place) number q),
                 ne-eqb (numberOfPlace place) 0 (λ z. omega arith),
-                route-at-place routes place,
-                free-not-to w (getD routes place free) (find-hit isFree free routes place hg),
-                route-set routes place (wants wanted) (find-within isFree routes place hg),
+                route-at-place (held .routes) place,
+                free-not-to w (getD (held .routes) place free) (find-hit isFree free (held .routes) place hg),
+                route-set (held .routes) place (wants wanted) (find-within isFree (held .routes) place hg),
               ) (itself (sameKey wanted w))
-          on number w false q = rw (and-false (not (eqb number 0)), route-set-other routes place (wants wanted) number (λ z. eqb-false (numberOfPlace place) number q (sym z)))
+          on number w false q = rw (and-false (not (eqb number 0)), route-set-other (held .routes) place (wants wanted) number (λ z. eqb-false (numberOfPlace place) number q (sym z)))
 
     -- a drop
     tied-drop : (bytes : List ℕ) (number : ℕ) → client.relayRead bytes ≡ read.packet (client.dropRoute number)
-        → (route : Route) → routeAt routes number ≡ route → Keeps (packetCall seat bytes) (dropAt route room seat key number)
+        → (route : Route) → routeAt (held .routes) number ≡ route → Keeps (packetCall seat bytes) (dropAt route room seat (held .key) number)
     unfolding roomAfter applyAll apply withRoute dropAt accept refuse standsAfterPacket isAccepted routeTo
-    tied-drop bytes number e free h = keeps-same bytes _ e (dropAt free room seat key number) refl (λ n w. refl)
+    tied-drop bytes number e free h = keeps-same bytes _ e (dropAt free room seat (held .key) number) refl (λ n w. refl)
     tied-drop bytes number e (wants wanted) h =
-        keeps-with bytes _ e (dropAt (wants wanted) room seat key number) (set routes (number - firstNumber) free) (rw sits) (λ n w. on n w (eqb number n) refl)
+        keeps-with bytes _ e (dropAt (wants wanted) room seat (held .key) number) (setRoute held (number - firstNumber) free) refl (rw sits) (λ n w. on n w (eqb number n) refl)
       where
         place : number ≡ numberOfPlace (number - firstNumber)
-        place = wanted-high routes number wanted h
+        place = wanted-high (held .routes) number wanted h
 
-        on : (n : ℕ) (w : Key) (t : Bool) → eqb number n ≡ t → cond t false (routeTo w (routeAt routes n)) ≡ routeTo w (routeAt (set routes (number - firstNumber) free) n)
+        on : (n : ℕ) (w : Key) (t : Bool) → eqb number n ≡ t → cond t false (routeTo w (routeAt (held .routes) n)) ≡ routeTo w (routeAt (set (held .routes) (number - firstNumber) free) n)
         on n w true q =
-            sym (ap (λ (x : ℕ). routeTo w (routeAt (set routes (number - firstNumber) free) x)) (sym (eqb-true number n q) ∙ place) ∙ ap (routeTo w) (route-freed routes (number - firstNumber)))
-        on n w false q = sym (ap (routeTo w) (route-set-other routes (number - firstNumber) free n (λ z. eqb-false number n q (place ∙ sym z))))
+            sym (ap (λ (x : ℕ). routeTo w (routeAt (set (held .routes) (number - firstNumber) free) x)) (sym (eqb-true number n q) ∙ place) ∙ ap (routeTo w) (route-freed (held .routes) (number - firstNumber)))
+        on n w false q = sym (ap (routeTo w) (route-set-other (held .routes) (number - firstNumber) free n (λ z. eqb-false number n q (place ∙ sym z))))
 
     -- the packets that change nothing
     tied-oob : (bytes : List ℕ) (wanted : Key) (payload : List ℕ) → client.relayRead bytes ≡ read.packet (client.oobSend wanted payload)
-        → (other : Found) → Keeps (packetCall seat bytes) (oobTo other seat key payload)
+        → (other : Found) → Keeps (packetCall seat bytes) (oobTo other seat (held .key) payload)
     unfolding roomAfter applyAll oobTo accept standsAfterPacket
-    tied-oob bytes wanted payload e none = keeps-same bytes _ e (oobTo none seat key payload) refl (λ n w. refl)
-    tied-oob bytes wanted payload e (at other) = keeps-same bytes _ e (oobTo (at other) seat key payload) refl (λ n w. refl)
+    tied-oob bytes wanted payload e none = keeps-same bytes _ e (oobTo none seat (held .key) payload) refl (λ n w. refl)
+    tied-oob bytes wanted payload e (at other) = keeps-same bytes _ e (oobTo (at other) seat (held .key) payload) refl (λ n w. refl)
 
     module _ (bytes : List ℕ) (number : ℕ) (payload : List ℕ) (e : client.relayRead bytes ≡ read.packet (client.routedData number payload)) where
       tied-carry : (p : Peer) → Keeps (packetCall seat bytes) (carryTo p seat payload)
@@ -272,38 +277,38 @@ module _ (sizes : Sizes) (start : Start) (past : Past) (room : Room) (whole : Wh
       tied-carry alone = keeps-same bytes _ e (carryTo alone seat payload) refl (λ n w. refl)
       tied-carry (joined other place) = keeps-same bytes _ e (carryTo (joined other place) seat payload) refl (λ n w. refl)
 
-      tied-data : (route : Route) → Keeps (packetCall seat bytes) (dataAt route room seat key payload)
+      tied-data : (route : Route) → Keeps (packetCall seat bytes) (dataAt route room seat (held .key) payload)
       unfolding roomAfter applyAll dataAt refuse standsAfterPacket
-      tied-data free = keeps-same bytes _ e (dataAt free room seat key payload) refl (λ n w. refl)
-      tied-data (wants wanted) = tied-carry (peer room seat key wanted)
+      tied-data free = keeps-same bytes _ e (dataAt free room seat (held .key) payload) refl (λ n w. refl)
+      tied-data (wants wanted) = tied-carry (peer room seat (held .key) wanted)
 
-    tied-act : (bytes : List ℕ) (p : client.FromClient) → client.relayRead bytes ≡ read.packet p → Keeps (packetCall seat bytes) (act p room seat key routes)
+    tied-act : (bytes : List ℕ) (p : client.FromClient) → client.relayRead bytes ≡ read.packet p → Keeps (packetCall seat bytes) (act p room seat held)
     unfolding roomAfter applyAll act accept standsAfterPacket
-    tied-act bytes (client.routingRequest wanted) e = tied-request bytes wanted e (find (routeTo wanted) routes) (find isFree routes) refl refl
-    tied-act bytes (client.dropRoute number) e = tied-drop bytes number e (routeAt routes number) refl
-    tied-act bytes (client.ping n) e = keeps-same bytes _ e (act (client.ping n) room seat key routes) refl (λ n w. refl)
-    tied-act bytes (client.pong n) e = keeps-same bytes _ e (act (client.pong n) room seat key routes) refl (λ n w. refl)
-    tied-act bytes (client.oobSend wanted payload) e = tied-oob bytes wanted payload e (find (seatOf wanted) room)
-    tied-act bytes (client.routedData number payload) e = tied-data bytes number payload e (routeAt routes number)
+    tied-act bytes (client.routingRequest wanted) e = tied-request bytes wanted e (find (routeTo wanted) (held .routes)) (find isFree (held .routes)) refl refl
+    tied-act bytes (client.dropRoute number) e = tied-drop bytes number e (routeAt (held .routes) number) refl
+    tied-act bytes (client.ping n) e = keeps-same bytes _ e (act (client.ping n) room seat held) refl (λ n w. refl)
+    tied-act bytes (client.pong n) e = keeps-same bytes _ e (act (client.pong n) room seat held) refl (λ n w. refl)
+    tied-act bytes (client.oobSend wanted payload) e = tied-oob bytes wanted payload e (find (seatOf wanted) (room .seats))
+    tied-act bytes (client.routedData number payload) e = tied-data bytes number payload e (routeAt (held .routes) number)
 
-    tied-read : (bytes : List ℕ) (r : Read client.FromClient) → client.relayRead bytes ≡ r → Keeps (packetCall seat bytes) (actOn r room seat key routes)
+    tied-read : (bytes : List ℕ) (r : Read client.FromClient) → client.relayRead bytes ≡ r → Keeps (packetCall seat bytes) (actOn r room seat held)
     unfolding roomAfter applyAll actOn refuse standsAfterPacket
     tied-read bytes (read.packet p) e = tied-act bytes p e
-    tied-read bytes (read.refused why) e = keeps-same bytes _ e (actOn (read.refused why) room seat key routes) refl (λ n w. refl)
+    tied-read bytes (read.refused why) e = keeps-same bytes _ e (actOn (read.refused why) room seat held) refl (λ n w. refl)
 
   tied-leave-from : (seat : ℕ) (s : Seat) → seatAt room seat ≡ s → Keeps (leave seat) (leaveFrom s room seat)
   tied-leave-from seat vacant e = tied-no-leave seat e
-  tied-leave-from seat (holds key routes) e = tied-leave seat key routes e
+  tied-leave-from seat (holds held) e = tied-leave seat held e
 
   tied-packet : (seat : ℕ) (bytes : List ℕ) (s : Seat) → seatAt room seat ≡ s → Keeps (packetCall seat bytes) (packetFrom s room seat bytes)
   unfolding packetFrom
   tied-packet seat bytes vacant e = tied-no-packet seat e bytes
-  tied-packet seat bytes (holds key routes) e = tied-read seat key routes e bytes (client.relayRead bytes) refl
+  tied-packet seat bytes (holds held) e = tied-read seat held e bytes (client.relayRead bytes) refl
 
   -- every call keeps the tie
   pub tied-after : (call : Call) → Tied start (event room call ∷ past) (roomAfter sizes room (outcome room call))
   unfolding event outcome
-  tied-after (arrive key) = tied-arrive key (find (seatOf key) room) (find isVacant room) refl refl (whole-after sizes room whole (arrive key))
+  tied-after (arrive key) = tied-arrive key (find (seatOf key) (room .seats)) (find isVacant (room .seats)) refl refl (whole-after sizes room whole (arrive key))
   tied-after (leave seat) = tied-leave-from seat (seatAt room seat) refl
   tied-after (packetCall seat bytes) = tied-packet seat bytes (seatAt room seat) refl
 
@@ -358,26 +363,26 @@ module _ (why : Refusal) where
 
 module _ (sizes : Sizes) (start : Start) (past : Past) (room : Room) (whole : Whole sizes room) (tie : Tied start past room) where
   -- a client that sits there is in the table
-  pub seat-holds : (seat : ℕ) (key : Key) → sitter start past seat ≡ clientOf key → seatAt room seat ≡ holds key (routesOf (seatAt room seat))
-  unfolding clientIn routesOf
+  pub seat-holds : (seat : ℕ) (key : Key) → sitter start past seat ≡ clientOf key → seatAt room seat ≡ holds (setKey (heldOf (seatAt room seat)) key)
+  unfolding clientIn
   seat-holds seat key e = go (seatAt room seat) (sym (tie .sits seat) ∙ e)
     where
-      go : (s : Seat) → clientIn s ≡ clientOf key → s ≡ holds key (routesOf s)
+      go : (s : Seat) → clientIn s ≡ clientOf key → s ≡ holds (setKey (heldOf s) key)
       go vacant q = clash (cc)
-      go (holds k routes) q = let z : k ≡ key = cc in ap (λ (x : Key). holds x routes) z
+      go (holds held) q = let z : held .key ≡ key = cc in ap (λ (k : Key). holds (setKey held k)) z
 
-  module _ (seat : ℕ) (key : Key) (routes : List Route) (sits : seatAt room seat ≡ holds key routes) where
+  module _ (seat : ℕ) (held : Held) (sits : seatAt room seat ≡ holds held) where
     -- a request that stands is in the table, and the other way
-    pub stands-wants : (number : ℕ) (wanted : Key) → stands start past key number wanted ≡ true → routeAt routes number ≡ wants wanted
-    stands-wants number wanted e = route-to-wants wanted _ (sym (tied-here sizes start past room whole tie seat key routes sits number wanted) ∙ e)
+    pub stands-wants : (number : ℕ) (wanted : Key) → stands start past (held .key) number wanted ≡ true → routeAt (held .routes) number ≡ wants wanted
+    stands-wants number wanted e = route-to-wants wanted _ (sym (tied-here sizes start past room whole tie seat held sits number wanted) ∙ e)
 
-    pub wants-stands : (number : ℕ) (wanted : Key) → routeAt routes number ≡ wants wanted → stands start past key number wanted ≡ true
+    pub wants-stands : (number : ℕ) (wanted : Key) → routeAt (held .routes) number ≡ wants wanted → stands start past (held .key) number wanted ≡ true
     unfolding routeTo
-    wants-stands number wanted e = tied-here sizes start past room whole tie seat key routes sits number wanted ∙ rw e (same-refl wanted)
+    wants-stands number wanted e = tied-here sizes start past room whole tie seat held sits number wanted ∙ rw e (same-refl wanted)
 
-    pub free-stands : (number : ℕ) → routeAt routes number ≡ free → (wanted : Key) → stands start past key number wanted ≡ false
+    pub free-stands : (number : ℕ) → routeAt (held .routes) number ≡ free → (wanted : Key) → stands start past (held .key) number wanted ≡ false
     unfolding routeTo
-    free-stands number e wanted = tied-here sizes start past room whole tie seat key routes sits number wanted ∙ rw e
+    free-stands number e wanted = tied-here sizes start past room whole tie seat held sits number wanted ∙ rw e
 
 -- ---- every history
 

@@ -5,14 +5,14 @@ use mathlib.Core.Bool.{Bool, true, false, not, cond}
 use mathlib.Core.List.{List, [], _∷_, _++_, map}
 use Prim.Native.Nat.{ℕ, _-_}
 use lib.Dec.{eqb}
-use lib.ListN.{getD, set, replicate, length}
+use lib.ListN.{getD, set, length}
 use Rattle.refusal.specs.declared.Refusal.the-variants.{RoomFull, AlreadySeated, NoSuchRoute, NotConnected}
 use Rattle.key.specs.Keys.{sameKey}
 use Rattle.packet.specs.Read.{Read}
 use Rattle.packet.specs.Read as read
 use Rattle.packet.specs.FromClient as client
 use Rattle.packet.specs.FromRelay as relay
-use Rattle.rules.specs.Room.{Sizes, Key, Route, free, wants, Seat, vacant, holds, Room, Found, none, at, find, routeTo, isFree, routeAt, firstNumber, numberOfPlace}
+use Rattle.rules.specs.Room.{Sizes, Key, Route, free, wants, Seat, vacant, holds, Room, Found, none, at, find, routeTo, isFree, routeAt, firstNumber, numberOfPlace, Held, newcomer, setRoute}
 use Rattle.rules.specs.Call.{Call, arrive, leave, packetCall, Answer, accepted, refused, Sent}
 use Rattle.rules.specs.Outcome.{sentBytes, to}
 use Rattle.rules.specs.Record.{Entry, arrived, departed, own, toC, droppedC, dataForC}
@@ -21,65 +21,73 @@ use Rattle.rules.specs.Record.{Entry, arrived, departed, own, toC, dropp
 
 pub data SeatView : Type 0 where
   openSeat : SeatView
-  ownSeat : List Route → SeatView
+  -- C's own, with all that it holds
+  ownSeat : Held → SeatView
   -- another client's, and whether a route of it names C
   otherSeat : Key → Bool → SeatView
 
-abbrev pub View : Type 0
-View = List SeatView
+pub record View : Type 0 where
+  pub seats : List SeatView
+
+-- with its seats replaced, and with one of them
+abbrev pub setViews : View → List SeatView → View
+setViews v seats = record { seats = seats }
+
+abbrev pub setView : View → ℕ → SeatView → View
+setView v seat s = setViews v (set (v .seats) seat s)
 
 unfoldable pub isFound : Found → Bool
 isFound none = false
 isFound (at i) = true
 
-unfoldable pub viewSeatIf : Bool → Key → Key → List Route → SeatView
-viewSeatIf true c key routes = ownSeat routes
-viewSeatIf false c key routes = otherSeat key (isFound (find (routeTo c) routes))
+unfoldable pub viewSeatIf : Bool → Key → Held → SeatView
+viewSeatIf true c held = ownSeat held
+viewSeatIf false c held = otherSeat (held .key) (isFound (find (routeTo c) (held .routes)))
 
 unfoldable pub viewSeat : Key → Seat → SeatView
 viewSeat c vacant = openSeat
-viewSeat c (holds key routes) = viewSeatIf (sameKey key c) c key routes
+viewSeat c (holds held) = viewSeatIf (sameKey (held .key) c) c held
 
 unfoldable pub project : Key → Room → View
-project c room = map (viewSeat c) room
+project c room = record { seats = map (viewSeat c) (room .seats) }
 
 -- ---- looking things up
 
 unfoldable pub isOpen : SeatView → Bool
 isOpen openSeat = true
-isOpen (ownSeat routes) = false
+isOpen (ownSeat held) = false
 isOpen (otherSeat key b) = false
 
 unfoldable pub isHeldBy : Key → Key → SeatView → Bool
 isHeldBy c key openSeat = false
-isHeldBy c key (ownSeat routes) = sameKey c key
+isHeldBy c key (ownSeat held) = sameKey c key
 isHeldBy c key (otherSeat k b) = sameKey k key
 
 unfoldable pub ownRoutes : SeatView → List Route
 ownRoutes openSeat = []
-ownRoutes (ownSeat routes) = routes
+ownRoutes (ownSeat held) = held .routes
 ownRoutes (otherSeat key b) = []
 
 unfoldable pub namesC : Key → SeatView → Bool
 namesC c openSeat = false
-namesC c (ownSeat routes) = isFound (find (routeTo c) routes)
+namesC c (ownSeat held) = isFound (find (routeTo c) (held .routes))
 namesC c (otherSeat key b) = b
 
 -- is C, in `seat` with a route for a key, connected by it
 unfoldable pub isConnectedIn : Found → Key → View → ℕ → Bool
 isConnectedIn none c v seat = false
-isConnectedIn (at other) c v seat = cond (eqb seat other) false (namesC c (getD v other openSeat))
+isConnectedIn (at other) c v seat = cond (eqb seat other) false (namesC c (getD (v .seats) other openSeat))
 
 unfoldable pub isConnected : Key → View → ℕ → Key → Bool
-isConnected c v seat wanted = isConnectedIn (find (isHeldBy c wanted) v) c v seat
+isConnected c v seat wanted = isConnectedIn (find (isHeldBy c wanted) (v .seats)) c v seat
 
 -- the place of C's route that names a key
 unfoldable pub placeIf : Found → View → Key → Found
 placeIf none v key = none
-placeIf (at seat) v key = find (routeTo key) (ownRoutes (getD v seat openSeat))
+placeIf (at seat) v key = find (routeTo key) (ownRoutes (getD (v .seats) seat openSeat))
 
 unfoldable pub placeOf : Key → View → Key → Found
-placeOf c v key = placeIf (find (isHeldBy c c) v) v key
+placeOf c v key = placeIf (find (isHeldBy c c) (v .seats)) v key
 
 -- ---- what observing an entry yields
 
@@ -115,10 +123,10 @@ counted seat sent = accepted seat (length (sentBytes sent)) ∷ []
 
 -- ---- C's own calls
 
-unfoldable pub ownArrival : Sizes → Found → Found → View → Observed
-ownArrival sizes (at seat) empty v = observed v [] (refused AlreadySeated ∷ [])
-ownArrival sizes none none v = observed v [] (refused RoomFull ∷ [])
-ownArrival sizes none (at seat) v = observed (set v seat (ownSeat (replicate (sizes .numbers) free))) [] (counted seat [])
+unfoldable pub ownArrival : Sizes → Found → Found → Key → View → Observed
+ownArrival sizes (at seat) empty c v = observed v [] (refused AlreadySeated ∷ [])
+ownArrival sizes none none c v = observed v [] (refused RoomFull ∷ [])
+ownArrival sizes none (at seat) c v = observed (setView v seat (ownSeat (newcomer sizes c))) [] (counted seat [])
 
 unfoldable pub noticeByView : Key → View → ℕ → Route → List Sent
 noticeByView c v seat free = []
@@ -131,23 +139,23 @@ noticesByView c v seat (route ∷ routes) = noticeByView c v seat route ++ notic
 unfoldable pub ownLeave : SeatView → Key → View → ℕ → Observed
 ownLeave openSeat c v seat = observed v [] []
 ownLeave (otherSeat key b) c v seat = observed v [] []
-ownLeave (ownSeat routes) c v seat = observed (set v seat openSeat) [] (counted seat (noticesByView c v seat routes))
+ownLeave (ownSeat held) c v seat = observed (setView v seat openSeat) [] (counted seat (noticesByView c v seat (held .routes)))
 
-unfoldable pub ownRequest : Found → Found → Key → View → ℕ → List Route → Key → Observed
-ownRequest (at place) lowest c v seat routes wanted =
+unfoldable pub ownRequest : Found → Found → Key → View → ℕ → Held → Key → Observed
+ownRequest (at place) lowest c v seat held wanted =
     observed v (relay.relayBytes (relay.routingResponse (numberOfPlace place) wanted) ∷ []) (counted seat (to 0 (relay.routingResponse 0 wanted) ∷ []))
-ownRequest none none c v seat routes wanted =
+ownRequest none none c v seat held wanted =
     observed v (relay.relayBytes (relay.routingResponse 0 wanted) ∷ []) (counted seat (to 0 (relay.routingResponse 0 wanted) ∷ []))
-ownRequest none (at place) c v seat routes wanted =
+ownRequest none (at place) c v seat held wanted =
     observed
-    (set v seat (ownSeat (set routes place (wants wanted))))
+    (setView v seat (ownSeat (setRoute held place (wants wanted))))
     (relay.relayBytes (relay.routingResponse (numberOfPlace place) wanted) ∷ only (isConnected c v seat wanted) (relay.relayBytes (relay.connectNotice (numberOfPlace place)) ∷ []))
     (counted seat (to 0 (relay.routingResponse 0 wanted) ∷ toBoth (isConnected c v seat wanted)))
 
-unfoldable pub ownDrop : Route → Key → View → ℕ → List Route → ℕ → Observed
-ownDrop free c v seat routes number = observed v [] (refused NoSuchRoute ∷ [])
-ownDrop (wants wanted) c v seat routes number =
-    observed (set v seat (ownSeat (set routes (number - firstNumber) free))) [] (counted seat (toOne relay.disconnectNotice (isConnected c v seat wanted)))
+unfoldable pub ownDrop : Route → Key → View → ℕ → Held → ℕ → Observed
+ownDrop free c v seat held number = observed v [] (refused NoSuchRoute ∷ [])
+ownDrop (wants wanted) c v seat held number =
+    observed (setView v seat (ownSeat (setRoute held (number - firstNumber) free))) [] (counted seat (toOne relay.disconnectNotice (isConnected c v seat wanted)))
 
 unfoldable pub ownOob : Found → Key → View → ℕ → Key → List ℕ → Observed
 ownOob none c v seat wanted bytes = observed v [] (counted seat [])
@@ -162,44 +170,44 @@ unfoldable pub ownData : Route → Key → View → ℕ → List ℕ → Observe
 ownData free c v seat bytes = observed v [] (refused NoSuchRoute ∷ [])
 ownData (wants wanted) c v seat bytes = ownCarry (isConnected c v seat wanted) v seat bytes
 
-unfoldable pub ownAct : Read client.FromClient → Key → View → ℕ → List Route → Observed
-ownAct (read.packet (client.routingRequest wanted)) c v seat routes = ownRequest (find (routeTo wanted) routes) (find isFree routes) c v seat routes wanted
-ownAct (read.packet (client.dropRoute number)) c v seat routes = ownDrop (routeAt routes number) c v seat routes number
-ownAct (read.packet (client.ping n)) c v seat routes = observed v (relay.relayBytes (relay.pong n) ∷ []) (counted seat (to 0 (relay.pong n) ∷ []))
-ownAct (read.packet (client.pong n)) c v seat routes = observed v [] (counted seat [])
-ownAct (read.packet (client.oobSend wanted bytes)) c v seat routes = ownOob (find (isHeldBy c wanted) v) c v seat wanted bytes
-ownAct (read.packet (client.routedData number bytes)) c v seat routes = ownData (routeAt routes number) c v seat bytes
-ownAct (read.refused why) c v seat routes = observed v [] (refused why ∷ [])
+unfoldable pub ownAct : Read client.FromClient → Key → View → ℕ → Held → Observed
+ownAct (read.packet (client.routingRequest wanted)) c v seat held = ownRequest (find (routeTo wanted) (held .routes)) (find isFree (held .routes)) c v seat held wanted
+ownAct (read.packet (client.dropRoute number)) c v seat held = ownDrop (routeAt (held .routes) number) c v seat held number
+ownAct (read.packet (client.ping n)) c v seat held = observed v (relay.relayBytes (relay.pong n) ∷ []) (counted seat (to 0 (relay.pong n) ∷ []))
+ownAct (read.packet (client.pong n)) c v seat held = observed v [] (counted seat [])
+ownAct (read.packet (client.oobSend wanted bytes)) c v seat held = ownOob (find (isHeldBy c wanted) (v .seats)) c v seat wanted bytes
+ownAct (read.packet (client.routedData number bytes)) c v seat held = ownData (routeAt (held .routes) number) c v seat bytes
+ownAct (read.refused why) c v seat held = observed v [] (refused why ∷ [])
 
 unfoldable pub ownPacket : SeatView → Key → View → ℕ → Read client.FromClient → Observed
 ownPacket openSeat c v seat r = observed v [] []
 ownPacket (otherSeat key b) c v seat r = observed v [] []
-ownPacket (ownSeat routes) c v seat r = ownAct r c v seat routes
+ownPacket (ownSeat held) c v seat r = ownAct r c v seat held
 
 unfoldable pub ownCall : Sizes → Key → View → Call → Observed
-ownCall sizes c v (arrive key) = ownArrival sizes (find (isHeldBy c c) v) (find isOpen v) v
-ownCall sizes c v (leave seat) = ownLeave (getD v seat openSeat) c v seat
-ownCall sizes c v (packetCall seat bytes) = ownPacket (getD v seat openSeat) c v seat (client.relayRead bytes)
+ownCall sizes c v (arrive key) = ownArrival sizes (find (isHeldBy c c) (v .seats)) (find isOpen (v .seats)) c v
+ownCall sizes c v (leave seat) = ownLeave (getD (v .seats) seat openSeat) c v seat
+ownCall sizes c v (packetCall seat bytes) = ownPacket (getD (v .seats) seat openSeat) c v seat (client.relayRead bytes)
 
 -- ---- other clients' calls
 
 unfoldable pub otherArrived : Found → View → Key → Observed
 otherArrived none v key = observed v [] []
-otherArrived (at seat) v key = observed (set v seat (otherSeat key false)) [] []
+otherArrived (at seat) v key = observed (setView v seat (otherSeat key false)) [] []
 
 unfoldable pub otherDeparted : Found → Key → View → Key → Observed
 otherDeparted none c v key = observed v [] []
-otherDeparted (at seat) c v key = observed (set v seat openSeat) (only (namesC c (getD v seat openSeat)) (packetAt relay.disconnectNotice (placeOf c v key))) []
+otherDeparted (at seat) c v key = observed (setView v seat openSeat) (only (namesC c (getD (v .seats) seat openSeat)) (packetAt relay.disconnectNotice (placeOf c v key))) []
 
 unfoldable pub otherDropped : Found → Key → View → Key → Observed
 otherDropped none c v key = observed v [] []
-otherDropped (at seat) c v key = observed (set v seat (otherSeat key false)) (packetAt relay.disconnectNotice (placeOf c v key)) []
+otherDropped (at seat) c v key = observed (setView v seat (otherSeat key false)) (packetAt relay.disconnectNotice (placeOf c v key)) []
 
 unfoldable pub otherAsked : Key → View → Key → ℕ → Read client.FromClient → Observed
 otherAsked c v key seat (read.packet (client.routingRequest wanted)) =
-    observed (set v seat (otherSeat key true)) (only (not (namesC c (getD v seat openSeat))) (packetAt relay.connectNotice (placeOf c v key))) []
+    observed (setView v seat (otherSeat key true)) (only (not (namesC c (getD (v .seats) seat openSeat))) (packetAt relay.connectNotice (placeOf c v key))) []
 otherAsked c v key seat (read.packet (client.oobSend wanted bytes)) =
-    observed v (only (isFound (find (isHeldBy c c) v)) (relay.relayBytes (relay.oobReceived key bytes) ∷ [])) []
+    observed v (only (isFound (find (isHeldBy c c) (v .seats))) (relay.relayBytes (relay.oobReceived key bytes) ∷ [])) []
 otherAsked c v key seat (read.packet (client.dropRoute number)) = observed v [] []
 otherAsked c v key seat (read.packet (client.ping n)) = observed v [] []
 otherAsked c v key seat (read.packet (client.pong n)) = observed v [] []
@@ -214,11 +222,11 @@ otherToC c v key (packetCall seat bytes) = otherAsked c v key seat (client.relay
 -- an arrival or a departure of C itself is observed with its own call, which is the entry after it
 unfoldable pub arrivedIf : Bool → View → Key → Observed
 arrivedIf true v key = observed v [] []
-arrivedIf false v key = otherArrived (find isOpen v) v key
+arrivedIf false v key = otherArrived (find isOpen (v .seats)) v key
 
 unfoldable pub departedIf : Bool → Key → View → Key → Observed
 departedIf true c v key = observed v [] []
-departedIf false c v key = otherDeparted (find (isHeldBy c key) v) c v key
+departedIf false c v key = otherDeparted (find (isHeldBy c key) (v .seats)) c v key
 
 -- ---- one entry, and a whole record
 
@@ -227,7 +235,7 @@ observe sizes c v (arrived key) = arrivedIf (sameKey key c) v key
 observe sizes c v (departed key) = departedIf (sameKey key c) c v key
 observe sizes c v (own call) = ownCall sizes c v call
 observe sizes c v (toC key call) = otherToC c v key call
-observe sizes c v (droppedC key) = otherDropped (find (isHeldBy c key) v) c v key
+observe sizes c v (droppedC key) = otherDropped (find (isHeldBy c key) (v .seats)) c v key
 observe sizes c v (dataForC key bytes) = observed v (packetAt (λ n. relay.routedData n bytes) (placeOf c v key)) []
 
 unfoldable pub observedThen : Observed → Observed → Observed

@@ -12,7 +12,7 @@ use borrow.Author.Tests.{eqb-true}
 use Rattle.key.specs.Keys.{sameKey}
 use Rattle.key.proofs.Same.{same-refl, same-sound}
 use Rattle.packet.specs.FromRelay as relay
-use Rattle.rules.specs.Room.{Sizes, Key, Route, free, wants, Seat, vacant, holds, Room, Found, none, at, orLater, find, seatOf, isVacant, routeTo, routesOf, seatAt, Peer, alone, joined}
+use Rattle.rules.specs.Room.{Sizes, Key, Route, free, wants, Seat, vacant, holds, Room, Found, none, at, orLater, find, seatOf, isVacant, routeTo, routesOf, seatAt, Peer, alone, joined, Held, setKey}
 use Rattle.rules.specs.Whole.{Whole}
 use Rattle.rules.specs.Call.{Sent}
 use Rattle.rules.specs.Outcome.{sentBytes, to, joinedBy, peerAt, peerIn, peer, toPeer, tellBoth, tellPeer, tellPeers}
@@ -62,48 +62,48 @@ module _ (c : Key) where
   view-held : (key : Key) (s : Seat) → isHeldBy c key (viewSeat c s) ≡ seatOf key s
   unfolding isHeldBy viewSeat viewSeatIf seatOf
   view-held key vacant = refl
-  view-held key (holds k routes) = go (sameKey k c) refl
+  view-held key (holds held) = go (sameKey (held .key) c) refl
     where
-      go : (t : Bool) → sameKey k c ≡ t → isHeldBy c key (viewSeatIf t c k routes) ≡ sameKey k key
-      go true e = ap (λ (x : Key). sameKey x key) (sym (same-sound k c e))
+      go : (t : Bool) → sameKey (held .key) c ≡ t → isHeldBy c key (viewSeatIf t c held) ≡ sameKey (held .key) key
+      go true e = ap (λ (x : Key). sameKey x key) (sym (same-sound (held .key) c e))
       go false e = refl
 
   view-open : (s : Seat) → isOpen (viewSeat c s) ≡ isVacant s
   unfolding isOpen viewSeat viewSeatIf isVacant
   view-open vacant = refl
-  view-open (holds k routes) = go (sameKey k c)
+  view-open (holds held) = go (sameKey (held .key) c)
     where
-      go : (t : Bool) → isOpen (viewSeatIf t c k routes) ≡ false
+      go : (t : Bool) → isOpen (viewSeatIf t c held) ≡ false
       go true = refl
       go false = refl
 
-  pub held-law : (key : Key) (room : Room) → find (isHeldBy c key) (map (viewSeat c) room) ≡ find (seatOf key) room
-  held-law key room = find-map (isHeldBy c key) (seatOf key) (viewSeat c) (view-held key) room
+  pub held-law : (key : Key) (room : Room) → find (isHeldBy c key) (map (viewSeat c) (room .seats)) ≡ find (seatOf key) (room .seats)
+  held-law key room = find-map (isHeldBy c key) (seatOf key) (viewSeat c) (view-held key) (room .seats)
 
-  pub open-law : (room : Room) → find isOpen (map (viewSeat c) room) ≡ find isVacant room
-  open-law room = find-map isOpen isVacant (viewSeat c) view-open room
+  pub open-law : (room : Room) → find isOpen (map (viewSeat c) (room .seats)) ≡ find isVacant (room .seats)
+  open-law room = find-map isOpen isVacant (viewSeat c) view-open (room .seats)
 
-  pub view-at : (room : Room) (seat : ℕ) → getD (map (viewSeat c) room) seat openSeat ≡ viewSeat c (seatAt room seat)
+  pub view-at : (room : Room) (seat : ℕ) → getD (map (viewSeat c) (room .seats)) seat openSeat ≡ viewSeat c (seatAt room seat)
   unfolding seatAt viewSeat
-  view-at room seat = List·getD-map (viewSeat c) room seat vacant
+  view-at room seat = List·getD-map (viewSeat c) (room .seats) seat vacant
 
   -- a seat of a key is C's where that key is C
   pub held-as : (key : Key) (s : Seat) → seatOf key s ≡ true → seatOf c s ≡ sameKey key c
   unfolding seatOf
   held-as key vacant h = absurd (false≢true h)
-  held-as key (holds k routes) h = ap (λ (x : Key). sameKey x c) (same-sound k key h)
+  held-as key (holds held) h = ap (λ (x : Key). sameKey x c) (same-sound (held .key) key h)
 
   own-routes : (s : Seat) → seatOf c s ≡ true → ownRoutes (viewSeat c s) ≡ routesOf s
   unfolding seatOf viewSeat viewSeatIf ownRoutes routesOf
   own-routes vacant h = refl
-  own-routes (holds k routes) h = rw h
+  own-routes (holds held) h = rw h
 
   names-law : (s : Seat) → namesC c (viewSeat c s) ≡ isFound (find (routeTo c) (routesOf s))
   unfolding namesC viewSeat viewSeatIf routesOf isFound find
   names-law vacant = refl
-  names-law (holds k routes) = go (sameKey k c)
+  names-law (holds held) = go (sameKey (held .key) c)
     where
-      go : (t : Bool) → namesC c (viewSeatIf t c k routes) ≡ isFound (find (routeTo c) routes)
+      go : (t : Bool) → namesC c (viewSeatIf t c held) ≡ isFound (find (routeTo c) (held .routes))
       go true = refl
       go false = refl
 
@@ -120,13 +120,13 @@ joined-found seat (at place) = refl
 
 pub connected-law : (c : Key) (room : Room) (seat : ℕ) (wanted : Key) → isConnected c (project c room) seat wanted ≡ isJoined (peer room seat c wanted)
 unfolding isConnected isConnectedIn project peer peerIn peerAt isJoined
-connected-law c room seat wanted = rw (held-law c wanted room) (go (find (seatOf wanted) room))
+connected-law c room seat wanted = rw (held-law c wanted room) (go (find (seatOf wanted) (room .seats)))
   where
-    on : (other : ℕ) (t : Bool) → cond t false (namesC c (getD (map (viewSeat c) room) other openSeat)) ≡ isJoined (peerAt t room c other)
+    on : (other : ℕ) (t : Bool) → cond t false (namesC c (getD (map (viewSeat c) (room .seats)) other openSeat)) ≡ isJoined (peerAt t room c other)
     on other true = refl
     on other false = rw (view-at c room other, names-law c (seatAt room other)) (joined-found other (find (routeTo c) (routesOf (seatAt room other))))
 
-    go : (f : Found) → isConnectedIn f c (map (viewSeat c) room) seat ≡ isJoined (peerIn f room seat c)
+    go : (f : Found) → isConnectedIn f c (project c room) seat ≡ isJoined (peerIn f room seat c)
     go none = refl
     go (at other) = on other (eqb seat other)
 
@@ -139,7 +139,7 @@ handedBy c room (s ∷ rest) = handedIf (seatOf c (seatAt room (s .seat))) (s .b
 pub client-seat : (c : Key) (s : Seat) → isClient c (clientIn s) ≡ seatOf c s
 unfolding isClient clientIn seatOf
 client-seat c vacant = refl
-client-seat c (holds k routes) = refl
+client-seat c (holds held) = refl
 
 -- the room says of it what has happened says
 pub handed-law : (start : Start) (past : Past) (room : Room) → Tied start past room → (c : Key) (sent : List Sent) → handed start past c sent ≡ handedBy c room sent
@@ -176,15 +176,15 @@ not-handed c room seat key wanted p h = go (peer room seat key wanted) refl
     go alone e = refl
     go (joined other place) e = rw (else-seat c room seat key wanted h other place e)
 
-pub found-held : (key : Key) (room : Room) (seat : ℕ) → find (seatOf key) room ≡ at seat → seatOf key (seatAt room seat) ≡ true
+pub found-held : (key : Key) (room : Room) (seat : ℕ) → find (seatOf key) (room .seats) ≡ at seat → seatOf key (seatAt room seat) ≡ true
 unfolding seatAt seatOf
-found-held key room seat e = find-hit (seatOf key) vacant room seat e
+found-held key room seat e = find-hit (seatOf key) vacant (room .seats) seat e
 
 -- another client's packet for C, under C's own number
-pub packet-law : (c : Key) (room : Room) (seat : ℕ) (key : Key) (routes : List Route) → seatAt room seat ≡ holds key routes → sameKey key c ≡ false
+pub packet-law : (c : Key) (room : Room) (seat : ℕ) (key : Key) (held : Held) → seatAt room seat ≡ holds (setKey held key) → sameKey key c ≡ false
     → (p : ℕ → relay.FromRelay) → packetAt p (placeOf c (project c room) key) ≡ handedBy c room (toPeer p (peer room seat key c))
 unfolding packetAt placeOf placeIf project peer peerIn peerAt joinedBy handedBy handedIf toPeer to seatOf
-packet-law c room seat key routes sits h p = rw (held-law c c room) (go (find (seatOf c) room) refl)
+packet-law c room seat key held sits h p = rw (held-law c c room) (go (find (seatOf c) (room .seats)) refl)
   where
     on : (other : ℕ) → seatOf c (seatAt room other) ≡ true → (f : Found) → packetAt p f ≡ handedBy c room (toPeer p (joinedBy other f))
     on other q none = refl
@@ -195,13 +195,13 @@ packet-law c room seat key routes sits h p = rw (held-law c c room) (go (find (s
     apart-by other q true e = absurd (true≢false (sym q ∙ ap (λ (i : ℕ). seatOf c (seatAt room i)) (sym (eqb-true seat other e)) ∙ ap (seatOf c) sits ∙ h))
     apart-by other q false e = rw (own-routes c (seatAt room other) q) (on other q (find (routeTo key) (routesOf (seatAt room other))))
 
-    go : (f : Found) → find (seatOf c) room ≡ f → packetAt p (placeIf f (map (viewSeat c) room) key) ≡ handedBy c room (toPeer p (peerIn f room seat key))
+    go : (f : Found) → find (seatOf c) (room .seats) ≡ f → packetAt p (placeIf f (project c room) key) ≡ handedBy c room (toPeer p (peerIn f room seat key))
     go none e = refl
     go (at other) e = rw (view-at c room other) (apart-by other (found-held c room other e) (eqb seat other) refl)
 
 -- ---- C in its own seat
 
-module _ (sizes : Sizes) (room : Room) (whole : Whole sizes room) (c : Key) (seat : ℕ) (routes : List Route) (sits : seatAt room seat ≡ holds c routes) where
+module _ (sizes : Sizes) (room : Room) (whole : Whole sizes room) (c : Key) (seat : ℕ) (held : Held) (sits : seatAt room seat ≡ holds (setKey held c)) where
   pub own-held : seatOf c (seatAt room seat) ≡ true
   unfolding seatOf
   own-held = rw sits (same-refl c)

@@ -6,12 +6,12 @@ use mathlib.Core.List.{List, [], _∷_}
 use mathlib.Core.Logic.{_↔_, _≢_}
 use Prim.Native.Nat.{ℕ, _-_}
 use native.Mathlib.Omega.{arith}
-use lib.ListN.{getD, set, replicate, length, length-set, length-replicate}
+use lib.ListN.{getD, length, length-set, length-replicate}
 use Rattle.packet.specs.Read.{Read}
 use Rattle.packet.specs.Read as read
 use Rattle.packet.specs.FromClient as client
 use Rattle.key.proofs.Same.{same-refl, same-sound}
-use Rattle.rules.specs.Room.{Sizes, Key, Route, free, wants, Seat, vacant, holds, Room, emptyRoom, Found, none, at, find, seatOf, isVacant, routeTo, isFree, seatAt, routeAt, firstNumber, numberOfPlace, Peer, alone, joined}
+use Rattle.rules.specs.Room.{Sizes, Key, Route, free, wants, Held, Seat, vacant, holds, Room, newcomer, setRoute, setSeat, emptyRoom, Found, none, at, find, seatOf, isVacant, routeTo, isFree, seatAt, routeAt, firstNumber, numberOfPlace, Peer, alone, joined}
 use Rattle.rules.specs.Whole.{Whole}
 use Rattle.rules.specs.Call.{Call, arrive, leave, packetCall}
 use Rattle.rules.specs.Outcome.{withRoute, apply, applyAll, refuse, accept, roomAfter, peer, arriveAt, leaveFrom, requestAt, dropAt, oobTo, carryTo, dataAt, act, actOn, packetFrom, outcome}
@@ -23,29 +23,29 @@ use Rattle.rules.proofs.FindLaws.{Once, find-miss, find-once, getD-all,
 -- what a whole room asks of one seat
 abbrev pub WholeSeat : Sizes → Seat → Type 0
 WholeSeat sizes vacant = Unit {0}
-WholeSeat sizes (holds key routes) = (length routes ≡ sizes .numbers) × ((wanted : Key) → Once (routeTo wanted) free routes)
+WholeSeat sizes (holds held) = (length (held .routes) ≡ sizes .numbers) × ((wanted : Key) → Once (routeTo wanted) free (held .routes))
 
 module _ (sizes : Sizes) (room : Room) (whole : Whole sizes room) where
-  pub key-once : (key : Key) → Once (seatOf key) vacant room
+  pub key-once : (key : Key) → Once (seatOf key) vacant (room .seats)
   unfolding seatAt
-  key-once key i j hi hj = whole .seated key i j _ _ (seat-of-holds key _ hi) (seat-of-holds key _ hj)
+  key-once key i j hi hj = whole .seated i j _ _ (seat-of-holds key _ hi) (seat-of-holds key _ hj) refl
 
-  module _ (seat : ℕ) (key : Key) (routes : List Route) (sits : seatAt room seat ≡ holds key routes) where
-    pub wanted-once : (other : Key) → Once (routeTo other) free routes
+  module _ (seat : ℕ) (held : Held) (sits : seatAt room seat ≡ holds held) where
+    pub wanted-once : (other : Key) → Once (routeTo other) free (held .routes)
     wanted-once other i j hi hj =
         let q : numberOfPlace i ≡ numberOfPlace j =
-        whole .wanted seat key routes sits other (numberOfPlace i) (numberOfPlace j) (route-at-place routes i ∙ route-to-wants other _ hi) (route-at-place routes j ∙ route-to-wants other _ hj)
+        whole .wanted seat held sits other (numberOfPlace i) (numberOfPlace j) (route-at-place (held .routes) i ∙ route-to-wants other _ hi) (route-at-place (held .routes) j ∙ route-to-wants other _ hj)
         in omega arith
 
     -- its key is found there
-    pub key-found : find (seatOf key) room ≡ at seat
+    pub key-found : find (seatOf (held .key)) (room .seats) ≡ at seat
     unfolding seatOf seatAt
-    key-found = find-once (seatOf key) vacant room seat refl (key-once key) (rw sits (same-refl key))
+    key-found = find-once (seatOf (held .key)) vacant (room .seats) seat refl (key-once (held .key)) (rw sits (same-refl (held .key)))
 
   -- clients in different seats have different keys, so "connected" could ask for either
-  pub seats-keys-differ : (i j : ℕ) (key key′ : Key) (routes routes′ : List Route) → seatAt room i ≡ holds key routes → seatAt room j ≡ holds key′ routes′ → (i ≢ j) ↔ (key ≢ key′)
-  seats-keys-differ i j key key′ routes routes′ hi hj = (
-    λ ne q. ne (whole .seated key i j routes routes′ hi (hj ∙ ap (λ (k : Key). holds k routes′) (sym q))),
+  pub seats-keys-differ : (i j : ℕ) (held held′ : Held) → seatAt room i ≡ holds held → seatAt room j ≡ holds held′ → (i ≢ j) ↔ (held .key ≢ held′ .key)
+  seats-keys-differ i j held held′ hi hj = (
+    λ ne q. ne (whole .seated i j held held′ hi hj q),
     λ ne q. ne (let h = ap (seatAt room) q in cc),
   )
 
@@ -54,19 +54,21 @@ module _ (sizes : Sizes) (room : Room) (whole : Whole sizes room) where
     where
       go : (s : Seat) → seatAt room seat ≡ s → WholeSeat sizes s
       go vacant e = tt
-      go (holds key routes) e = (whole .numbers seat key routes e, wanted-once seat key routes e)
+      go (holds held) e = (whole .numbers seat held e, wanted-once seat held e)
 
 module _ (sizes : Sizes) (room : Room) where
-  pub make-whole : length room ≡ sizes .seats → ((seat : ℕ) → WholeSeat sizes (seatAt room seat)) → ((key : Key) → Once (seatOf key) vacant room) → Whole sizes room
+  pub make-whole : length (room .seats) ≡ sizes .seats → ((seat : ℕ) → WholeSeat sizes (seatAt room seat)) → ((key : Key) → Once (seatOf key) vacant (room .seats)) → Whole sizes room
   unfolding seatAt seatOf routeTo
   make-whole long each once = record {
     seats = long;
-    numbers = λ seat key routes e. (rw e at (each seat)) .0;
-    seated = λ key i j routes routes′ ei ej. once key i j (rw ei (same-refl key)) (rw ej (same-refl key));
-    wanted = λ seat key routes e other i j hi hj.
-        (let pi = wanted-high routes i other hi in
-        let pj = wanted-high routes j other hj in
-        let q = (rw e at (each seat)) .1 other (i - firstNumber) (j - firstNumber) (rw (wanted-place routes i other hi) (same-refl other)) (rw (wanted-place routes j other hj) (same-refl other)) in
+    numbers = λ seat held e. (rw e at (each seat)) .0;
+    seated = λ i j held held′ ei ej q. once (held .key) i j (rw ei (same-refl (held .key))) (rw (ej, q) (same-refl (held′ .key)));
+    wanted = λ seat held e other i j hi hj.
+        (let pi = wanted-high (held .routes) i other hi in
+        let pj = wanted-high (held .routes) j other hj in
+        let q =
+        (rw e at (each seat)) .1 other (i - firstNumber) (j - firstNumber) (rw (wanted-place (held .routes) i other hi) (same-refl other))
+        (rw (wanted-place (held .routes) j other hj) (same-refl other)) in
         omega arith);
   }
 
@@ -82,51 +84,51 @@ whole-empty sizes =
 
 module _ (sizes : Sizes) (room : Room) (whole : Whole sizes room) where
   -- one seat is replaced
-  whole-set : (seat : ℕ) (s : Seat) → ((key : Key) → seatOf key s ≡ true → (j : ℕ) → seatOf key (getD room j vacant) ≡ true → j ≡ seat)
-      → WholeSeat sizes s → Whole sizes (set room seat s)
+  whole-set : (seat : ℕ) (s : Seat) → ((key : Key) → seatOf key s ≡ true → (j : ℕ) → seatOf key (getD (room .seats) j vacant) ≡ true → j ≡ seat)
+      → WholeSeat sizes s → Whole sizes (setSeat room seat s)
   unfolding seatAt
   whole-set seat s only good =
-      make-whole sizes (set room seat s) (length-set room seat s ∙ whole .seats) (set-all (WholeSeat sizes) vacant room seat s good (whole-seat sizes room whole))
-      (λ key. once-set (seatOf key) vacant room seat s (key-once sizes room whole key) (only key))
+      make-whole sizes (setSeat room seat s) (length-set (room .seats) seat s ∙ whole .seats) (set-all (WholeSeat sizes) vacant (room .seats) seat s good (whole-seat sizes room whole))
+      (λ key. once-set (seatOf key) vacant (room .seats) seat s (key-once sizes room whole key) (only key))
 
-  whole-arrive : (key : Key) (seated empty : Found) → find (seatOf key) room ≡ seated → Whole sizes (roomAfter sizes room (arriveAt seated empty key))
+  whole-arrive : (key : Key) (seated empty : Found) → find (seatOf key) (room .seats) ≡ seated → Whole sizes (roomAfter sizes room (arriveAt seated empty key))
   unfolding roomAfter applyAll apply arriveAt refuse accept seatOf routeTo
   whole-arrive key (at i) empty e = whole
   whole-arrive key none none e = whole
   whole-arrive key none (at seat) e =
-      whole-set seat (holds key (replicate (sizes .numbers) free))
-      (λ k h j hj. absurd (true≢false (sym hj ∙ subst (λ (x : Key). seatOf x (getD room j vacant) ≡ false) (same-sound key k h) (find-miss (seatOf key) vacant room refl e j))))
+      whole-set seat (holds (newcomer sizes key))
+      (λ k h j hj. absurd (true≢false (sym hj ∙ subst (λ (x : Key). seatOf x (getD (room .seats) j vacant) ≡ false) (same-sound key k h) (find-miss (seatOf key) vacant (room .seats) refl e j))))
       (length-replicate (sizes .numbers) free, λ w i j h. absurd (false≢true (sym (ap (routeTo w) (getD-all (sizes .numbers) i free)) ∙ h)))
 
   whole-leave : (seat : ℕ) (s : Seat) → Whole sizes (roomAfter sizes room (leaveFrom s room seat))
   unfolding roomAfter applyAll apply leaveFrom refuse accept seatOf
   whole-leave seat vacant = whole
-  whole-leave seat (holds key routes) = whole-set seat vacant (λ k h. absurd (false≢true h)) tt
+  whole-leave seat (holds held) = whole-set seat vacant (λ k h. absurd (false≢true h)) tt
 
-  module _ (seat : ℕ) (key : Key) (routes : List Route) (sits : seatAt room seat ≡ holds key routes) where
+  module _ (seat : ℕ) (held : Held) (sits : seatAt room seat ≡ holds held) where
     -- one of its routes is replaced
-    whole-route : (place : ℕ) (route : Route) → ((w : Key) → routeTo w route ≡ true → (j : ℕ) → routeTo w (getD routes j free) ≡ true → j ≡ place)
-        → Whole sizes (set room seat (withRoute (seatAt room seat) place route))
+    whole-route : (place : ℕ) (route : Route) → ((w : Key) → routeTo w route ≡ true → (j : ℕ) → routeTo w (getD (held .routes) j free) ≡ true → j ≡ place)
+        → Whole sizes (setSeat room seat (withRoute (seatAt room seat) place route))
     unfolding withRoute seatOf seatAt
     whole-route place route only =
         rw sits
-        (whole-set seat (holds key (set routes place route)) (λ k h j hj. key-once sizes room whole k j seat hj (rw sits h))
-        (length-set routes place route ∙ whole .numbers seat key routes sits, λ w. once-set (routeTo w) free routes place route (wanted-once sizes room whole seat key routes sits w) (only w)))
+        (whole-set seat (holds (setRoute held place route)) (λ k h j hj. key-once sizes room whole k j seat hj (rw sits h))
+        (length-set (held .routes) place route ∙ whole .numbers seat held sits, λ w. once-set (routeTo w) free (held .routes) place route (wanted-once sizes room whole seat held sits w) (only w)))
 
-    whole-request : (wanted : Key) (held lowest : Found) → find (routeTo wanted) routes ≡ held → Whole sizes (roomAfter sizes room (requestAt held lowest room seat key wanted))
+    whole-request : (wanted : Key) (old lowest : Found) → find (routeTo wanted) (held .routes) ≡ old → Whole sizes (roomAfter sizes room (requestAt old lowest room seat (held .key) wanted))
     unfolding roomAfter applyAll apply requestAt accept routeTo
     whole-request wanted (at place) lowest e = whole
     whole-request wanted none none e = whole
     whole-request wanted none (at place) e =
         whole-route place (wants wanted)
-        (λ w h j hj. absurd (true≢false (sym hj ∙ subst (λ (x : Key). routeTo x (getD routes j free) ≡ false) (same-sound wanted w h) (find-miss (routeTo wanted) free routes refl e j))))
+        (λ w h j hj. absurd (true≢false (sym hj ∙ subst (λ (x : Key). routeTo x (getD (held .routes) j free) ≡ false) (same-sound wanted w h) (find-miss (routeTo wanted) free (held .routes) refl e j))))
 
-    whole-drop : (number : ℕ) (route : Route) → Whole sizes (roomAfter sizes room (dropAt route room seat key number))
+    whole-drop : (number : ℕ) (route : Route) → Whole sizes (roomAfter sizes room (dropAt route room seat (held .key) number))
     unfolding roomAfter applyAll apply dropAt accept refuse routeTo
     whole-drop number free = whole
     whole-drop number (wants wanted) = whole-route (number - firstNumber) free (λ w h. absurd (false≢true h))
 
-    whole-oob : (other : Found) (bytes : List ℕ) → Whole sizes (roomAfter sizes room (oobTo other seat key bytes))
+    whole-oob : (other : Found) (bytes : List ℕ) → Whole sizes (roomAfter sizes room (oobTo other seat (held .key) bytes))
     unfolding roomAfter applyAll oobTo accept
     whole-oob none bytes = whole
     whole-oob (at other) bytes = whole
@@ -136,21 +138,21 @@ module _ (sizes : Sizes) (room : Room) (whole : Whole sizes room) where
     whole-carry alone bytes = whole
     whole-carry (joined other place) bytes = whole
 
-    whole-data : (route : Route) (bytes : List ℕ) → Whole sizes (roomAfter sizes room (dataAt route room seat key bytes))
+    whole-data : (route : Route) (bytes : List ℕ) → Whole sizes (roomAfter sizes room (dataAt route room seat (held .key) bytes))
     unfolding roomAfter applyAll dataAt refuse
     whole-data free bytes = whole
-    whole-data (wants wanted) bytes = whole-carry (peer room seat key wanted) bytes
+    whole-data (wants wanted) bytes = whole-carry (peer room seat (held .key) wanted) bytes
 
-    whole-act : (p : client.FromClient) → Whole sizes (roomAfter sizes room (act p room seat key routes))
+    whole-act : (p : client.FromClient) → Whole sizes (roomAfter sizes room (act p room seat held))
     unfolding roomAfter applyAll act accept
-    whole-act (client.routingRequest wanted) = whole-request wanted (find (routeTo wanted) routes) (find isFree routes) refl
-    whole-act (client.dropRoute number) = whole-drop number (routeAt routes number)
+    whole-act (client.routingRequest wanted) = whole-request wanted (find (routeTo wanted) (held .routes)) (find isFree (held .routes)) refl
+    whole-act (client.dropRoute number) = whole-drop number (routeAt (held .routes) number)
     whole-act (client.ping n) = whole
     whole-act (client.pong n) = whole
-    whole-act (client.oobSend wanted bytes) = whole-oob (find (seatOf wanted) room) bytes
-    whole-act (client.routedData number bytes) = whole-data (routeAt routes number) bytes
+    whole-act (client.oobSend wanted bytes) = whole-oob (find (seatOf wanted) (room .seats)) bytes
+    whole-act (client.routedData number bytes) = whole-data (routeAt (held .routes) number) bytes
 
-    whole-read : (r : Read client.FromClient) → Whole sizes (roomAfter sizes room (actOn r room seat key routes))
+    whole-read : (r : Read client.FromClient) → Whole sizes (roomAfter sizes room (actOn r room seat held))
     unfolding roomAfter applyAll actOn refuse
     whole-read (read.packet p) = whole-act p
     whole-read (read.refused why) = whole
@@ -158,12 +160,12 @@ module _ (sizes : Sizes) (room : Room) (whole : Whole sizes room) where
   whole-packet : (seat : ℕ) (bytes : List ℕ) (s : Seat) → seatAt room seat ≡ s → Whole sizes (roomAfter sizes room (packetFrom s room seat bytes))
   unfolding roomAfter applyAll packetFrom refuse
   whole-packet seat bytes vacant e = whole
-  whole-packet seat bytes (holds key routes) e = whole-read seat key routes e (client.relayRead bytes)
+  whole-packet seat bytes (holds held) e = whole-read seat held e (client.relayRead bytes)
 
   -- every call leaves a whole room whole
   pub whole-after : (call : Call) → Whole sizes (roomAfter sizes room (outcome room call))
   unfolding outcome
-  whole-after (arrive key) = whole-arrive key (find (seatOf key) room) (find isVacant room) refl
+  whole-after (arrive key) = whole-arrive key (find (seatOf key) (room .seats)) (find isVacant (room .seats)) refl
   whole-after (leave seat) = whole-leave seat (seatAt room seat)
   whole-after (packetCall seat bytes) = whole-packet seat bytes (seatAt room seat) refl
 

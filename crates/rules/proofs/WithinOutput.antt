@@ -1,4 +1,4 @@
--- No call writes more than 2,048 bytes: document 01's bound for lent output, "under 2,048 for packet and leave". In a whole room of at most 240 numbers, whose
+-- No call writes more than the output that it needs: document 01's bound for lent output, "under 2,048 for packet and leave". In a whole room of at most 240 numbers, whose
 -- seated keys have 32 bytes at most, a leave writes 5 bytes for each connected peer, a request 37, and 10 more where it connects, a drop 5, a ping 12, an
 -- out-of-band send 1,060 at most, data 2,035 at most, and an arrival nothing. So output that document 01 asks for is never too short. And the seated keys stay
 -- so over every call, where one who arrives has such a key. Assumes nothing.
@@ -16,9 +16,9 @@ use Rattle.packet.specs.FromClient as client
 use Rattle.packet.specs.FromClient.{Within}
 use Rattle.packet.specs.FromRelay as relay
 use Rattle.packet.proofs.ReadBounds.{read-within}
-use Rattle.rules.specs.Room.{Sizes, Key, Route, free, wants, Seat, vacant, holds, Room, Found, none, at, find, seatOf, routeTo, isFree, seatAt, routeAt, numberOfPlace, Peer, alone, joined}
+use Rattle.rules.specs.Room.{Sizes, Key, Route, free, wants, Seat, vacant, holds, Room, Found, none, at, find, seatOf, routeTo, isFree, seatAt, routeAt, numberOfPlace, Peer, alone, joined, Held}
 use Rattle.rules.specs.Whole.{Whole, ShortKeys}
-use Rattle.rules.specs.Call.{Call, arrive, leave, packetCall, Answer, accepted, refused, Sent}
+use Rattle.rules.specs.Call.{Call, arrive, leave, packetCall, needed, mostNeeded, Answer, accepted, refused, Sent}
 use Rattle.rules.specs.Outcome.{refuse, accept, sentBytes, roomAfter, peer, toPeer, to, tellPeer, tellPeers, leaveFrom, tellBoth, requestAt, dropAt, oobTo, carryTo, dataAt, act, actOn, packetFrom, outcome}
 use Rattle.rules.specs.History.{event}
 use Rattle.rules.specs.Transcript.{Maker, nobody, clientOf, isAccepted, sitsAfter, sitsAfterArrival, sitter}
@@ -66,7 +66,7 @@ module _ (room : Room) where
       let g = tell-within seat key route in
       omega (arith, count-append (tellPeer room seat key route) (tellPeers room seat key routes))
 
-  request-within : (held lowest : Found) (seat : ℕ) (key wanted : Key) → length wanted ≡ 32 → size (requestAt held lowest room seat key wanted .sent) ≤ 47
+  request-within : (old lowest : Found) (seat : ℕ) (key wanted : Key) → length wanted ≡ 32 → size (requestAt old lowest room seat key wanted .sent) ≤ 47
   unfolding requestAt accept to relay.relayBytes
   request-within (at place) lowest seat key wanted l = omega (arith, count-one (to seat (relay.routingResponse (numberOfPlace place) wanted)))
   request-within none none seat key wanted l = omega (arith, count-one (to seat (relay.routingResponse 0 wanted)))
@@ -95,39 +95,44 @@ module _ (room : Room) where
   data-within free seat key bytes l = none-within _
   data-within (wants wanted) seat key bytes l = carry-within (peer room seat key wanted) seat bytes l
 
-  act-within : (p : client.FromClient) → Within p → (seat : ℕ) (key : Key) (routes : List Route) → length key ≤ 32 → size (act p room seat key routes .sent) ≤ 2048
+  act-within : (p : client.FromClient) → Within p → (seat : ℕ) (held : Held) → length (held .key) ≤ 32 → size (act p room seat held .sent) ≤ 2035
   unfolding act accept to relay.relayBytes Within
-  act-within (client.routingRequest wanted) w seat key routes k =
-      let h = request-within (find (routeTo wanted) routes) (find isFree routes) seat key wanted w in omega arith
-  act-within (client.dropRoute number) w seat key routes k = let h = drop-within (routeAt routes number) seat key number in omega arith
-  act-within (client.ping n) w seat key routes k = omega (arith, count-one (to seat (relay.pong n)), length-bytesOf 8 n)
-  act-within (client.pong n) w seat key routes k = none-within _
-  act-within (client.oobSend wanted bytes) w seat key routes k = let h = oob-within (find (seatOf wanted) room) seat key bytes k (w .1) in omega arith
-  act-within (client.routedData number bytes) w seat key routes k = let h = data-within (routeAt routes number) seat key bytes (w .1) in omega arith
+  act-within (client.routingRequest wanted) w seat held k =
+      let h = request-within (find (routeTo wanted) (held .routes)) (find isFree (held .routes)) seat (held .key) wanted w in omega arith
+  act-within (client.dropRoute number) w seat held k = let h = drop-within (routeAt (held .routes) number) seat (held .key) number in omega arith
+  act-within (client.ping n) w seat held k = omega (arith, count-one (to seat (relay.pong n)), length-bytesOf 8 n)
+  act-within (client.pong n) w seat held k = none-within _
+  act-within (client.oobSend wanted bytes) w seat held k = let h = oob-within (find (seatOf wanted) (room .seats)) seat (held .key) bytes k (w .1) in omega arith
+  act-within (client.routedData number bytes) w seat held k = let h = data-within (routeAt (held .routes) number) seat (held .key) bytes (w .1) in omega arith
 
-  acted-within : (bytes : List ℕ) (r : Read client.FromClient) → client.relayRead bytes ≡ r → (seat : ℕ) (key : Key) (routes : List Route) → length key ≤ 32
-      → size (actOn r room seat key routes .sent) ≤ 2048
+  acted-within : (bytes : List ℕ) (r : Read client.FromClient) → client.relayRead bytes ≡ r → (seat : ℕ) (held : Held) → length (held .key) ≤ 32
+      → size (actOn r room seat held .sent) ≤ 2035
   unfolding actOn refuse
-  acted-within bytes (read.packet p) e seat key routes k = act-within p (read-within bytes p e) seat key routes k
-  acted-within bytes (read.refused why) e seat key routes k = none-within _
+  acted-within bytes (read.packet p) e seat held k = act-within p (read-within bytes p e) seat held k
+  acted-within bytes (read.refused why) e seat held k = none-within _
 
 module _ (sizes : Sizes) (few : sizes .numbers ≤ 240) (room : Room) (whole : Whole sizes room) (keys : ShortKeys room) where
-  leave-within : (seat : ℕ) (x : Seat) → seatAt room seat ≡ x → size (leaveFrom x room seat .sent) ≤ 2048
+  leave-within : (seat : ℕ) (x : Seat) → seatAt room seat ≡ x → size (leaveFrom x room seat .sent) ≤ 1200
   unfolding leaveFrom refuse accept
   leave-within seat vacant e = none-within _
-  leave-within seat (holds key routes) e = omega (arith, tells-within room seat key routes, whole .numbers seat key routes e)
+  leave-within seat (holds held) e = omega (arith, tells-within room seat (held .key) (held .routes), whole .numbers seat held e)
 
-  packet-within : (seat : ℕ) (bytes : List ℕ) (x : Seat) → seatAt room seat ≡ x → size (packetFrom x room seat bytes .sent) ≤ 2048
+  packet-within : (seat : ℕ) (bytes : List ℕ) (x : Seat) → seatAt room seat ≡ x → size (packetFrom x room seat bytes .sent) ≤ 2035
   unfolding packetFrom refuse
   packet-within seat bytes vacant e = none-within _
-  packet-within seat bytes (holds key routes) e = acted-within room bytes (client.relayRead bytes) refl seat key routes (keys seat key routes e)
+  packet-within seat bytes (holds held) e = acted-within room bytes (client.relayRead bytes) refl seat held (keys seat held e)
 
   -- THE LAW
-  pub sent-within : (call : Call) → length (sentBytes (outcome room call .sent)) ≤ 2048
+  pub sent-within : (call : Call) → length (sentBytes (outcome room call .sent)) ≤ needed call
   unfolding outcome
   sent-within (arrive key) = omega (arith, ap size (arrive-sends-nothing room key), none-within 0)
-  sent-within (leave seat) = leave-within seat (seatAt room seat) refl
-  sent-within (packetCall seat bytes) = packet-within seat bytes (seatAt room seat) refl
+  sent-within (leave seat) = omega (arith, leave-within seat (seatAt room seat) refl)
+  sent-within (packetCall seat bytes) = omega (arith, packet-within seat bytes (seatAt room seat) refl)
+
+pub needs-within : (call : Call) → needed call ≤ mostNeeded
+needs-within (arrive key) = omega arith
+needs-within (leave seat) = omega arith
+needs-within (packetCall seat bytes) = omega arith
 
 -- ---- the keys stay short
 
@@ -151,10 +156,10 @@ sits-short (packetCall seat bytes) answer here before k h = h
 pub keys-stay-short : (sizes : Sizes) (room : Room) → Whole sizes room → ShortKeys room → (call : Call) → ((key : Key) → call ≡ arrive key → length key ≤ 32)
     → ShortKeys (roomAfter sizes room (outcome room call))
 unfolding clientIn startOf sitter event
-keys-stay-short sizes room whole keys call k seat key routes e =
+keys-stay-short sizes room whole keys call k seat held e =
     let t = tied-after sizes (startOf room) [] room whole (tied-start room) call .sits seat in
     subst ShortOf (t ∙ ap clientIn e) (sits-short call (outcome room call .answer) seat (clientIn (seatAt room seat)) k (before (seatAt room seat) refl))
   where
     before : (x : Seat) → seatAt room seat ≡ x → ShortOf (clientIn x)
     before vacant q = tt
-    before (holds key′ routes′) q = keys seat key′ routes′ q
+    before (holds held′) q = keys seat held′ q

@@ -22,7 +22,7 @@ pastAfter past (e ∷ events) = pastAfter (e ∷ past) events
 -- who sits in a seat, by the table
 unfoldable pub clientIn : Seat → Maker
 clientIn vacant = nobody
-clientIn (holds key routes) = clientOf key
+clientIn (holds held) = clientOf (held .key)
 
 -- the routes of a client, by the table: none where it is not seated
 unfoldable pub routesIn : Found → Room → List Route
@@ -30,7 +30,7 @@ routesIn none room = []
 routesIn (at seat) room = routesOf (seatAt room seat)
 
 unfoldable pub routesBy : Room → Key → List Route
-routesBy room key = routesIn (find (seatOf key) room) room
+routesBy room key = routesIn (find (seatOf key) (room .seats)) room
 
 -- the room and the past say the same
 pub record Tied (start : Start) (past : Past) (room : Room) : Type 0 where

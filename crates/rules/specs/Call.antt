@@ -17,6 +17,16 @@ KeyOf32 (arrive key) = length key ≡ 32
 KeyOf32 (leave seat) = Unit {0}
 KeyOf32 (packetCall seat bytes) = Unit {0}
 
+-- the output that a call needs: "lent output too short: under 2,048 for packet and leave"; an Arrive "writes nothing"
+abbrev pub needed : Call → ℕ
+needed (arrive key) = 0
+needed (leave seat) = 2048
+needed (packetCall seat bytes) = 2048
+
+-- no call needs more
+abbrev pub mostNeeded : ℕ
+mostNeeded = 2048
+
 -- an accepted call answers a seat and how many bytes it wrote. An Arrive's seat is the one it takes, and its count 0; document 01 has no seat in the answer
 -- of a Leave or a packet: there it is the call's own
 pub data Answer : Type 0 where

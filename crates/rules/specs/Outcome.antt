@@ -4,7 +4,7 @@ use mathlib.Core.Bool.{Bool, true, false}
 use mathlib.Core.List.{List, [], _∷_, _++_}
 use Prim.Native.Nat.{ℕ, _+_, _-_}
 use lib.Dec.{eqb}
-use lib.ListN.{length, set, replicate}
+use lib.ListN.{length}
 use Rattle.refusal.specs.declared.Refusal.{Refusal}
 use Rattle.refusal.specs.declared.Refusal.the-variants.{RoomFull, AlreadySeated, NotSeated, NoSuchRoute, NotConnected}
 use Rattle.wire.specs.Numbers.{bytesOf}
@@ -12,7 +12,7 @@ use Rattle.packet.specs.Read.{Read}
 use Rattle.packet.specs.Read as read
 use Rattle.packet.specs.FromClient as client
 use Rattle.packet.specs.FromRelay as relay
-use Rattle.rules.specs.Room.{Sizes, Key, Route, free, wants, Seat, vacant, holds, Room, Found, none, at, find, seatOf, isVacant, routeTo, isFree, routesOf, seatAt, routeAt, firstNumber, numberOfPlace, Peer, alone, joined}
+use Rattle.rules.specs.Room.{Sizes, Key, Route, free, wants, Held, Seat, vacant, holds, Room, newcomer, setRoute, setSeat, Found, none, at, find, seatOf, isVacant, routeTo, isFree, routesOf, seatAt, routeAt, firstNumber, numberOfPlace, Peer, alone, joined}
 use Rattle.rules.specs.Call.{Call, arrive, leave, packetCall, Answer, accepted, refused, Sent}
 
 -- ---- changes
@@ -27,13 +27,13 @@ pub data Change : Type 0 where
 -- a seat with one of its routes replaced
 unfoldable pub withRoute : Seat → ℕ → Route → Seat
 withRoute vacant place route = vacant
-withRoute (holds key routes) place route = holds key (set routes place route)
+withRoute (holds held) place route = holds (setRoute held place route)
 
 unfoldable pub apply : Sizes → Room → Change → Room
-apply sizes room (seatTaken seat key) = set room seat (holds key (replicate (sizes .numbers) free))
-apply sizes room (seatEmptied seat) = set room seat vacant
-apply sizes room (routeGiven seat place key) = set room seat (withRoute (seatAt room seat) place (wants key))
-apply sizes room (routeFreed seat place) = set room seat (withRoute (seatAt room seat) place free)
+apply sizes room (seatTaken seat key) = setSeat room seat (holds (newcomer sizes key))
+apply sizes room (seatEmptied seat) = setSeat room seat vacant
+apply sizes room (routeGiven seat place key) = setSeat room seat (withRoute (seatAt room seat) place (wants key))
+apply sizes room (routeFreed seat place) = setSeat room seat (withRoute (seatAt room seat) place free)
 
 unfoldable pub applyAll : Sizes → Room → List Change → Room
 applyAll sizes room [] = room
@@ -95,7 +95,7 @@ peerIn none room seat key = alone
 peerIn (at other) room seat key = peerAt (eqb seat other) room key other
 
 unfoldable pub peer : Room → ℕ → Key → Key → Peer
-peer room seat key wanted = peerIn (find (seatOf wanted) room) room seat key
+peer room seat key wanted = peerIn (find (seatOf wanted) (room .seats)) room seat key
 
 -- one packet for a connected peer, under the peer's own number
 unfoldable pub toPeer : (ℕ → relay.FromRelay) → Peer → List Sent
@@ -122,9 +122,9 @@ tellPeers room seat key (route ∷ routes) = tellPeer room seat key route ++ tel
 
 unfoldable pub leaveFrom : Seat → Room → ℕ → Outcome
 leaveFrom vacant room seat = refuse NotSeated
-leaveFrom (holds key routes) room seat = accept seat (seatEmptied seat ∷ []) (tellPeers room seat key routes)
+leaveFrom (holds held) room seat = accept seat (seatEmptied seat ∷ []) (tellPeers room seat (held .key) (held .routes))
 
--- ---- the packets of a client at `seat`, with its key and its routes
+-- ---- the packets of a client at `seat`
 
 -- "connected is sent to the asker, then to the peer, each with its own number"
 unfoldable pub tellBoth : ℕ → ℕ → Peer → List Sent
@@ -161,25 +161,25 @@ unfoldable pub dataAt : Route → Room → ℕ → Key → List ℕ → Outcome
 dataAt free room seat key bytes = refuse NoSuchRoute
 dataAt (wants wanted) room seat key bytes = carryTo (peer room seat key wanted) seat bytes
 
-unfoldable pub act : client.FromClient → Room → ℕ → Key → List Route → Outcome
-act (client.routingRequest wanted) room seat key routes = requestAt (find (routeTo wanted) routes) (find isFree routes) room seat key wanted
-act (client.dropRoute number) room seat key routes = dropAt (routeAt routes number) room seat key number
+unfoldable pub act : client.FromClient → Room → ℕ → Held → Outcome
+act (client.routingRequest wanted) room seat held = requestAt (find (routeTo wanted) (held .routes)) (find isFree (held .routes)) room seat (held .key) wanted
+act (client.dropRoute number) room seat held = dropAt (routeAt (held .routes) number) room seat (held .key) number
 -- "Ping sends the asker a pong with the same number. Pong does nothing."
-act (client.ping n) room seat key routes = accept seat [] (to seat (relay.pong n) ∷ [])
-act (client.pong n) room seat key routes = accept seat [] []
-act (client.oobSend wanted bytes) room seat key routes = oobTo (find (seatOf wanted) room) seat key bytes
-act (client.routedData number bytes) room seat key routes = dataAt (routeAt routes number) room seat key bytes
+act (client.ping n) room seat held = accept seat [] (to seat (relay.pong n) ∷ [])
+act (client.pong n) room seat held = accept seat [] []
+act (client.oobSend wanted bytes) room seat held = oobTo (find (seatOf wanted) (room .seats)) seat (held .key) bytes
+act (client.routedData number bytes) room seat held = dataAt (routeAt (held .routes) number) room seat (held .key) bytes
 
-unfoldable pub actOn : Read client.FromClient → Room → ℕ → Key → List Route → Outcome
-actOn (read.packet p) room seat key routes = act p room seat key routes
-actOn (read.refused why) room seat key routes = refuse why
+unfoldable pub actOn : Read client.FromClient → Room → ℕ → Held → Outcome
+actOn (read.packet p) room seat held = act p room seat held
+actOn (read.refused why) room seat held = refuse why
 
 -- "Order for a packet call: 10, 11, 3, 4, 5, 6, 7, 8, 9": the seat, then what the relay reads, then the act
 unfoldable pub packetFrom : Seat → Room → ℕ → List ℕ → Outcome
 packetFrom vacant room seat bytes = refuse NotSeated
-packetFrom (holds key routes) room seat bytes = actOn (client.relayRead bytes) room seat key routes
+packetFrom (holds held) room seat bytes = actOn (client.relayRead bytes) room seat held
 
 unfoldable pub outcome : Room → Call → Outcome
-outcome room (arrive key) = arriveAt (find (seatOf key) room) (find isVacant room) key
+outcome room (arrive key) = arriveAt (find (seatOf key) (room .seats)) (find isVacant (room .seats)) key
 outcome room (leave seat) = leaveFrom (seatAt room seat) room seat
 outcome room (packetCall seat bytes) = packetFrom (seatAt room seat) room seat bytes

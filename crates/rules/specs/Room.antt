@@ -5,8 +5,9 @@ use mathlib.Core.Bool.{Bool, true, false, cond}
 use mathlib.Core.List.{List, [], _∷_}
 use Prim.Native.Nat.{ℕ, suc, _+_, _-_}
 use lib.Dec.{ltb}
-use lib.ListN.{getD, replicate}
+use lib.ListN.{getD, set, replicate}
 use Rattle.key.specs.Keys.{sameKey}
+pub use Rattle.packet.specs.Table.{firstNumber}
 
 pub record Sizes : Type 0 where
   pub seats : ℕ
@@ -28,15 +29,44 @@ pub data Route : Type 0 where
   free : Route
   wants : Key → Route
 
+-- what a seat holds that is not empty: "one key and 32 routes"
+pub record Held : Type 0 where
+  pub key : Key
+  pub routes : List Route
+
 pub data Seat : Type 0 where
   vacant : Seat
-  holds : Key → List Route → Seat
+  holds : Held → Seat
 
-abbrev pub Room : Type 0
-Room = List Seat
+pub record Room : Type 0 where
+  pub seats : List Seat
+
+-- The constructors of these two records stand here and where a room is read from bytes (`room`, `View.antt`), and nowhere else: laws and the rest of the
+-- definitions go through the fields and through these functions, so that a field more changes nothing where it is not read.
+
+-- a key that has just arrived: every route is free
+abbrev pub newcomer : Sizes → Key → Held
+newcomer sizes key = record { key = key; routes = replicate (sizes .numbers) free }
+
+-- with its key replaced; with its routes, and with one of them
+abbrev pub setKey : Held → Key → Held
+setKey held key = record { key = key; routes = held .routes }
+
+abbrev pub setRoutes : Held → List Route → Held
+setRoutes held routes = record { key = held .key; routes = routes }
+
+abbrev pub setRoute : Held → ℕ → Route → Held
+setRoute held place route = setRoutes held (set (held .routes) place route)
+
+-- a room with its seats replaced, and with one of them
+abbrev pub setSeats : Room → List Seat → Room
+setSeats room seats = record { seats = seats }
+
+abbrev pub setSeat : Room → ℕ → Seat → Room
+setSeat room seat s = setSeats room (set (room .seats) seat s)
 
 unfoldable pub emptyRoom : Sizes → Room
-emptyRoom sizes = replicate (sizes .seats) vacant
+emptyRoom sizes = record { seats = replicate (sizes .seats) vacant }
 
 -- ---- looking things up
 
@@ -57,11 +87,11 @@ find test (x ∷ xs) = orLater (test x) (find test xs)
 
 unfoldable pub seatOf : Key → Seat → Bool
 seatOf key vacant = false
-seatOf key (holds k routes) = sameKey k key
+seatOf key (holds held) = sameKey (held .key) key
 
 unfoldable pub isVacant : Seat → Bool
 isVacant vacant = true
-isVacant (holds k routes) = false
+isVacant (holds held) = false
 
 unfoldable pub routeTo : Key → Route → Bool
 routeTo key free = false
@@ -73,15 +103,11 @@ isFree (wants k) = false
 
 unfoldable pub routesOf : Seat → List Route
 routesOf vacant = []
-routesOf (holds k routes) = routes
+routesOf (holds held) = held .routes
 
 -- a seat by its number; "seat above 39, or empty" is vacant
 unfoldable pub seatAt : Room → ℕ → Seat
-seatAt room seat = getD room seat vacant
-
--- route numbers begin at 16
-abbrev pub firstNumber : ℕ
-firstNumber = 16
+seatAt room seat = getD (room .seats) seat vacant
 
 abbrev pub numberOfPlace : ℕ → ℕ
 numberOfPlace place = firstNumber + place

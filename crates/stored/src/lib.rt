@@ -5,7 +5,7 @@
 ghost use mathlib.Core.Path.{_≡_};
 ghost use Rattle.stored.specs.Stored.{firstCall, formed, shownFirst};
 use key::Key;
-use room::Seat;
+use seat::Seat;
 
 // The bytes before those that the call is given.
 pub const HEAD: usize = 4;

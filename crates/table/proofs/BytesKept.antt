@@ -1,4 +1,4 @@
--- The stores keep bytes: what was a list of bytes is one after a place is put in use or freed.
+-- The stores keep bytes: what was a list of bytes is one after a place is put in use or freed, or part of its record overwritten.
 use mathlib.Core.Path.{_≡_, refl}
 use mathlib.Core.Bool.{Bool, true, false, _&&_, cond}
 use mathlib.Core.List.{List, [], _∷_, _++_}
@@ -8,8 +8,11 @@ use lib.Dec.{ltb, leb}
 use lib.ListN.{length, take, drop}
 use Rattle.wire.specs.Numbers.{Bytes}
 use Rattle.wire.proofs.Numbers.{bytes-append, bytes-take, bytes-drop, bytes-getD}
-use Rattle.table.specs.Bytes.{splice, indexOf, insertAt, removeAt}
+use Rattle.lists.specs.Insert.{insertAt, removeAt}
+use Rattle.lists.specs.Find.{indexOf}
+use Rattle.table.specs.Bytes.{splice}
 use Rattle.table.specs.Table.{count, order, records, listed, placeOf, entered, closed, put, mayPut, putIn, unlisted, freed, freedIn}
+use Rattle.table.specs.Table.{refilled, mayOverwrite, overwrittenIn}
 use Rattle.table.proofs.FitsLaws.{may-facts}
 
 bytes-insert : (i n : ℕ) (l : List ℕ) → n < 256 → Bytes l → Bytes (insertAt i n l)
@@ -75,4 +78,12 @@ module _ (p : ℕ) (b : List ℕ) (g : Bytes b) where
 
       go : (u : Bool) → Bytes (cond u (freed p b n) b)
       go true = one (ltb (indexOf n (listed p b)) (count b))
+      go false = g
+
+  pub overwritten-in-bytes : (w n at : ℕ) (new : List ℕ) → Bytes new → Bytes (overwrittenIn p w b n at new)
+  unfolding overwrittenIn refilled
+  overwritten-in-bytes w n at new h = go (mayOverwrite p w b n at new)
+    where
+      go : (u : Bool) → Bytes (cond u (refilled p w b n at new) b)
+      go true = bytes-splice b (1 + p + n * w + at) new (length new) g h
       go false = g

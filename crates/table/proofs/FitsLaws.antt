@@ -1,14 +1,15 @@
 -- When bytes are as long as a table: the test, its single checks, and what follows from it.
-use mathlib.Core.Path.{_≡_, _∙_}
-use mathlib.Core.Bool.{true, false, and-false}
+use mathlib.Core.Path.{_≡_, sym, _∙_}
+use mathlib.Core.Bool.{Bool, true, false, not, and-false}
 use mathlib.Core.List.{List}
-use Prim.Native.Nat.{ℕ, _*_, _≤_, _<_}
+use Prim.Native.Nat.{ℕ, _+_, _*_, _≤_, _<_}
 use native.Mathlib.Nat.{mul-le-mul}
 use lib.ListN.{length, replicate}
 use lib.Dec.{eqb, ltb, leb}
-use borrow.Author.Tests.{eq-eqb, eqb-true, leb-true, ltb-true, le-leb, lt-leb, lt-ltb, le-ltb}
-use Rattle.table.specs.Bytes.{member}
+use borrow.Author.Tests.{eq-eqb, eqb-true, leb-true, ltb-true, le-leb, lt-leb, lt-ltb, le-ltb, not-true, not-false}
+use Rattle.lists.specs.Find.{member}
 use Rattle.table.specs.Table.{Table, tableBytes, fitsTable, isTable, tableWhole, count, listed, keyAt, findKey, found, keyOfPlace, isUsed, lowest, lowestFree, mayPut, put, putIn, freed, freedIn}
+use Rattle.table.specs.Table.{refilled, mayOverwrite, overwrittenIn}
 use Rattle.table.proofs.KeyOrder.{both}
 
 module _ (p w : ℕ) (b : List ℕ) where
@@ -58,6 +59,10 @@ module _ (p w : ℕ) (b : List ℕ) (k : List ℕ) where
   pub found-unfit : fitsTable p w b ≡ false → found p w b k ≡ p
   unfolding found
   found-unfit h = rw h
+
+  -- by what the test answered
+  pub found-done : (r : Bool) → r ≡ fitsTable p w b → not r ≡ false → (x : ℕ) → x ≡ findKey p (keyAt p w b) k (listed p b) → x ≡ found p w b k
+  found-done r e h x q = q ∙ sym (found-fits (sym e ∙ not-false r h))
 
 module _ (p w : ℕ) (b : List ℕ) (n : ℕ) where
   pub key-place : fitsTable p w b ≡ true → n < p → keyOfPlace p w b n ≡ keyAt p w b n
@@ -152,3 +157,64 @@ module _ (p w : ℕ) (b : List ℕ) (n : ℕ) (new : List ℕ) where
   pub may-is : fitsTable p w b ≡ true → count b < p → n < p → 32 ≤ length new → mayPut p w b n new ≡ leb (length new) w
   unfolding mayPut
   may-is f a h l = rw (f, lt-ltb (count b) p a, lt-ltb n p h, le-leb 32 (length new) l)
+
+  -- by what the test answered
+  module _ (r : Bool) (e : r ≡ mayPut p w b n new) where
+    pub put-allowed : not r ≡ false → mayPut p w b n new ≡ true
+    put-allowed h = sym e ∙ not-false r h
+
+    pub put-entered : not r ≡ false → (x : List ℕ) → x ≡ put p w b n new → x ≡ putIn p w b n new
+    put-entered h x q = q ∙ sym (put-may (put-allowed h))
+
+    pub put-refused : not r ≡ true → b ≡ putIn p w b n new
+    put-refused h = sym (put-not (sym e ∙ not-true r h))
+
+module _ (p w : ℕ) (b : List ℕ) (n at : ℕ) (new : List ℕ) where
+  pub overwrite-may : mayOverwrite p w b n at new ≡ true → overwrittenIn p w b n at new ≡ refilled p w b n at new
+  unfolding overwrittenIn
+  overwrite-may h = rw h
+
+  pub overwrite-not : mayOverwrite p w b n at new ≡ false → overwrittenIn p w b n at new ≡ b
+  unfolding overwrittenIn
+  overwrite-not h = rw h
+
+  -- what may be overwritten is a part of a used place's record behind its key
+  pub overwrite-facts : mayOverwrite p w b n at new ≡ true → Table p w b × (n < p) × (32 ≤ at) × (at + length new ≤ w) × (member n (listed p b) ≡ true)
+  unfolding mayOverwrite
+  overwrite-facts h =
+      let a = both (fitsTable p w b) _ h in
+      let q = both (ltb n p) _ (a .1) in
+      let r = both (leb 32 at) _ (q .1) in
+      let s = both (leb (at + length new) w) _ (r .1) in
+      (fits-table p w b (a .0), ltb-true n p (q .0), leb-true 32 at (r .0), leb-true (at + length new) w (s .0), s .1)
+
+  pub overwrite-unfit : fitsTable p w b ≡ false → mayOverwrite p w b n at new ≡ false
+  unfolding mayOverwrite
+  overwrite-unfit h = rw h
+
+  pub overwrite-none : p ≤ n → mayOverwrite p w b n at new ≡ false
+  unfolding mayOverwrite
+  overwrite-none h = rw (le-ltb n p h) (and-false (fitsTable p w b))
+
+  pub overwrite-key : at < 32 → mayOverwrite p w b n at new ≡ false
+  unfolding mayOverwrite
+  overwrite-key h = rw (lt-leb 32 at h, and-false (ltb n p)) (and-false (fitsTable p w b))
+
+  pub overwrite-past : w < at + length new → mayOverwrite p w b n at new ≡ false
+  unfolding mayOverwrite
+  overwrite-past h = rw (lt-leb (at + length new) w h, and-false (leb 32 at), and-false (ltb n p)) (and-false (fitsTable p w b))
+
+  pub overwrite-is : fitsTable p w b ≡ true → n < p → 32 ≤ at → at + length new ≤ w → mayOverwrite p w b n at new ≡ member n (listed p b)
+  unfolding mayOverwrite
+  overwrite-is f h k l = rw (f, lt-ltb n p h, le-leb 32 at k, le-leb (at + length new) w l)
+
+  -- by what the test answered
+  module _ (r : Bool) (e : r ≡ mayOverwrite p w b n at new) where
+    pub overwrite-allowed : not r ≡ false → mayOverwrite p w b n at new ≡ true
+    overwrite-allowed h = sym e ∙ not-false r h
+
+    pub overwrite-done : not r ≡ false → (x : List ℕ) → x ≡ refilled p w b n at new → x ≡ overwrittenIn p w b n at new
+    overwrite-done h x q = q ∙ sym (overwrite-may (overwrite-allowed h))
+
+    pub overwrite-refused : not r ≡ true → b ≡ overwrittenIn p w b n at new
+    overwrite-refused h = sym (overwrite-not (sym e ∙ not-true r h))

@@ -9,7 +9,7 @@ use lib.Dec.{eqb}
 use borrow.Author.Tests.{eq-eqb, eqb-true, eqb-false}
 use Rattle.key.specs.Keys.{sameKey}
 use Rattle.key.proofs.Same.{same-refl, same-sound}
-use Rattle.table.specs.Bytes.{member}
+use Rattle.lists.specs.Find.{member}
 use Rattle.table.specs.Table.{findKey, lowest}
 use Rattle.table.proofs.KeyOrder.{no}
 

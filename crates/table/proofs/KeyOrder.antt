@@ -1,6 +1,6 @@
 -- Laws of the order of keys and of lists of places whose keys rise.
-use mathlib.Core.Path.{_≡_, refl, sym, ap, _∙_, subst}
-use mathlib.Core.Bool.{Bool, true, false, _&&_, _||_, not, cond, or-true}
+use mathlib.Core.Path.{_≡_, refl, sym, _∙_, subst}
+use mathlib.Core.Bool.{Bool, true, false, _&&_, _||_, cond, or-true}
 use Prim.Native.Nat.{ℕ, zero, suc, _+_, _-_, _≤_, _<_}
 use native.Mathlib.Nat.{le-of-suc-le-suc, not-suc-le-zero, suc-ne-zero, suc-inj}
 use native.Mathlib.Numerals.{add-one}
@@ -10,7 +10,9 @@ use lib.ListN.{length, drop, getD, drop-of-length-le}
 use lib.Seq.{drop-cons}
 use lib.Dec.{eqb, ltb}
 use borrow.Author.Tests.{eq-eqb, ne-eqb, eqb-true, eqb-false, ltb-true, ltb-false, lt-ltb}
-use Rattle.table.specs.Bytes.{keyBefore, member, insertAt, removeAt}
+use Rattle.lists.specs.Insert.{insertAt, removeAt}
+use Rattle.lists.specs.Find.{leading, member}
+use Rattle.table.specs.Bytes.{keyBefore}
 use Rattle.table.specs.Table.{rising, risingAfter, position}
 
 pub no : false ≡ true → ⊥
@@ -88,10 +90,6 @@ unfolding keyBefore
 key-before-end a b i h = rw (drop-of-length-le a h)
 
 -- ---- lists of places whose keys rise
-
-member-one : (n m : ℕ) (ms : List ℕ) (t : Bool) → eqb m n ≡ t → member n (m ∷ ms) ≡ (t || member n ms)
-unfolding member
-member-one n m ms t e = ap (λ (x : Bool). x || member n ms) e
 
 module _ (p : ℕ) (f : ℕ → List ℕ) where
   pub rising-tail : (m : ℕ) (ns : List ℕ) → risingAfter p f m ns ≡ true → rising p f ns ≡ true
@@ -174,7 +172,7 @@ module _ (p : ℕ) (f : ℕ → List ℕ) where
 
     from-put : (m : ℕ) (ns : List ℕ) → risingAfter p f m ns ≡ true → keyBefore (f m) (f n) ≡ true → Apart ns →
         risingAfter p f m (insertAt (position f (f n) ns) n ns) ≡ true
-    unfolding risingAfter position
+    unfolding risingAfter leading
     from-put m [] h l a = rw (lt-ltb n p below, l)
     from-put m (x ∷ ns) h l a =
         let q = both (ltb x p) _ h in
@@ -188,7 +186,7 @@ module _ (p : ℕ) (f : ℕ → List ℕ) where
     put-step x ns false e a c d = unfold risingAfter in rw (lt-ltb n p below, a, c, apart-head x ns d e)
 
     pub rising-put : (ns : List ℕ) → rising p f ns ≡ true → Apart ns → rising p f (insertAt (position f (f n) ns) n ns) ≡ true
-    unfolding rising risingAfter position
+    unfolding rising risingAfter leading
     rising-put [] h a = rw (lt-ltb n p below)
     rising-put (x ∷ ns) h a =
         let q = both (ltb x p) _ h in
@@ -220,18 +218,6 @@ module _ (p : ℕ) (f : ℕ → List ℕ) where
   rising-out i [] h = refl
   rising-out zero (x ∷ ns) h = rising-tail x ns (both (ltb x p) _ h .1)
   rising-out (suc i) (x ∷ ns) h = let q = both (ltb x p) _ h in rw (q .0) (from-out x i ns (q .1))
-
-  -- ---- where a key belongs
-
-  module _ (k : List ℕ) where
-    pub position-le : (ns : List ℕ) → position f k ns ≤ length ns
-    unfolding position
-    position-le [] = omega arith
-    position-le (x ∷ ns) = go (keyBefore (f x) k) (position-le ns)
-      where
-        go : (t : Bool) → position f k ns ≤ length ns → cond t (suc (position f k ns)) 0 ≤ suc (length ns)
-        go true h = omega arith
-        go false h = omega arith
 
   pub rising-at : (ns : List ℕ) (i : ℕ) → rising p f ns ≡ true → i < length ns → getD ns i 0 < p
   unfolding rising

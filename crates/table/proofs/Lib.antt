@@ -1,7 +1,6 @@
 -- The laws of a table kept in bytes, in the order in which they rest on each other; the proofs of the functions cite them.
 pub mod KeyOrder
 pub mod FitsLaws
-pub mod Shift
 pub mod Listed
 pub mod SearchLaws
 pub mod Stores
@@ -10,6 +9,7 @@ pub mod Distinct
 pub mod TableLaws
 pub mod LowestLaws
 pub mod RecordLaws
+pub mod OverwriteLaws
 pub mod NoneListed
 pub mod PutLaws
 pub mod FoundLaws

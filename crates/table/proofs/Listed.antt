@@ -1,18 +1,18 @@
 -- What the bytes of a table list, and where the keys stand.
 use mathlib.Core.Path.{_≡_, _∙_, refl, sym, ap, ap₂}
-use mathlib.Core.Bool.{Bool, true, false, _&&_, _||_, cond}
+use mathlib.Core.Bool.{Bool, true, false, _&&_, not}
 use mathlib.Core.List.{List}
-use Prim.Native.Nat.{ℕ, suc, _+_, _*_, _-_, _<_, _≤_}
+use Prim.Native.Nat.{ℕ, _+_, _*_, _-_, _<_, _≤_}
 use native.Mathlib.Nat.{suc-mul, le-trans, le-of-eq, mul-le-mul-right, add-sub-cancel-left}
 use native.Mathlib.Omega.{arith}
-use native.Mathlib.Numerals.{add-one}
-use lib.ListN.{length, getD, take, drop, length-drop, drop-of-length-le}
+use lib.ListN.{length, getD, take, drop, length-drop}
 use lib.Seq.{drop-cons, length-take-le, getD-take, getD-drop, drop-drop, take-all}
-use lib.Dec.{eqb, ltb, leb}
-use borrow.Author.Tests.{eq-eqb, ne-eqb, leb-true, leb-false, lt-leb, le-leb, lt-ltb, le-ltb}
-use Rattle.table.specs.Bytes.{keyBefore, member, indexOf}
+use lib.Dec.{ltb, leb}
+use borrow.Author.Tests.{leb-true, leb-false, lt-leb, le-leb, lt-ltb, le-ltb, not-true, not-false}
+use Rattle.lists.proofs.Found.{leading-le}
+use Rattle.table.specs.Bytes.{keyBefore}
 use Rattle.table.specs.Table.{Table, Spot, count, order, listed, keyAt, rising, risingAfter, tableWhole, placeOf}
-use Rattle.table.proofs.KeyOrder.{both, key-before-differ, rising-step, rising-end, position-le}
+use Rattle.table.proofs.KeyOrder.{both, key-before-differ, rising-step, rising-end}
 
 pub listed-is : (p : ℕ) (b : List ℕ) → take (count b) (order p b) ≡ listed p b
 unfolding listed
@@ -57,6 +57,10 @@ module _ (p w : ℕ) (b : List ℕ) where
   -- the bytes that are lent for a key
   pub key-lent : (n r : ℕ) → Spot p w b n r → take (r + 32 - r) (drop r b) ≡ keyAt p w b n
   key-lent n r s = rw (add-sub-cancel-left r 32, s .at) (sym (key-drop n))
+
+  -- a comparison with them is one with the key
+  pub before-lent : (k : List ℕ) (n r : ℕ) → Spot p w b n r → (x : Bool) → x ≡ keyBefore k (take (r + 32 - r) (drop r b)) → x ≡ keyBefore k (keyAt p w b n)
+  before-lent k n r s x e = e ∙ ap (keyBefore k) (key-lent n r s)
 
   pub length-key : (n : ℕ) → Table p w b → n < p → length (keyAt p w b n) ≡ 32
   length-key n t h =
@@ -106,40 +110,6 @@ module _ (p w : ℕ) (b : List ℕ) where
   unfolding tableWhole listed rising
   whole-none h = rw (h, le-leb 0 p (omega arith))
 
--- ---- the loop that looks for a place
-
-module _ (n : ℕ) (ns : List ℕ) (i : ℕ) (h : i < length ns) where
-  index-step : indexOf n (drop i ns) ≡ cond (eqb (getD ns i 0) n) 0 (suc (indexOf n (drop (i + 1) ns)))
-  unfolding indexOf
-  index-step = rw (add-one, drop-cons ns i 0 h)
-
-  pub index-here : getD ns i 0 ≡ n → indexOf n (drop i ns) ≡ 0
-  index-here e = rw (index-step, eq-eqb _ _ e)
-
-  pub index-next : (getD ns i 0 ≡ n → ⊥) → indexOf n (drop i ns) ≡ suc (indexOf n (drop (i + 1) ns))
-  index-next e = rw (index-step, ne-eqb _ _ e)
-
-pub index-end : (n : ℕ) (ns : List ℕ) (i : ℕ) → length ns ≤ i → indexOf n (drop i ns) ≡ 0
-unfolding indexOf
-index-end n ns i h = rw (drop-of-length-le ns h)
-
--- ---- the loop that looks whether a place is listed
-
-module _ (n : ℕ) (ns : List ℕ) (i : ℕ) (h : i < length ns) where
-  member-step : member n (drop i ns) ≡ (eqb (getD ns i 0) n || member n (drop (i + 1) ns))
-  unfolding member
-  member-step = rw (add-one, drop-cons ns i 0 h)
-
-  pub member-here : getD ns i 0 ≡ n → member n (drop i ns) ≡ true
-  member-here e = rw (member-step, eq-eqb _ _ e)
-
-  pub member-next : (getD ns i 0 ≡ n → ⊥) → member n (drop i ns) ≡ member n (drop (i + 1) ns)
-  member-next e = rw (member-step, ne-eqb _ _ e)
-
-pub member-end : (n : ℕ) (ns : List ℕ) (i : ℕ) → length ns ≤ i → member n (drop i ns) ≡ false
-unfolding member
-member-end n ns i h = rw (drop-of-length-le ns h)
-
 -- ---- the loop that tests a table
 
 and-no : (t u : Bool) → (t && (false && u)) ≡ false
@@ -165,15 +135,17 @@ module _ (p w : ℕ) (b : List ℕ) (c : count b ≤ p) (l : p < length b) where
     pub step-out : p ≤ n → risingAfter p (keyAt p w b) m (drop i (listed p b)) ≡ false
     step-out o = step ∙ rw (le-ltb n p o)
 
-    pub step-falls : keyBefore (keyAt p w b m) (keyAt p w b n) ≡ false → risingAfter p (keyAt p w b) m (drop i (listed p b)) ≡ false
-    step-falls o = step ∙ rw o (and-no (ltb n p) (risingAfter p (keyAt p w b) n (drop (i + 1) (listed p b))))
+    -- by what the comparison answered
+    module _ (r : Bool) (q : r ≡ keyBefore (keyAt p w b m) (keyAt p w b n)) where
+      pub step-falls : not r ≡ true → risingAfter p (keyAt p w b) m (drop i (listed p b)) ≡ false
+      step-falls o = step ∙ rw (← q, not-true r o) (and-no (ltb n p) (risingAfter p (keyAt p w b) n (drop (i + 1) (listed p b))))
 
-    pub step-on : n < p → keyBefore (keyAt p w b m) (keyAt p w b n) ≡ true →
-        risingAfter p (keyAt p w b) m (drop i (listed p b)) ≡ risingAfter p (keyAt p w b) n (drop (i + 1) (listed p b))
-    step-on o r = step ∙ rw (lt-ltb n p o, r)
+      pub step-on : n < p → not r ≡ false →
+          risingAfter p (keyAt p w b) m (drop i (listed p b)) ≡ risingAfter p (keyAt p w b) n (drop (i + 1) (listed p b))
+      step-on u o = step ∙ rw (lt-ltb n p u, ← q, not-false r o)
 
   pub step-end : (m i : ℕ) → count b ≤ i → risingAfter p (keyAt p w b) m (drop i (listed p b)) ≡ true
   step-end m i h = rising-end p (keyAt p w b) m (listed p b) i (rw (length-listed p b l c) h)
 
   pub place-le : (k : List ℕ) → placeOf p w b k ≤ count b
-  place-le k = let a = position-le p (keyAt p w b) k (listed p b) in let q = length-listed p b l c in omega arith
+  place-le k = let a = leading-le (λ (n : ℕ). keyBefore (keyAt p w b n) k) (listed p b) in let q = length-listed p b l c in omega arith

@@ -4,28 +4,23 @@ use mathlib.Core.Bool.{Bool, true, false, _||_, cond}
 use Prim.Native.Nat.{ℕ, suc, _+_, _-_, _<_}
 use native.Mathlib.Numerals.{add-one}
 use native.Mathlib.Omega.{arith}
-use mathlib.Core.List.{List, [], _∷_, _++_}
+use mathlib.Core.List.{List, []}
 use lib.ListN.{length, take, getD, set, replicate, getD-replicate}
 use lib.Seq.{take-suc, getD-set-same, getD-set-other}
 use lib.Dec.{eqb}
 use borrow.Author.Tests.{eqb-true, eqb-false}
-use Rattle.table.specs.Bytes.{member}
+use Rattle.lists.specs.Find.{member}
+use Rattle.lists.proofs.Members.{member-last}
 use Rattle.table.specs.Table.{lowest}
 use Rattle.table.specs.Marks.{Marked}
-use Rattle.table.proofs.Places.{or-swap}
 
 pub mark-none : Marked (replicate 256 0) []
 unfolding member
 mark-none x h = getD-replicate 256 x 0 0 h
 
-member-end : (x : ℕ) (a : List ℕ) (n : ℕ) → member x (a ++ (n ∷ [])) ≡ (eqb n x || member x a)
-unfolding member
-member-end x [] n = refl
-member-end x (m ∷ a) n = rw (member-end x a n) (or-swap (eqb m x) (eqb n x) (member x a))
-
 pub mark-step : (seen ns : List ℕ) (i n : ℕ) → length seen ≡ 256 → i < length ns → n ≡ getD ns i 0 → n < 256 → Marked seen (take i ns) → Marked (set seen n 1) (take (i + 1) ns)
 mark-step seen ns i n l h e b m x k =
-    rw (add-one, take-suc ns i 0 h, ← e, member-end x (take i ns) n) (go (eqb n x) refl)
+    rw (add-one, take-suc ns i 0 h, ← e, member-last x (take i ns) n) (go (eqb n x) refl)
   where
     go : (t : Bool) → eqb n x ≡ t → getD (set seen n 1) x 0 ≡ cond (t || member x (take i ns)) 1 0
     go true q = rw (← eqb-true n x q) (getD-set-same seen n 1 0 (omega arith))

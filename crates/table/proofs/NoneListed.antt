@@ -4,7 +4,7 @@ use mathlib.Core.Bool.{Bool, false}
 use mathlib.Core.List.{List, [], _∷_}
 use Prim.Native.Nat.{ℕ, zero, suc}
 use lib.ListN.{replicate}
-use Rattle.table.specs.Bytes.{member}
+use Rattle.lists.specs.Find.{member}
 use Rattle.table.specs.Table.{count, listed, recordAt, tabulate, view}
 
 pub tabulate-all : {A : Type 0} (i n : ℕ) (f : ℕ → A) (a : A) → ((m : ℕ) → f m ≡ a) → tabulate i n f ≡ replicate n a

@@ -1,17 +1,14 @@
 -- Lists by their elements, and parts of one size.
 use mathlib.Core.Path.{_≡_, refl, sym, ap, ap₂, _∙_}
-use mathlib.Core.Bool.{Bool, true, false, _||_, cond}
 use Prim.Native.Nat.{ℕ, zero, suc, _+_, _*_, _-_, _≤_, _<_}
 use native.Mathlib.Nat.{le-of-suc-le-suc, not-suc-le-zero, zero-mul, suc-mul}
 use native.Mathlib.Omega.{arith}
-use mathlib.Core.List.{List, [], _∷_, _++_, append-assoc}
+use mathlib.Core.List.{List, _∷_, _++_, append-assoc}
 use lib.ListN.{length, take, drop, getD, set, length-drop, take-append-drop}
 use lib.Seq.{length-take-le, take-at, drop-at, drop-drop, take-take, drop-append-le}
-use lib.Dec.{eqb}
-use borrow.Author.Tests.{ne-eqb, eqb-true}
-use Rattle.table.specs.Bytes.{splice, member, indexOf, insertAt, removeAt}
+pub use Rattle.lists.proofs.Members.{member-in}
+use Rattle.table.specs.Bytes.{splice}
 use Rattle.table.specs.Table.{tabulate}
-use Rattle.table.proofs.KeyOrder.{no}
 use Rattle.table.proofs.Stores.{splice-add}
 
 -- ---- tabulate
@@ -107,36 +104,3 @@ splice-inner l at w j new f h =
         ∙ sym (drop-append-le (j + length new) (take w d) (drop w d) (rw (length-take-le w d g) h))
         ∙ ap (drop (j + length new)) (take-append-drop w d)
         ∙ sym (drop-drop (length new) j d))))
-
--- ---- members
-
-pub or-swap : (a b c : Bool) → (a || (b || c)) ≡ (b || (a || c))
-or-swap true true c = refl
-or-swap true false c = refl
-or-swap false true c = refl
-or-swap false false c = refl
-
-pub member-in : (x i n : ℕ) (ns : List ℕ) → member x (insertAt i n ns) ≡ (eqb n x || member x ns)
-unfolding member
-member-in x zero n ns = refl
-member-in x (suc i) n [] = refl
-member-in x (suc i) n (m ∷ ns) = rw (member-in x i n ns) (or-swap (eqb m x) (eqb n x) (member x ns))
-
-pub member-out : (x n : ℕ) (ns : List ℕ) → (n ≡ x → ⊥) → member x (removeAt (indexOf n ns) ns) ≡ member x ns
-unfolding member indexOf
-member-out x n [] d = refl
-member-out x n (m ∷ ns) d = go (eqb m n) refl (member-out x n ns d)
-  where
-    go : (t : Bool) → eqb m n ≡ t → member x (removeAt (indexOf n ns) ns) ≡ member x ns →
-        member x (removeAt (cond t 0 (suc (indexOf n ns))) (m ∷ ns)) ≡ (eqb m x || member x ns)
-    go true e ih = rw (ne-eqb m x (λ (q : m ≡ x). d (sym (eqb-true m n e) ∙ q)))
-    go false e ih = ap (λ (t : Bool). eqb m x || t) ih
-
-pub index-member : (n : ℕ) (ns : List ℕ) → member n ns ≡ true → indexOf n ns < length ns
-unfolding member indexOf
-index-member n [] h = absurd (no h)
-index-member n (m ∷ ns) h = go (eqb m n) h (index-member n ns)
-  where
-    go : (t : Bool) → (t || member n ns) ≡ true → (member n ns ≡ true → indexOf n ns < length ns) → cond t 0 (suc (indexOf n ns)) < suc (length ns)
-    go true h ih = omega arith
-    go false h ih = let q = ih h in omega arith

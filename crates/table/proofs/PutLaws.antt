@@ -6,7 +6,7 @@ use Prim.Native.Nat.{ℕ, _≤_, _<_}
 use native.Mathlib.Omega.{arith}
 use lib.ListN.{length}
 use borrow.Author.Tests.{le-leb}
-use Rattle.table.specs.Bytes.{member}
+use Rattle.lists.specs.Find.{member}
 use Rattle.table.specs.Table.{Table, listed, tableWhole, put, putIn}
 use Rattle.table.proofs.FitsLaws.{table-fits, put-may, may-is}
 use Rattle.table.proofs.Distinct.{unlisted-leaves-room}

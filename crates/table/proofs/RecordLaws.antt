@@ -1,6 +1,6 @@
 -- A part of one record, behind its key, is replaced: the same places are listed, every other record stays, the table stays whole, and its view
 -- changes at that place alone.
-use mathlib.Core.Path.{_≡_, refl, sym, ap, ap₂, _∙_}
+use mathlib.Core.Path.{_≡_, refl, sym, ap, ap₂, fun-ext, _∙_}
 use mathlib.Core.Bool.{Bool, true, false}
 use mathlib.Core.List.{List, [], _∷_, _++_}
 use Prim.Native.Nat.{ℕ, _+_, _*_, _≤_, _<_}
@@ -8,24 +8,22 @@ use native.Mathlib.Nat.{not-suc-le-zero}
 use native.Mathlib.Omega.{arith}
 use lib.ListN.{length, take, drop, set, take-append-drop}
 use lib.Seq.{length-take-le, take-take, take-append-le, drop-drop}
-use lib.Dec.{eqb}
-use borrow.Author.Tests.{eqb-true, eqb-false}
-use Rattle.table.specs.Bytes.{splice, member}
-use Rattle.table.specs.Table.{Table, count, order, records, listed, recordAt, keyAt, rising, tableWhole, view}
-use Rattle.table.proofs.KeyOrder.{rising-below}
-use Rattle.table.proofs.Listed.{listed-is, length-order, row-fits, whole-count, whole-rising, whole-is}
+use lib.Dec.{eqb, ltb}
+use borrow.Author.Tests.{eqb-true, eqb-false, ltb-true, ltb-false}
+use Rattle.lists.specs.Find.{member}
+use Rattle.table.specs.Bytes.{splice}
+use Rattle.table.specs.Table.{Table, count, order, records, listed, recordAt, keyAt, tableWhole, view}
+unfoldable pub use Rattle.table.specs.Table.{refilled}
+use Rattle.table.proofs.Listed.{listed-is, length-order, row-fits}
+use Rattle.table.proofs.SearchLaws.{key-none}
 use Rattle.table.proofs.Stores.{length-splice, record-back}
 use Rattle.table.proofs.Places.{tabulate-set, part, part-other, part-same, splice-inner}
-use Rattle.table.proofs.TableLaws.{listed-made, record-made, record-is, length-records, length-record, key-record, rising-same}
+use Rattle.table.proofs.TableLaws.{listed-made, record-made, record-is, length-records, length-record, key-record}
 
 -- a table is its count, its order and its records
 pub table-split : (p : ℕ) (b : List ℕ) → 0 < length b → b ≡ count b ∷ (order p b ++ records p b)
 table-split p [] h = absurd (not-suc-le-zero h)
 table-split p (x ∷ xs) h = ap (λ (y : List ℕ). x ∷ y) (sym (take-append-drop p xs) ∙ ap (λ (y : List ℕ). take p xs ++ y) (drop-drop p 1 (x ∷ xs)))
-
--- the record of place n from its byte `at` on is `new`, as far as that goes
-unfoldable pub refilled : ℕ → ℕ → List ℕ → ℕ → ℕ → List ℕ → List ℕ
-refilled p w b n at new = splice b (1 + p + n * w + at) new (length new)
 
 module _ (p w : ℕ) (b : List ℕ) (t : Table p w b) (n : ℕ) (below : n < p) (at : ℕ) (new : List ℕ) (most : at + length new ≤ w) where
   order-length : length (order p b) ≡ p
@@ -52,6 +50,9 @@ module _ (p w : ℕ) (b : List ℕ) (t : Table p w b) (n : ℕ) (below : n < p) 
       let q = row-fits p w n below in
       let z = t .long in
       length-splice b (1 + p + n * w + at) new (length new) (omega arith) refl
+
+  refilled-table : Table p w (refilled p w b n at new)
+  refilled-table = record { small = t .small; key = t .key; narrow = t .narrow; long = refilled-length ∙ t .long }
 
   pub refilled-count : count (refilled p w b n at new) ≡ count b
   refilled-count = ap count made
@@ -99,8 +100,8 @@ module _ (p w : ℕ) (b : List ℕ) (t : Table p w b) (n : ℕ) (below : n < p) 
           h (member m (listed p (refilled p w b n at new))) (recordAt p w (refilled p w b n at new) m) ≡ h (member m (listed p b)) (recordAt p w b m)
       other m k d = rw (refilled-listed, refilled-other m (omega arith) (λ q. d (q ∙ sym z)))
 
-  -- and behind the key it stays whole
-  module _ (behind : 32 ≤ at) (o : tableWhole p w b ≡ true) where
+  -- behind the key every key stays, and so what is whole
+  module _ (behind : 32 ≤ at) where
     key-kept : (m : ℕ) (u : Bool) → eqb m n ≡ u → m < p → take 32 (recordAt p w (refilled p w b n at new) m) ≡ take 32 (recordAt p w b m)
     key-kept m true e h =
         let l = length-record p w b t n below in
@@ -111,15 +112,20 @@ module _ (p w : ℕ) (b : List ℕ) (t : Table p w b) (n : ℕ) (below : n < p) 
         ∙ take-take 32 at (recordAt p w b n) behind)
     key-kept m false e h = ap (take 32) (refilled-other m h (eqb-false m n e))
 
-    pub refilled-whole : tableWhole p w (refilled p w b n at new) ≡ true
-    refilled-whole =
-        whole-is p w (refilled p w b n at new) (rw refilled-count (whole-count p w b o))
-        ∙ ap (rising p (keyAt p w (refilled p w b n at new))) refilled-listed
-        ∙ rising-same p (keyAt p w b) (keyAt p w (refilled p w b n at new)) (listed p b) keys
-        ∙ whole-rising p w b o
-      where
-        keys : (m : ℕ) → member m (listed p b) ≡ true → keyAt p w (refilled p w b n at new) m ≡ keyAt p w b m
-        keys m h =
-            key-record p w (refilled p w b n at new) m (t .key)
-            ∙ key-kept m (eqb m n) refl (rising-below p (keyAt p w b) (listed p b) (whole-rising p w b o) m h)
-            ∙ sym (key-record p w b m (t .key))
+    key-at-kept : (m : ℕ) (u : Bool) → ltb m p ≡ u → keyAt p w (refilled p w b n at new) m ≡ keyAt p w b m
+    key-at-kept m true e =
+        key-record p w (refilled p w b n at new) m (t .key)
+        ∙ key-kept m (eqb m n) refl (ltb-true m p e)
+        ∙ sym (key-record p w b m (t .key))
+    key-at-kept m false e =
+        key-none p w (refilled p w b n at new) refilled-table m (ltb-false m p e) ∙ sym (key-none p w b t m (ltb-false m p e))
+
+    pub refilled-keys : keyAt p w (refilled p w b n at new) ≡ keyAt p w b
+    refilled-keys = fun-ext (λ m. key-at-kept m (ltb m p) refl)
+
+    pub refilled-whole-same : tableWhole p w (refilled p w b n at new) ≡ tableWhole p w b
+    unfolding tableWhole
+    refilled-whole-same = rw (refilled-count, refilled-listed, refilled-keys)
+
+    pub refilled-whole : tableWhole p w b ≡ true → tableWhole p w (refilled p w b n at new) ≡ true
+    refilled-whole o = refilled-whole-same ∙ o

@@ -1,5 +1,5 @@
 -- What the stores leave, as one list.
-use mathlib.Core.Path.{_≡_, _∙_, ap, ap₂}
+use mathlib.Core.Path.{_≡_, _∙_, sym, ap, ap₂}
 use mathlib.Core.List.{List, [], _∷_, _++_, append-assoc}
 use Prim.Native.Nat.{ℕ, _+_, _*_, _-_, _<_, _≤_}
 use native.Mathlib.Nat.{not-suc-le-zero}
@@ -7,8 +7,9 @@ use native.Mathlib.Omega.{arith}
 use lib.ListN.{length, getD, take, drop, set, length-drop, length-append}
 use lib.Seq.{length-take-le, drop-drop, take-add, take-at, drop-at}
 use borrow.Author.Tests.{lt-ltb, le-ltb}
-use Rattle.table.specs.Bytes.{splice, indexOf}
-use Rattle.table.specs.Table.{Table, Spot, count, order, records, listed, placeOf, entered, closed, put, unlisted, freed}
+use Rattle.lists.specs.Find.{indexOf}
+use Rattle.table.specs.Bytes.{splice}
+use Rattle.table.specs.Table.{Table, Spot, count, order, records, listed, placeOf, entered, closed, put, unlisted, freed, refilled}
 
 pub splice-add : (l new : List ℕ) (k j w : ℕ) → splice l (k + j) new w ≡ take k l ++ splice (drop k l) j new w
 splice-add l new k j w = rw (take-add, ← drop-drop j k l) (append-assoc (take k l) (take j (drop k l)) _)
@@ -42,16 +43,23 @@ put-back p k l c b o new h e =
 
 -- ---- as the borrow checker has them
 
-module _ (p w : ℕ) (b : List ℕ) (n : ℕ) (new : List ℕ) (t : Table p w b) where
-  pub put-done : (r c i m : ℕ) (o : List ℕ) → Spot p w b n r → c ≡ count b + 1 → i ≡ placeOf p w b (take 32 new) → m ≡ count b →
-      length o ≡ p → o ≡ entered m i n (order p b) →
-      set (splice (splice b 1 o p) r new (length new)) 0 c ≡ put p w b n new
-  unfolding put
-  put-done r c i m o s ec ei em lo e =
+module _ (p w : ℕ) (b : List ℕ) (t : Table p w b) (k : ℕ) (o : List ℕ) (ek : k ≡ p) (lo : length o ≡ p) where
+  -- with another order it is a table as before
+  pub opened-table : Table p w (splice b 1 o k)
+  opened-table =
+      let l = t .long in
+      record { small = t .small; key = t .key; narrow = t .narrow; long = length-splice b 1 o k (omega arith) (lo ∙ sym ek) ∙ t .long }
+
+  pub put-done : (n : ℕ) (new : List ℕ) (c i m : ℕ) (x : List ℕ) → c ≡ count b + 1 → i ≡ placeOf p w b (take 32 new) → m ≡ count b →
+      o ≡ entered m i n (order p b) → x ≡ refilled p w (splice b 1 o k) n 0 new → set x 0 c ≡ put p w b n new
+  unfolding put refilled
+  put-done n new c i m x ec ei em e ex =
       let z : 0 < length b = let q = t .long in omega arith in
-      rw (s .at, ec) (put-back p (n * w) (length new) (count b + 1) b o new z lo)
-      ∙ ap (λ (x : List ℕ). (count b + 1) ∷ (x ++ splice (records p b) (n * w) new (length new)))
-      (e ∙ ap₂ (λ (x y : ℕ). entered x y n (order p b)) em ei)
+      let f : 1 + p + n * w + 0 ≡ 1 + p + n * w = omega arith in
+      ap (λ (y : List ℕ). set y 0 c) (ex ∙ ap₂ (λ (y v : ℕ). splice (splice b 1 o y) v new (length new)) ek f)
+      ∙ put-back p (n * w) (length new) c b o new z lo
+      ∙ ap₂ (λ (y : ℕ) (v : List ℕ). y ∷ (v ++ splice (records p b) (n * w) new (length new))) ec
+      (e ∙ ap₂ (λ (y v : ℕ). entered y v n (order p b)) em ei)
 
 module _ (p : ℕ) (b : List ℕ) (n : ℕ) where
   pub freed-none : (m i : ℕ) → m ≡ count b → i ≡ indexOf n (listed p b) → m ≤ i → b ≡ freed p b n
@@ -64,3 +72,7 @@ module _ (p : ℕ) (b : List ℕ) (n : ℕ) where
   freed-done c i m o z ec ei em h e =
       rw (lt-ltb (indexOf n (listed p b)) (count b) (omega arith))
       (freed-back p c b o z ∙ ap₂ (λ (x : ℕ) (y : List ℕ). x ∷ (y ++ records p b)) ec (e ∙ ap₂ (λ (x y : ℕ). closed x y (order p b)) em ei))
+
+pub refilled-done : (p w : ℕ) (b : List ℕ) (n at : ℕ) (new : List ℕ) (r : ℕ) → Spot p w b n r → splice b (r + at) new (length new) ≡ refilled p w b n at new
+unfolding refilled
+refilled-done p w b n at new r s = rw (s .at)

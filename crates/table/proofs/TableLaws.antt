@@ -9,14 +9,17 @@ use lib.ListN.{length, take, drop, getD, set, length-append, length-drop, List·
 use lib.Seq.{length-take-le, take-at, drop-at, take-take, take-append-le}
 use lib.Dec.{eqb, ltb}
 use borrow.Author.Tests.{eq-eqb, ne-eqb, lt-ltb}
-use Rattle.table.specs.Bytes.{splice, keyBefore, member, indexOf, insertAt, removeAt}
+use Rattle.lists.specs.Insert.{insertAt, removeAt}
+use Rattle.lists.specs.Find.{leading, member, indexOf}
+use Rattle.lists.proofs.Shift.{length-in, take-more-in, length-out, take-less-out}
+use Rattle.lists.proofs.Members.{member-in, member-out, index-member, out-gone}
+use Rattle.table.specs.Bytes.{splice, keyBefore}
 use Rattle.table.specs.Table.{Table, count, order, records, listed, recordAt, keyAt, rising, risingAfter, tableWhole, position, placeOf, entered, closed, put, unlisted, freed, view}
 use Rattle.table.proofs.KeyOrder.{clash, key-before-total, rising-apart, rising-below, rising-put, rising-out}
-use Rattle.table.proofs.Shift.{length-in, take-more-in, length-out, take-less-out}
 use Rattle.table.proofs.Listed.{listed-is, length-order, length-listed, row-fits, whole-count, whole-rising, whole-is, length-key, place-le}
-use Rattle.table.proofs.Distinct.{out-gone, rising-distinct}
+use Rattle.table.proofs.Distinct.{rising-distinct}
 use Rattle.table.proofs.Stores.{length-splice}
-use Rattle.table.proofs.Places.{getD-tabulate, length-tabulate, tabulate-set, part, part-other, part-same, splice-inner, member-in, member-out, index-member}
+use Rattle.table.proofs.Places.{getD-tabulate, length-tabulate, tabulate-set, part, part-other, part-same, splice-inner}
 
 -- ---- a table made of a count, an order and records
 
@@ -55,7 +58,7 @@ key-record p w b n h = sym (take-take 32 w (drop (n * w) (records p b)) h)
 length-entered : (c i n : ℕ) (o : List ℕ) → i ≤ length o → c < length o → length (entered c i n o) ≡ length o
 unfolding entered
 length-entered c i n o h k =
-    rw (length-append, length-drop, length-take-le (c + 1) (insertAt i n o) (let q = length-in i n o h in omega arith)) (omega arith)
+    rw (length-append, length-drop, length-take-le (c + 1) (insertAt i n o) (let q = length-in i n o in omega arith)) (omega arith)
 
 length-closed : (c i : ℕ) (o : List ℕ) → i < length o → c < length o → length (closed c i o) ≡ length o
 unfolding closed
@@ -65,7 +68,7 @@ length-closed c i o h k =
 listed-entered : (c i n : ℕ) (o : List ℕ) → i ≤ c → c < length o → take (c + 1) (entered c i n o) ≡ insertAt i n (take c o)
 unfolding entered
 listed-entered c i n o h k =
-    let q = length-in i n o (omega arith) in
+    let q = length-in i n o in
     take-at (take (c + 1) (insertAt i n o)) (drop (c + 1) o) (c + 1) (length-take-le (c + 1) (insertAt i n o) (omega arith))
     ∙ rw add-one (take-more-in i c n o h (omega arith))
 
@@ -93,7 +96,7 @@ module _ (p : ℕ) (f g : ℕ → List ℕ) where
       ap (λ (t : Bool). ltb n p && t) (from-same n ns (h n (rw (eq-eqb n n refl))) (λ x i. h x (rw (i, or-true (eqb n x)))))
 
   pub position-same : (k : List ℕ) (ns : List ℕ) → ((x : ℕ) → member x ns ≡ true → g x ≡ f x) → position g k ns ≡ position f k ns
-  unfolding position member
+  unfolding leading member
   position-same k [] h = refl
   position-same k (n ∷ ns) h =
       rw (h n (rw (eq-eqb n n refl)), position-same k ns (λ x i. h x (rw (i, or-true (eqb n x)))))

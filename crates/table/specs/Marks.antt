@@ -4,7 +4,7 @@ use mathlib.Core.Bool.{cond}
 use mathlib.Core.List.{List}
 use Prim.Native.Nat.{ℕ, _<_}
 use lib.ListN.{getD}
-use Rattle.table.specs.Bytes.{member}
+use Rattle.lists.specs.Find.{member}
 
 -- byte x is 1 where x is one of ns, and 0 where it is not
 abbrev pub Marked : List ℕ → List ℕ → Type 0

@@ -6,12 +6,14 @@
 -- listed is no part of the table.
 use Prim.Native.Nat.{ℕ, zero, suc, _+_, _*_, _-_, _≤_}
 use mathlib.Core.Path.{_≡_}
-use mathlib.Core.Bool.{Bool, true, false, _&&_, cond}
+use mathlib.Core.Bool.{Bool, true, _&&_, cond}
 use mathlib.Core.List.{List, [], _∷_, _++_}
 use lib.ListN.{length, take, drop, getD, replicate}
 use lib.Dec.{eqb, ltb, leb}
 use Rattle.key.specs.Keys.{sameKey}
-use Rattle.table.specs.Bytes.{splice, keyBefore, member, indexOf, insertAt, removeAt}
+use Rattle.lists.specs.Insert.{insertAt, removeAt}
+use Rattle.lists.specs.Find.{leading, member, indexOf}
+use Rattle.table.specs.Bytes.{splice, keyBefore}
 
 -- ---- where things stand
 
@@ -74,9 +76,8 @@ isTable p w b = fitsTable p w b && tableWhole p w b
 -- ---- lookups
 
 -- how many, from the front, come before k
-unfoldable pub position : (ℕ → List ℕ) → List ℕ → List ℕ → ℕ
-position f k [] = 0
-position f k (n ∷ ns) = cond (keyBefore (f n) k) (suc (position f k ns)) 0
+abbrev pub position : (ℕ → List ℕ) → List ℕ → List ℕ → ℕ
+position f k = leading (λ (n : ℕ). keyBefore (f n) k)
 
 -- where k belongs among the listed
 abbrev pub placeOf : ℕ → ℕ → List ℕ → List ℕ → ℕ
@@ -96,6 +97,10 @@ keyOfPlace p w b n = cond (fitsTable p w b && ltb n p) (keyAt p w b n) (replicat
 
 unfoldable pub isUsed : ℕ → List ℕ → ℕ → Bool
 isUsed p b n = ltb p (length b) && member n (listed p b)
+
+-- the places in use, in the order of their keys; none in bytes that are too short
+unfoldable pub usedPlaces : ℕ → List ℕ → List ℕ
+usedPlaces p b = cond (ltb p (length b)) (listed p b) []
 
 -- the lowest of the n places from i on that is not listed, or i + n
 unfoldable pub lowest : ℕ → ℕ → List ℕ → ℕ
@@ -136,6 +141,17 @@ freed p b n = cond (ltb (indexOf n (listed p b)) (count b)) (unlisted p b n) b
 
 unfoldable pub freedIn : ℕ → List ℕ → ℕ → List ℕ
 freedIn p b n = cond (ltb p (length b) && leb (count b) p) (freed p b n) b
+
+-- the record of place n is `new` from its byte `at` on, as far as that goes
+unfoldable pub refilled : ℕ → ℕ → List ℕ → ℕ → ℕ → List ℕ → List ℕ
+refilled p w b n at new = splice b (1 + p + n * w + at) new (length new)
+
+-- where place n is used, and `new` stands behind the key and within the record
+unfoldable pub mayOverwrite : ℕ → ℕ → List ℕ → ℕ → ℕ → List ℕ → Bool
+mayOverwrite p w b n at new = fitsTable p w b && (ltb n p && (leb 32 at && (leb (at + length new) w && member n (listed p b))))
+
+unfoldable pub overwrittenIn : ℕ → ℕ → List ℕ → ℕ → ℕ → List ℕ → List ℕ
+overwrittenIn p w b n at new = cond (mayOverwrite p w b n at new) (refilled p w b n at new) b
 
 -- ---- what a table says: h tells what a place is, by whether it is used and by its record
 

@@ -5,7 +5,7 @@
 // A place is used exactly when the order lists it; what is not listed is never read. So neighbours decide that all keys differ, one pass tests a
 // table, and there is no mark that could disagree with it. A room is a table of seats, and each seat has a table of routes.
 ghost use mathlib.Core.Path.{_≡_};
-ghost use Rattle.table.specs.Table.{fitsTable, isTable, found, keyOfPlace, isUsed, lowestFree, mayPut, putIn, freedIn};
+ghost use Rattle.table.specs.Table.{fitsTable, isTable, found, keyOfPlace, isUsed, usedPlaces, lowestFree, mayPut, putIn, freedIn, mayOverwrite, overwrittenIn};
 
 mod order;
 mod records;
@@ -77,6 +77,17 @@ pub fn is_used(table: &[u8], places: usize, place: usize) -> bool
     order::lists(table, places, place)
 }
 
+// The places that are used, a byte each, in the rising order of their keys; none in bytes that are too short.
+pub fn used(table: &[u8], places: usize) -> &[u8]
+    ensures { λ r. ⌜ now r ≡ usedPlaces places (now (table .entry)) ⌝ }
+{
+    if table.len() <= places {
+        return &table[0..0];
+    }
+    let end = 1 + order::length(table, places);
+    &table[1..end]
+}
+
 // The lowest place that is not used, or `places` where all are.
 pub fn lowest_free(table: &[u8], places: usize) -> usize
     ensures { λ r. ⌜ r ≡ lowestFree places (now (table .entry)) ⌝ }
@@ -131,4 +142,50 @@ pub fn free(table: &mut [u8], places: usize, place: usize)
         return;
     }
     order::remove(table, places, place);
+}
+
+// Whether part of a place's record may be overwritten: the place is used, and the part stands behind the key and within the record.
+fn may_overwrite(
+    table: &[u8],
+    places: usize,
+    width: usize,
+    place: usize,
+    at: usize,
+    part: &[u8],
+) -> bool
+    ensures { λ r. ⌜ r ≡ mayOverwrite places width (now (table .entry)) place at (now (part .entry)) ⌝ }
+{
+    if !fits(table, places, width) {
+        return false;
+    }
+    if places <= place {
+        return false;
+    }
+    if at < Key::BYTES {
+        return false;
+    }
+    if width < at {
+        return false;
+    }
+    if width - at < part.len() {
+        return false;
+    }
+    order::lists(table, places, place)
+}
+
+// A field behind the key of a used place changes: the record is `part` from its byte `at` on. The key and so the order stay.
+pub fn overwrite(
+    table: &mut [u8],
+    places: usize,
+    width: usize,
+    place: usize,
+    at: usize,
+    part: &[u8],
+)
+    ensures { λ _. ⌜ now (table .exit) ≡ overwrittenIn places width (now (table .entry)) place at (now (part .entry)) ⌝ }
+{
+    if !may_overwrite(table, places, width, place, at, part) {
+        return;
+    }
+    records::refill(table, places, width, place, at, part);
 }

@@ -2,7 +2,7 @@
 ghost use mathlib.Core.Path.{_≡_};
 ghost use Prim.Native.Nat.{_<_, _≤_};
 ghost use lib.ListN.{length};
-ghost use Rattle.table.specs.Bytes.{indexOf, member};
+ghost use Rattle.lists.specs.Find.{indexOf, member};
 ghost use mathlib.Core.List.{[]};
 ghost use Rattle.table.specs.Table.{count, listed, lowest, entered, closed, freed};
 ghost use Rattle.table.specs.Marks.{Marked};

@@ -1,10 +1,10 @@
 // The records of a table: where each stands, how their keys compare, and the passes over those that are listed.
 ghost use mathlib.Core.Path.{_≡_};
-ghost use Prim.Native.Nat.{_<_, _≤_};
-ghost use lib.ListN.{length, take};
+ghost use Prim.Native.Nat.{_+_, _<_, _≤_};
+ghost use lib.ListN.{length};
 ghost use Rattle.key.specs.Keys.{sameKey};
 ghost use Rattle.table.specs.Bytes.{keyBefore};
-ghost use Rattle.table.specs.Table.{Table, Spot, count, listed, keyAt, tableWhole, findKey, position, put};
+ghost use Rattle.table.specs.Table.{Table, Spot, count, listed, keyAt, tableWhole, findKey, position, put, refilled};
 use crate::order;
 use key::Key;
 
@@ -177,6 +177,23 @@ fn position_of(table: &[u8], places: usize, width: usize, key: &[u8]) -> usize
     i
 }
 
+// The record of a place is `part` from its byte `at` on.
+pub(crate) fn refill(
+    table: &mut [u8],
+    places: usize,
+    width: usize,
+    place: usize,
+    at: usize,
+    part: &[u8],
+)
+    requires { ⌜ Table places width (now table) × (place < places) × (at + length (now part) ≤ width) ⌝ }
+    ensures { λ _. ⌜ now (table .exit) ≡ refilled places width (now (table .entry)) place at (now (part .entry)) ⌝ }
+{
+    let from = spot(table, places, width, place) + at;
+    let to = from + part.len();
+    bytes::copy(part, &mut table[from..to]);
+}
+
 // The place is listed where its key belongs, and its record begins with `record`.
 pub(crate) fn enter(table: &mut [u8], places: usize, width: usize, place: usize, record: &[u8])
     requires { ⌜ Table places width (now table) × (count (now table) < places) × (place < places) × (32 ≤ length (now «record»)) × (length (now «record») ≤ width) ⌝ }
@@ -184,10 +201,8 @@ pub(crate) fn enter(table: &mut [u8], places: usize, width: usize, place: usize,
 {
     let count = table[0] as usize;
     let at = position_of(table, places, width, &record[0..32]);
-    let from = spot(table, places, width, place);
-    let to = from + record.len();
     let end = 1 + places;
     order::open(&mut table[1..end], at, count, place as u8);
-    bytes::copy(record, &mut table[from..to]);
+    refill(table, places, width, place, 0, record);
     table[0] = (count + 1) as u8;
 }

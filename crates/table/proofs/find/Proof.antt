@@ -3,7 +3,7 @@ use borrow.Author.Needs.{needs}
 use borrow.Author.Tests.{not-true, not-false}
 use mathlib.Core.Path.{_≡_, sym, _∙_}
 use lib.ListN.{length, length-map}
-use Rattle.table.proofs.FitsLaws.{fits-table, found-fits, found-unfit}
+use Rattle.table.proofs.FitsLaws.{fits-table, found-unfit, found-done}
 use Rattle.table.proofs.find.Statement.{statement}
 use Rattle.table.proofs.find.Tie as tie
 
@@ -29,7 +29,8 @@ place-of-requires c κs =
 returns-2 : tie.Need-returns-2
 returns-2 c =
     let a = c .before .before .before .before .before .before .args in
-    c .place-of .ensures ∙ sym (found-fits (a .places) (a .width) (a .table .now) (a .key .0) (sym (c .before .before .before .before .fits2 .ensures) ∙ not-false _ (c .before .before .before .if1 .left)))
+    found-done (a .places) (a .width) (a .table .now) (a .key .0) _ (c .before .before .before .before .fits2 .ensures) (c .before .before .before .if1 .left)
+    _ (c .place-of .ensures)
 
 pub find-spec : {M : Type 1} → statement M
 find-spec = tie.close (tie.spec fits-requires returns slice-aggregate-place-of place-of-requires returns-2)

@@ -1,8 +1,6 @@
 -- `table::put` meets its contract: nothing where the place may not be put in use, else it is entered. Assumes nothing.
 use borrow.Author.Needs.{needs}
-use borrow.Author.Tests.{not-true, not-false}
-use mathlib.Core.Path.{sym, _∙_}
-use Rattle.table.proofs.FitsLaws.{may-facts, put-may, put-not}
+use Rattle.table.proofs.FitsLaws.{may-facts, put-allowed, put-entered, put-refused}
 use Rattle.table.proofs.put.Statement.{statement}
 use Rattle.table.proofs.put.Tie as tie
 
@@ -15,12 +13,13 @@ same-length c = search needs
 returns : tie.Need-returns
 returns c =
     let a = c .before .before .before .before .before .args in
-    sym (put-not (a .places) (a .width) (a .table .now) (a .place) (a .«record» .now) (sym (c .before .may-put .ensures) ∙ not-true _ (c .if1 .taken)))
+    put-refused (a .places) (a .width) (a .table .now) (a .place) (a .«record» .now) _ (c .before .may-put .ensures) (c .if1 .taken)
 
 enter-requires : tie.Need-enter-requires
 enter-requires c κs =
     let a = c .before .before .before .before .before .before .args in
-    may-facts (a .places) (a .width) (a .table .now) (a .place) (a .«record» .now) (sym (c .before .before .may-put .ensures) ∙ not-false _ (c .before .if1 .left))
+    may-facts (a .places) (a .width) (a .table .now) (a .place) (a .«record» .now)
+    (put-allowed (a .places) (a .width) (a .table .now) (a .place) (a .«record» .now) _ (c .before .before .may-put .ensures) (c .before .if1 .left))
 
 same-length-2 : tie.Need-same-length-2
 same-length-2 c = search needs
@@ -28,7 +27,8 @@ same-length-2 c = search needs
 returns-2 : tie.Need-returns-2
 returns-2 c =
     let a = c .before .before .before .before .before .before .before .before .before .args in
-    c .before .before .enter .ensures ∙ sym (put-may (a .places) (a .width) (a .table .now) (a .place) (a .«record» .now) (sym (c .before .before .before .before .before .may-put .ensures) ∙ not-false _ (c .before .before .before .before .if1 .left)))
+    put-entered (a .places) (a .width) (a .table .now) (a .place) (a .«record» .now)
+    _ (c .before .before .before .before .before .may-put .ensures) (c .before .before .before .before .if1 .left) _ (c .before .before .enter .ensures)
 
 pub put-spec : {M : Type 1} → statement M
 put-spec = tie.close (tie.spec may-put-requires same-length returns enter-requires same-length-2 returns-2)

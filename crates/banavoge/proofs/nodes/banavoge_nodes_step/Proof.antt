@@ -5,6 +5,7 @@ use mir.Syntax.{w32}
 use mir.ValLaws.{toZ-ofZ}
 use Rattle.wire.proofs.Numbers.{bytes-each}
 use Rattle.node.specs.Steps.{stepOf}
+use Rattle.banavoge.specs.Nodes.{nodePlaces}
 use Rattle.banavoge.proofs.NodeTelling.{step-told, step-ended, step-turned}
 use Rattle.banavoge.proofs.nodes.banavoge_nodes_step.Statement.{statement}
 use Rattle.banavoge.proofs.nodes.banavoge_nodes_step.Tie as tie
@@ -31,10 +32,12 @@ returns : tie.Need-returns
 returns c =
     let a = c .before .before .before .before .before .before .before .before .before .before .before .args in
     let step = c .before .before .before .before .before .before .before .before .before .step-from in
+    let left = c .tell-node .last .1 .1 in
     record {
       bytes = bytes-each (a .list .now) (λ i. c .before .before .before .before .before .before .before .before .before .before .shared-slice-known .given i .fits);
       does =
-          step-told (a .place) (a .count) (step .result) (stepOf (a .list .now) (a .place) (a .count)) _ _ (step .ensures .exact)
+          step-told (a .place) (a .count) (step .result) (stepOf (a .list .now) (a .place) (a .count)) _
+          (nodePlaces (left .0) (left .1 .0) (left .1 .1 .0) (left .1 .1 .1 .0) (left .1 .1 .1 .1 .0)) (step .ensures .exact)
           (c .before .before .before .before .before .before .enum-told .given .1) (c .tell-node .ensures);
     }
 

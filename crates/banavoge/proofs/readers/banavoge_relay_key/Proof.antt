@@ -1,11 +1,12 @@
 -- `banavoge_relay_key` meets its contract: the key of the packet read, or the refusal. Assumes nothing.
 use borrow.Author.Needs.{needs}
-use mathlib.Core.Path.{_∙_}
+use mathlib.Core.Path.{_∙_, sym}
 use mir.Syntax.{w32}
 use mir.ValLaws.{toZ-ofZ, toZ-pos}
 use Rattle.packet.specs.FromClient.{relayRead}
 use native.Mathlib.Omega.{arith}
 use Rattle.packet.specs.RelayReads.{relayKey}
+use Rattle.packet.proofs.RelayLaws.{relay-key}
 use Rattle.banavoge.specs.Fields.{clientFields}
 use Rattle.banavoge.proofs.Reading.{relay-found, relay-turned, tells-key, refuses-key}
 use Rattle.banavoge.proofs.readers.banavoge_relay_key.Statement.{statement}
@@ -36,7 +37,8 @@ returns : tie.Need-returns
 returns c =
     tells-key clientFields (relayRead (c .before .before .before .before .before .before .before .before .before .args .packet .now)) _ relayKey (c .before .of-client .result) _ _
     (relay-found (relayRead (c .before .before .before .before .before .before .before .before .before .args .packet .now)) (c .before .before .before .before .before .before .before .read .result) (c .before .before .before .before .before .shown .given .0 .0) (c .before .of-client .result) (c .before .before .before .before .before .before .before .read .ensures .exact) (c .before .before .before .before .before .shown .given .1) (c .before .of-client .ensures))
-    (toZ-pos w32 (c .before .of-client .result .kind) (omega (arith, c .struct-known .given))) (c .before .before .before .key .ensures)
+    (toZ-pos w32 (c .before .of-client .result .kind) (omega (arith, c .struct-known .given)))
+    (c .before .before .before .key .ensures ∙ relay-key (c .before .before .before .before .before .before .before .before .before .args .packet .now) (c .before .before .before .before .before .shown .given .0 .0) (sym (c .before .before .before .before .before .shown .given .1) ∙ c .before .before .before .before .before .before .before .read .ensures .exact))
 
 returns-2 : tie.Need-returns-2
 returns-2 c =

@@ -8,7 +8,7 @@ use lib.ListN.{length, getD, take, drop, set, drop-of-length-le}
 use lib.Seq.{take-all}
 use Rattle.node.specs.declared.Node.{Node}
 use Rattle.node.specs.Values.{blankNode}
-use Rattle.nearest.proofs.Shift.{slot-stored}
+use Rattle.lists.proofs.Shift.{slot-stored}
 use Rattle.lent_list.specs.Layout.{slotAt, slotsAt}
 use Rattle.lent_list.proofs.SlotLaws.{slot-lent, slots-at, slots-number}
 use Rattle.lent_list.proofs.slot.read_all.Statement.{statement}

@@ -1,16 +1,15 @@
 -- `slots::close_at` meets its contract. The invariant: the slots passed are those of the list with the node taken out. Assumes nothing.
 use borrow.Author.Needs.{needs}
-use mathlib.Core.Path.{_≡_, _∙_, sym, ap, ap₂}
+use mathlib.Core.Path.{_≡_, _∙_, ap, ap₂}
 use mathlib.Core.List.{List, _++_}
 use Prim.Native.Nat.{ℕ, _+_, _-_, _<_, _≤_}
 use native.Mathlib.Omega.{arith}
-use native.Mathlib.Numerals.{add-one}
-use lib.ListN.{length, getD, take, drop, set, take-append-drop}
+use lib.ListN.{length, getD, take, drop, set}
+use Rattle.lists.specs.Insert.{removeAt}
+use Rattle.lists.proofs.Shift.{slot-set, length-out, close-begins, close-next, close-stored}
 use Rattle.node.specs.declared.Node.{Node}
 use Rattle.node.specs.Values.{blankNode}
-use Rattle.nearest.specs.Slots.{removeAt}
 use Rattle.nearest.proofs.Front.{noNode}
-use Rattle.nearest.proofs.Shift.{slot-stored, slot-next-still, slot-set, length-out, take-out, after-out}
 use Rattle.nearest.proofs.slots.close_at.Statement.{statement}
 use Rattle.nearest.proofs.slots.close_at.Tie as tie
 
@@ -23,7 +22,7 @@ abbrev μ-loop : tie.MeasureT-loop
 loop-holds : tie.Need-loop-holds Inv-loop μ-loop
 loop-holds c =
     let a = c .args in
-    (omega arith, omega arith, sym (ap (λ (x : List Node). x ++ drop (a .place) (a .nodes)) (take-out (a .place) (a .nodes)) ∙ take-append-drop (a .place) (a .nodes)))
+    (omega arith, omega arith, close-begins (a .place) (a .nodes))
 
 add-next : tie.Need-add-next Inv-loop μ-loop
 add-next c = search needs
@@ -50,16 +49,13 @@ loop-again : tie.Need-loop-again Inv-loop μ-loop
 loop-again c =
     let l = c .before .before .loop in
     let a = c .before .before .before .args in
-    let R : List Node = removeAt (a .place) (a .nodes) in
-    let hl : l .i < length (a .nodes) = omega arith in
-    let q = length-out (a .place) (a .nodes) (omega arith) in
-    let hr : l .i < length R = omega arith in
-    let v : getD (l .out) (l .i + 1) noNode ≡ getD R (l .i) noNode
-    = ap (λ (x : List Node). getD x (l .i + 1) noNode) (l .inv .2)
-    ∙ slot-next-still R (a .nodes) noNode (l .i) (omega arith)
-    ∙ ap (λ (x : ℕ). getD (a .nodes) x noNode) (add-one (l .i))
-    ∙ sym (after-out (a .place) (a .nodes) noNode (l .i) (l .inv .0)) in
-    (omega arith, omega arith, ap₂ (λ (x : List Node) (y : Node). set x (l .i) y) (l .inv .2) v ∙ slot-stored R (a .nodes) noNode (l .i) hr hl)
+    let h : l .i + 1 < length (a .nodes) = omega arith in
+    let v : getD (l .out) (l .i + 1) noNode ≡ getD (removeAt (a .place) (a .nodes)) (l .i) noNode
+    = ap (λ (x : List Node). getD x (l .i + 1) noNode) (l .inv .2) ∙ close-next (a .place) (a .nodes) noNode (l .i) (l .inv .0) h in (
+      omega arith,
+      omega arith,
+      ap₂ (λ (x : List Node) (y : Node). set x (l .i) y) (l .inv .2) v ∙ close-stored (a .place) (a .nodes) noNode (l .i) (l .inv .0) h,
+    )
 
 blank-requires : tie.Need-blank-requires Inv-loop μ-loop
 blank-requires c κs = search needs

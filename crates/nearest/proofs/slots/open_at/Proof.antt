@@ -5,12 +5,11 @@ use mathlib.Core.Path.{_≡_, _∙_, sym, ap, ap₂}
 use mathlib.Core.List.{List, _++_}
 use Prim.Native.Nat.{ℕ, _+_, _-_, _<_, _≤_}
 use native.Mathlib.Omega.{arith}
-use native.Mathlib.Numerals.{add-one}
-use lib.ListN.{length, getD, take, drop, set, take-append-drop}
+use lib.ListN.{length, getD, take, drop, set}
+use Rattle.lists.specs.Insert.{insertAt}
+use Rattle.lists.proofs.Shift.{at-in, open-begins, open-stored, open-carried}
 use Rattle.node.specs.declared.Node.{Node}
-use Rattle.nearest.specs.Slots.{insertAt}
 use Rattle.nearest.proofs.Front.{noNode}
-use Rattle.nearest.proofs.Shift.{slot-still, slot-stored, length-in, take-in, at-in, after-in}
 use Rattle.nearest.proofs.slots.open_at.Statement.{statement}
 use Rattle.nearest.proofs.slots.open_at.Tie as tie
 
@@ -27,7 +26,7 @@ loop-holds c =
     let h : a .place ≤ length (a .nodes) = omega arith in (
       omega arith,
       omega arith,
-      sym (ap (λ (x : List Node). x ++ drop (a .place) (a .nodes)) (take-in (a .place) (a .node) (a .nodes) h) ∙ take-append-drop (a .place) (a .nodes)),
+      open-begins (a .place) (a .node) (a .nodes) h,
       sym (at-in (a .place) (a .node) (a .nodes) noNode h),
     )
 
@@ -53,16 +52,12 @@ loop-again : tie.Need-loop-again Inv-loop μ-loop
 loop-again c =
     let l = c .before .before .loop in
     let a = c .before .before .before .args in
-    let R : List Node = insertAt (a .place) (a .node) (a .nodes) in
-    let h : a .place ≤ length (a .nodes) = omega arith in
-    let hl : l .i < length (a .nodes) = omega arith in
-    let q = length-in (a .place) (a .node) (a .nodes) in
-    let hr : l .i < length R = omega arith in (
+    let h : l .i < length (a .nodes) = omega arith in (
       omega arith,
       omega arith,
-      ap₂ (λ (x : List Node) (y : Node). set x (l .i) y) (l .inv .2) (l .inv .3) ∙ slot-stored R (a .nodes) noNode (l .i) hr hl,
-      ap (λ (x : List Node). getD x (l .i) noNode) (l .inv .2) ∙ slot-still R (a .nodes) noNode (l .i) hr hl
-          ∙ sym (rw add-one (after-in (a .place) (a .node) (a .nodes) noNode (l .i) (l .inv .0) h)),
+      ap₂ (λ (x : List Node) (y : Node). set x (l .i) y) (l .inv .2) (l .inv .3)
+          ∙ open-stored (a .place) (a .node) (a .nodes) noNode (l .i) (l .inv .0) h,
+      ap (λ (x : List Node). getD x (l .i) noNode) (l .inv .2) ∙ open-carried (a .place) (a .node) (a .nodes) noNode (l .i) (l .inv .0) h,
     )
 
 returns : tie.Need-returns Inv-loop μ-loop

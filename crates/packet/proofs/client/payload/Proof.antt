@@ -1,112 +1,70 @@
--- `packet::client::payload` meets its contract: the reader's answer says where the payload stands, or that there is none. Assumes nothing.
+-- `packet::client::payload` meets its contract: the part that was shown, or the empty part at the front. Assumes nothing.
 use borrow.Author.Needs.{needs}
 use mathlib.Core.Path.{_≡_, refl, sym, subst}
-use mathlib.Core.List.{List, [], _∷_}
-use Prim.Native.Nat.{ℕ, _+_}
-use denote.Ref.{RefT}
+use mathlib.Core.List.{[], _∷_}
 use types.Run.{OneOf, miss}
 use denote.Enum.Declared.{tagOf}
 use Rattle.packet.specs.declared.client.RelayPacket.{RelayPacket}
 use Rattle.packet.specs.declared.client.RelayPacket.the-variants.{RoutingResponse, ConnectNotification, DisconnectNotification, Ping, Pong, OobReceived, Data}
-use Rattle.packet.specs.declared.client.ClientRead.the-variants.{Packet, Refused}
-use Rattle.packet.specs.Parts.{PartAt}
-use Rattle.packet.specs.ClientReads.{relayPacketOf, clientReadOf, payloadFromRelay, clientPayload}
+use Rattle.packet.specs.Parts.{noPart, PartAt}
+use Rattle.packet.specs.ClientReads.{relayPart}
 use Rattle.packet.proofs.client.RelayPacket as enum
-use Rattle.packet.proofs.PartLaws.{at-front}
-use Rattle.packet.proofs.ClientLaws.{relayPlace, clientReadPlace, client-payload}
+use Rattle.packet.proofs.PartLaws.{no-part-at}
 use Rattle.packet.proofs.client.payload.Statement.{statement}
 use Rattle.packet.proofs.client.payload.Tie as tie
 
--- the kinds of the last arm have no payload: the part is empty, at the front
-none : (packet part : RefT (List ℕ)) (p : RelayPacket) → OneOf (0 ∷ 1 ∷ 2 ∷ 3 ∷ 4 ∷ []) (tagOf enum.the-type p)
-    → part .now ≡ [] → part .ptr ≡ (packet .ptr .0, packet .ptr .1 + 0)
-    → PartAt packet (relayPlace (packet .now) p) (payloadFromRelay (relayPacketOf (packet .now) p)) part
-unfolding payloadFromRelay relayPacketOf relayPlace
-none packet part (RoutingResponse number key) h e f = record { holds = e; stands = f }
-none packet part (ConnectNotification number) h e f = record { holds = e; stands = f }
-none packet part (DisconnectNotification number) h e f = record { holds = e; stands = f }
-none packet part (Ping n) h e f = record { holds = e; stands = f }
-none packet part (Pong n) h e f = record { holds = e; stands = f }
-none packet part (OobReceived key payload) h e f = absurd (miss (0 ∷ 1 ∷ 2 ∷ 3 ∷ 4 ∷ []) 5 tt h)
-none packet part (Data number payload) h e f = absurd (miss (0 ∷ 1 ∷ 2 ∷ 3 ∷ 4 ∷ []) 6 tt h)
+-- the kinds of the last arm have no payload
+none : (p : RelayPacket) → OneOf (0 ∷ 1 ∷ 2 ∷ 3 ∷ 4 ∷ []) (tagOf enum.the-type p) → relayPart p ≡ noPart
+unfolding relayPart
+none (RoutingResponse number key) h = refl
+none (ConnectNotification number) h = refl
+none (DisconnectNotification number) h = refl
+none (Ping n) h = refl
+none (Pong n) h = refl
+none (OobReceived key part) h = absurd (miss (0 ∷ 1 ∷ 2 ∷ 3 ∷ 4 ∷ []) 5 tt h)
+none (Data number part) h = absurd (miss (0 ∷ 1 ∷ 2 ∷ 3 ∷ 4 ∷ []) 6 tt h)
 
-read-requires : tie.Need-read-requires
-read-requires c κs = search needs
+enum-known-shown : tie.Need-enum-known-shown
+enum-known-shown c = search needs
 
-enum-known-read : tie.Need-enum-known-read
-enum-known-read c = search needs
+bytes-at-requires : tie.Need-bytes-at-requires
+bytes-at-requires c κs = search needs
 
-enum-told : tie.Need-enum-told
-enum-told c = search needs
+enum-known-shown-2 : tie.Need-enum-known-shown-2
+enum-known-shown-2 c = search needs
+
+bytes-at-requires-2 : tie.Need-bytes-at-requires-2
+bytes-at-requires-2 c κs = search needs
 
 slice-aggregate-result : tie.Need-slice-aggregate-result
 slice-aggregate-result c = search needs
 
 returns : tie.Need-returns
-unfolding clientReadOf clientPayload clientReadPlace
+unfolding relayPart
 returns c =
     let packet = c .before .before .before .before .before .args .packet in
-    let answer = c .before .before .before .read in
-    client-payload packet _ (answer .result) (Refused _) (answer .ensures) (c .before .enum-told .given .1) (record { holds = refl; stands = at-front packet })
-
-enum-known-read-2 : tie.Need-enum-known-read-2
-enum-known-read-2 c = search needs
-
-bytes-at-requires : tie.Need-bytes-at-requires
-bytes-at-requires c κs = search needs
-
-enum-known-read-3 : tie.Need-enum-known-read-3
-enum-known-read-3 c = search needs
-
-bytes-at-requires-2 : tie.Need-bytes-at-requires-2
-bytes-at-requires-2 c κs = search needs
-
-slice-aggregate-result-2 : tie.Need-slice-aggregate-result-2
-slice-aggregate-result-2 c = search needs
+    subst (λ (p : RelayPacket). PartAt packet (relayPart p) (c .bytes-at .result)) (sym (c .before .before .shown .given .1)) (c .bytes-at .ensures)
 
 returns-2 : tie.Need-returns-2
-unfolding clientReadOf clientPayload payloadFromRelay relayPacketOf clientReadPlace relayPlace
+unfolding relayPart
 returns-2 c =
-    let packet = c .before .before .before .before .before .before .before .before .before .args .packet in
-    let answer = c .before .before .before .before .before .before .before .read in
-    let shown = c .before .before .before .before .before .read2 .given in
-    client-payload packet (c .bytes-at .result) (answer .result) (Packet (shown .0 .0)) (answer .ensures) (shown .1)
-    (subst (λ (p : RelayPacket). PartAt packet (relayPlace (packet .now) p) (payloadFromRelay (relayPacketOf (packet .now) p)) (c .bytes-at .result))
-    (sym (c .before .before .read3 .given .1)) (c .bytes-at .ensures))
+    let packet = c .before .before .before .before .before .args .packet in
+    subst (λ (p : RelayPacket). PartAt packet (relayPart p) (c .bytes-at2 .result)) (sym (c .before .before .shown2 .given .1)) (c .bytes-at2 .ensures)
 
 returns-3 : tie.Need-returns-3
-unfolding clientReadOf clientPayload payloadFromRelay relayPacketOf clientReadPlace relayPlace
 returns-3 c =
-    let packet = c .before .before .before .before .before .before .before .before .before .args .packet in
-    let answer = c .before .before .before .before .before .before .before .read in
-    let shown = c .before .before .before .before .before .read2 .given in
-    client-payload packet (c .bytes-at2 .result) (answer .result) (Packet (shown .0 .0)) (answer .ensures) (shown .1)
-    (subst (λ (p : RelayPacket). PartAt packet (relayPlace (packet .now) p) (payloadFromRelay (relayPacketOf (packet .now) p)) (c .bytes-at2 .result))
-    (sym (c .before .before .read4 .given .1)) (c .bytes-at2 .ensures))
-
-returns-4 : tie.Need-returns-4
-unfolding clientReadOf clientPayload clientReadPlace
-returns-4 c =
-    let packet = c .before .before .before .before .before .before .before .args .packet in
-    let answer = c .before .before .before .before .before .read in
-    let shown = c .before .before .before .read2 .given in
-    client-payload packet _ (answer .result) (Packet (shown .0 .0)) (answer .ensures) (shown .1)
-    (none packet _ (shown .0 .0) (c .before .match2 .keys3) refl (at-front packet))
+    let a = c .before .before .before .args in
+    no-part-at (a .packet) _ (relayPart (a .shown)) (none (a .shown) (c .before .match .keys3)) refl refl
 
 pub payload-spec : {M : Type 1} → statement M
 payload-spec =
     tie.close
     (tie.spec
-    read-requires
-    enum-known-read
-    enum-told
+    enum-known-shown
+    bytes-at-requires
+    enum-known-shown-2
+    bytes-at-requires-2
     slice-aggregate-result
     returns
-    enum-known-read-2
-    bytes-at-requires
-    enum-known-read-3
-    bytes-at-requires-2
-    slice-aggregate-result-2
     returns-2
-    returns-3
-    returns-4)
+    returns-3)

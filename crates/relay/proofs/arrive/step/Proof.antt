@@ -38,9 +38,6 @@ lowest-empty-requires c κs = search needs
 enum-known-seat : tie.Need-enum-known-seat
 enum-known-seat c = search needs
 
-take-seat-requires : tie.Need-take-seat-requires
-take-seat-requires c κs = search needs
-
 enum-told-3 : tie.Need-enum-told-3
 enum-told-3 c = search needs
 
@@ -50,21 +47,6 @@ same-length-2 c = search needs
 returns-2 : tie.Need-returns-2
 unfolding answerOf
 returns-2 c =
-    let s = c .before .before .before .before .before .before .before .before .before .before .before .before .before .before in
-    let a = s .args in
-    let b = a .memory .now in
-    let e = sym (seat-holding-finds (a .seats) (a .numbers) b (s .pre) (a .key .0))
-    ∙ seat-not-found (seatHolding (a .seats) (a .numbers) b (a .key .0)) (sym (c .before .before .before .before .before .before .before .before .before .before .before .seat-of .ensures) ∙ c .before .before .before .before .before .before .before .before .before .enum-told .given .1) in
-    let d = sym (lowest-empty-finds (a .seats) (a .numbers) b (s .pre))
-    ∙ seat-found (lowestEmpty (a .seats) (a .numbers) b) (c .before .before .before .before .before .seat .given .0 .0) (sym (c .before .before .before .before .before .before .before .lowest-empty .ensures) ∙ c .before .before .before .before .before .seat .given .1) in
-    arrive-seat (a .seats) (a .numbers) (viewRoom (a .seats) (a .numbers) b) b (a .key .0) (c .before .before .before .before .before .seat .given .0 .0 .0) e d _ (c .before .before .take-seat .ensures)
-
-same-length-3 : tie.Need-same-length-3
-same-length-3 c = search needs
-
-returns-3 : tie.Need-returns-3
-unfolding answerOf
-returns-3 c =
     let s = c .before .before .before .before .before .before .before .before .before in
     let a = s .args in
     let b = a .memory .now in
@@ -73,6 +55,28 @@ returns-3 c =
     let d = sym (lowest-empty-finds (a .seats) (a .numbers) b (s .pre))
     ∙ seat-not-found (lowestEmpty (a .seats) (a .numbers) b) (sym (c .before .before .lowest-empty .ensures) ∙ c .enum-told3 .given .1) in
     arrive-full (a .seats) (a .numbers) (viewRoom (a .seats) (a .numbers) b) b (a .key .0) e d
+
+take-seat-requires : tie.Need-take-seat-requires
+take-seat-requires c κs = search needs
+
+same-length-3 : tie.Need-same-length-3
+same-length-3 c = search needs
+
+returns-3 : tie.Need-returns-3
+unfolding answerOf
+returns-3 c =
+    let f = c .before .before .before .before .before in
+    let found = f .seat .given in
+    let look = f .before .before in
+    let s = look .before .before .before .before .before .before .before in
+    let a = s .args in
+    let b = a .memory .now in
+    let e = sym (seat-holding-finds (a .seats) (a .numbers) b (s .pre) (a .key .0))
+    ∙ seat-not-found (seatHolding (a .seats) (a .numbers) b (a .key .0))
+    (sym (look .before .before .before .before .seat-of .ensures) ∙ look .before .before .enum-told .given .1) in
+    let d = sym (lowest-empty-finds (a .seats) (a .numbers) b (s .pre))
+    ∙ seat-found (lowestEmpty (a .seats) (a .numbers) b) (found .0 .0) (sym (look .lowest-empty .ensures) ∙ found .1) in
+    arrive-seat (a .seats) (a .numbers) (viewRoom (a .seats) (a .numbers) b) b (a .key .0) (found .0 .0 .0) e d _ (c .before .before .take-seat .ensures)
 
 pub step-spec : {M : Type 1} → statement M
 step-spec =
@@ -85,9 +89,9 @@ step-spec =
     returns
     lowest-empty-requires
     enum-known-seat
-    take-seat-requires
     enum-told-3
     same-length-2
     returns-2
+    take-seat-requires
     same-length-3
     returns-3)

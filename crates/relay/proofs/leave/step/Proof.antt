@@ -28,7 +28,7 @@ tell-peers-requires c κs =
     let s = c .before .before .before .before .before .before .before .before .before in
     let a = s .args in (
       s .pre .0,
-      leave-sits (a .seats) (a .numbers) (a .memory .now) (s .pre .0) (a .seat .0) (sym (c .before .before .before .before .before .is-taken .ensures) ∙ not-false _ (c .before .before .before .before .if1 .left))
+      leave-sits (a .seats) (a .numbers) (a .memory .now) (s .pre .0) (a .seat .0) (c .before .before .before .before .before .is-taken .result) (c .before .before .before .before .before .is-taken .ensures) (not-false _ (c .before .before .before .before .if1 .left))
           (c .before .before .key-in .result .0) (c .before .before .key-in .ensures),
       s .pre .1,
     )
@@ -48,7 +48,7 @@ returns-2 c =
     let s = c .before .before .before .before .before .before .before .before .before .before .before .before .before .before .before .before in
     let a = s .args in
     let key = c .before .before .before .before .before .before .before .before .before .key-in in
-    let sits = leave-sits (a .seats) (a .numbers) (a .memory .now) (s .pre .0) (a .seat .0) (sym (c .before .before .before .before .before .before .before .before .before .before .before .before .is-taken .ensures) ∙ not-false _ (c .before .before .before .before .before .before .before .before .before .before .before .if1 .left))
+    let sits = leave-sits (a .seats) (a .numbers) (a .memory .now) (s .pre .0) (a .seat .0) (c .before .before .before .before .before .before .before .before .before .before .before .before .is-taken .result) (c .before .before .before .before .before .before .before .before .before .before .before .before .is-taken .ensures) (not-false _ (c .before .before .before .before .before .before .before .before .before .before .before .if1 .left))
     (key .result .0) (key .ensures) in
     leave-seat (a .seats) (a .numbers) (a .memory .now) (s .pre .0) (a .seat .0) (key .result .0) sits (a .out .now) _ _ _
     (c .before .before .before .before .before .before .tell-peers .ensures) (c .before .before .empty-seat .ensures)

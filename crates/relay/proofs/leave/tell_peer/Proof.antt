@@ -1,10 +1,11 @@
 -- `leave::tell_peer` meets its contract: a record where the number's route has a connected peer, none where not. Assumes nothing.
 use borrow.Author.Needs.{needs}
 use borrow.Author.Tests.{not-true, not-false}
-use Rattle.rules.specs.Outcome.{peer}
-use Rattle.room.specs.View.{viewRoom}
+use Rattle.room.specs.Lookup.{peerWanting}
+use Rattle.room_laws.proofs.PeersFound.{found-joined}
+use Rattle.records.proofs.Fits.{disconnected-fits}
 use Rattle.relay.proofs.LeaveCases.{tell-none, tell-alone, tell-joined}
-use Rattle.relay.proofs.PeersFound.{found-joined}
+use Rattle.relay.proofs.SeatedClient.{peer-is}
 use Rattle.relay.proofs.leave.tell_peer.Statement.{statement}
 use Rattle.relay.proofs.leave.tell_peer.Tie as tie
 
@@ -25,16 +26,7 @@ enum-known-other : tie.Need-enum-known-other
 enum-known-other c = search needs
 
 disconnected-requires : tie.Need-disconnected-requires
-disconnected-requires c κs =
-    let o = c .before .before .other .given in
-    let f = c .before .before .before .before in
-    let w = f .before .before .before .wanted-by in
-    let s = f .before .before .before .before .before .before in
-    let a = s .args in (
-      s .pre .2,
-      found-joined (peer (viewRoom (a .seats) (a .numbers) (a .memory .now)) (a .seat .0) (a .key .0) (w .result .key .0))
-          (f .of .result) (f .of .ensures) (o .0 .0) (o .0 .1 .0) (o .1) .1,
-    )
+disconnected-requires c κs = search needs
 
 enum-told : tie.Need-enum-told
 enum-told c = search needs
@@ -49,9 +41,12 @@ returns-2 c =
     let w = f .before .before .before .wanted-by in
     let s = f .before .before .before .before .before .before in
     let a = s .args in
+    let found = peer-is (a .seats) (a .numbers) (a .memory .now) (s .pre .0) (a .seat .0) (a .key .0) (w .result .key .0) (f .of .result) (f .of .ensures) in
     tell-joined (a .seats) (a .numbers) (a .memory .now) (s .pre .0) (a .seat .0) (a .key .0) (s .pre .1) (a .number .0) (s .pre .3)
     (w .result) (w .ensures) (a .out .now) (a .at) (not-false _ (f .before .if1 .left))
-    (f .of .result) (f .of .ensures) (o .0 .0) (o .0 .1 .0) (o .1) _ _ (c .before .before .disconnected .ensures)
+    (f .of .result) found (o .0 .0) (o .0 .1 .0) (o .1) _ _
+    (disconnected-fits (o .0 .1 .0 .0) (found-joined (peerWanting (a .seats) (a .numbers) (a .memory .now) (a .seat .0) (a .key .0) (w .result .key .0))
+    (f .of .result) (f .of .ensures) (o .0 .0) (o .0 .1 .0) (o .1) .1) (s .pre .2) (c .before .before .disconnected .ensures))
 
 returns-3 : tie.Need-returns-3
 returns-3 c =
@@ -59,8 +54,10 @@ returns-3 c =
     let w = f .before .before .before .wanted-by in
     let s = f .before .before .before .before .before .before in
     let a = s .args in
+    let found = peer-is (a .seats) (a .numbers) (a .memory .now) (s .pre .0) (a .seat .0) (a .key .0) (w .result .key .0) (f .of .result) (f .of .ensures) in
     tell-alone (a .seats) (a .numbers) (a .memory .now) (s .pre .0) (a .seat .0) (a .key .0) (s .pre .1) (a .number .0) (s .pre .3)
-    (w .result) (w .ensures) (a .out .now) (a .at) (not-false _ (f .before .if1 .left)) (f .of .result) (f .of .ensures) (c .enum-told .given .1)
+    (w .result) (w .ensures) (a .out .now) (a .at) (not-false _ (f .before .if1 .left))
+    (f .of .result) found (c .enum-told .given .1)
 
 pub tell-peer-spec : {M : Type 1} → statement M
 tell-peer-spec =

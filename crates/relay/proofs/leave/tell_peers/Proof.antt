@@ -10,8 +10,8 @@ use Rattle.room.specs.Layout.{routesTable}
 use Rattle.room.specs.View.{viewRoom, viewRoutes}
 use Rattle.room_laws.proofs.ViewLaws.{view-routes-length}
 use Rattle.room_laws.proofs.WholeLaws.{whole-few}
-use Rattle.relay.specs.Output.{Appends}
-use Rattle.relay.proofs.AppendLaws.{appends-length}
+use Rattle.records.specs.Output.{Appends}
+use Rattle.records.proofs.AppendLaws.{appends-length}
 use Rattle.relay.proofs.LeaveCases.{tells-begun, tells-more, tells-all, tell-next}
 use Rattle.relay.proofs.leave.tell_peers.Statement.{statement}
 use Rattle.relay.proofs.leave.tell_peers.Tie as tie

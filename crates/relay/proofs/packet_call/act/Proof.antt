@@ -1,18 +1,17 @@
 -- `packet_call::act` meets its contract: what the reader showed tells what was read, and each kind has its step. Assumes nothing.
 use borrow.Author.Needs.{needs}
-use mathlib.Core.Path.{sym, ap, _∙_}
 use native.Mathlib.Omega.{arith}
 use mathlib.Core.List.{_∷_, []}
 use Rattle.packet.specs.FromClient.{relayRead, Within}
 use Rattle.packet.specs.FromRelay as relay
-use Rattle.packet.specs.declared.relay.RelayRead.the-variants.{Packet}
+use Rattle.packet.specs.RelayReads.{clientPacketOf, clientPart}
 use Rattle.packet.proofs.ReadBounds.{read-within}
 use Rattle.rules.specs.Outcome.{act, to}
-use Rattle.room.specs.Layout.{routesTable}
-use Rattle.room.specs.View.{viewRoom, viewRoutes}
+use Rattle.room.specs.View.{viewRoom, seatHeld}
+use Rattle.records.proofs.Fits.{answered-fits}
 use Rattle.relay.specs.Calls.{answerOf}
 use Rattle.relay.proofs.OutcomeLeaves.{leaves-none, leaves-sent}
-use Rattle.relay.proofs.PacketCases.{acted, shows-request, shows-drop, shows-ping, shows-pong, shows-oob, shows-data}
+use Rattle.relay.proofs.PacketCases.{acted, shows-as, shows-request, shows-oob, shows-data}
 use Rattle.relay.proofs.packet_call.act.Statement.{statement}
 use Rattle.relay.proofs.packet_call.act.Tie as tie
 
@@ -35,12 +34,7 @@ enum-known-shown-2 : tie.Need-enum-known-shown-2
 enum-known-shown-2 c = search needs
 
 answered-requires : tie.Need-answered-requires
-unfolding Within
-answered-requires c κs =
-    let s = c .before .before .before .before .before .before .before in
-    let a = s .args in
-    let e = shows-ping (relayRead (a .packet .now)) (c .before .before .shown2 .given .0 .0) (ap Packet (sym (c .before .before .shown2 .given .1)) ∙ s .pre .2) in
-    (omega arith, read-within (a .packet .now) _ e)
+answered-requires c κs = search needs
 
 enum-told-2 : tie.Need-enum-told-2
 enum-told-2 c = search needs
@@ -59,7 +53,7 @@ unfolding Within
 out-of-band-requires c κs =
     let s = c .before .before .before .before .before .before .before .before .before in
     let a = s .args in
-    let e = shows-oob (relayRead (a .packet .now)) _ _ (c .before .before .key2 .result .0) (c .before .payload .result .now) (ap Packet (sym (c .before .before .before .before .enum-told3 .given .1)) ∙ s .pre .2) (c .before .before .key2 .ensures) (c .before .payload .ensures .holds) in
+    let e = shows-oob (a .packet .now) (a .shown) (s .pre .2) _ _ (c .before .before .key2 .result .0) (c .before .payload .result .now) (c .before .before .before .before .enum-told3 .given .1) (c .before .before .key2 .ensures) (c .before .payload .ensures .holds) in
     let h = read-within (a .packet .now) _ e in
     (s .pre .0, s .pre .3, h .0, h .1)
 
@@ -70,11 +64,11 @@ payload-requires-2 : tie.Need-payload-requires-2
 payload-requires-2 c κs = search needs
 
 data-requires : tie.Need-data-requires
-unfolding Within
+unfolding Within clientPart
 data-requires c κs =
     let s = c .before .before .before .before .before .before .before .before .before in
     let a = s .args in
-    let e = shows-data (relayRead (a .packet .now)) (c .before .before .before .before .shown3 .given .0 .0) _ (c .before .payload2 .result .now) (ap Packet (sym (c .before .before .before .before .shown3 .given .1)) ∙ s .pre .2) (c .before .payload2 .ensures .holds) in
+    let e = shows-data (a .packet .now) (a .shown) (s .pre .2) (c .before .before .before .before .shown3 .given .0 .0) _ (c .before .payload2 .result .now) (c .before .before .before .before .shown3 .given .1) (c .before .payload2 .ensures .holds) in
     let h = read-within (a .packet .now) _ e in
     (s .pre .0, s .pre .1, s .pre .3, h .0, h .1)
 
@@ -89,8 +83,8 @@ returns c =
     let s = c .before .before .before .before .before .before .before .before .before .before .before .before .before in
     let a = s .args in
     let b = a .memory .now in
-    let e = shows-request (relayRead (a .packet .now)) _ (c .before .before .before .before .before .before .key .result .0) (ap Packet (sym (c .before .before .before .before .before .before .before .before .enum-told .given .1)) ∙ s .pre .2) (c .before .before .before .before .before .before .key .ensures) in
-    acted (a .seats) (a .numbers) (viewRoom (a .seats) (a .numbers) b) (a .seat .0) b (a .out .now) _ _ _ (a .key .0) (viewRoutes (a .numbers) (routesTable (a .seats) (a .numbers) b (a .seat .0))) (relayRead (a .packet .now)) _ e
+    let e = shows-request (a .packet .now) (a .shown) (s .pre .2) _ (c .before .before .before .before .before .before .key .result .0) (c .before .before .before .before .before .before .before .before .enum-told .given .1) (c .before .before .before .before .before .before .key .ensures) in
+    acted (a .seats) (a .numbers) (viewRoom (a .seats) (a .numbers) b) (a .seat .0) b (a .out .now) _ _ _ (seatHeld (a .seats) (a .numbers) b (a .seat .0) (a .key .0)) (relayRead (a .packet .now)) _ e
     (c .before .before .before .before .step .ensures)
 
 same-length-3 : tie.Need-same-length-3
@@ -100,35 +94,37 @@ same-length-4 : tie.Need-same-length-4
 same-length-4 c = search needs
 
 returns-2 : tie.Need-returns-2
+unfolding clientPacketOf
 returns-2 c =
     let s = c .before .before .before .before .before .before .before .before .before .before .before .before .before in
     let a = s .args in
     let b = a .memory .now in
-    let e = shows-drop (relayRead (a .packet .now)) (c .before .before .before .before .before .before .before .before .shown .given .0 .0) (ap Packet (sym (c .before .before .before .before .before .before .before .before .shown .given .1)) ∙ s .pre .2) in
-    acted (a .seats) (a .numbers) (viewRoom (a .seats) (a .numbers) b) (a .seat .0) b (a .out .now) _ _ _ (a .key .0) (viewRoutes (a .numbers) (routesTable (a .seats) (a .numbers) b (a .seat .0))) (relayRead (a .packet .now)) _ e
+    let e = shows-as (a .packet .now) (a .shown) (s .pre .2) _ (c .before .before .before .before .before .before .before .before .shown .given .1) in
+    acted (a .seats) (a .numbers) (viewRoom (a .seats) (a .numbers) b) (a .seat .0) b (a .out .now) _ _ _ (seatHeld (a .seats) (a .numbers) b (a .seat .0) (a .key .0)) (relayRead (a .packet .now)) _ e
     (c .before .before .before .before .step2 .ensures)
 
 same-length-5 : tie.Need-same-length-5
 same-length-5 c = search needs
 
 returns-3 : tie.Need-returns-3
-unfolding answerOf act
+unfolding clientPacketOf answerOf act Within
 returns-3 c =
     let s = c .before .before .before .before .before .before .before .before .before .before in
     let a = s .args in
     let b = a .memory .now in
-    let e = shows-ping (relayRead (a .packet .now)) (c .before .before .before .before .before .shown2 .given .0 .0) (ap Packet (sym (c .before .before .before .before .before .shown2 .given .1)) ∙ s .pre .2) in
-    acted (a .seats) (a .numbers) (viewRoom (a .seats) (a .numbers) b) (a .seat .0) b (a .out .now) _ _ _ (a .key .0) (viewRoutes (a .numbers) (routesTable (a .seats) (a .numbers) b (a .seat .0))) (relayRead (a .packet .now)) _ e
-    (leaves-sent (a .seats) (a .numbers) b (a .out .now) (a .seat .0) (to (a .seat .0) (relay.pong (c .before .before .before .before .before .shown2 .given .0 .0)) ∷ []) _ _ (c .before .before .answered .ensures))
+    let e = shows-as (a .packet .now) (a .shown) (s .pre .2) _ (c .before .before .before .before .before .shown2 .given .1) in
+    acted (a .seats) (a .numbers) (viewRoom (a .seats) (a .numbers) b) (a .seat .0) b (a .out .now) _ _ _ (seatHeld (a .seats) (a .numbers) b (a .seat .0) (a .key .0)) (relayRead (a .packet .now)) _ e
+    (leaves-sent (a .seats) (a .numbers) b (a .out .now) (a .seat .0) (to (a .seat .0) (relay.pong (c .before .before .before .before .before .shown2 .given .0 .0)) ∷ []) _ _
+    (answered-fits _ (read-within (a .packet .now) _ e) (omega arith) (c .before .before .answered .ensures)))
 
 returns-4 : tie.Need-returns-4
-unfolding answerOf act
+unfolding clientPacketOf answerOf act
 returns-4 c =
     let s = c .before .before .before .before .before in
     let a = s .args in
     let b = a .memory .now in
-    let e = shows-pong (relayRead (a .packet .now)) _ (ap Packet (sym (c .enum-told2 .given .1)) ∙ s .pre .2) in
-    acted (a .seats) (a .numbers) (viewRoom (a .seats) (a .numbers) b) (a .seat .0) b (a .out .now) _ _ _ (a .key .0) (viewRoutes (a .numbers) (routesTable (a .seats) (a .numbers) b (a .seat .0))) (relayRead (a .packet .now)) _ e
+    let e = shows-as (a .packet .now) (a .shown) (s .pre .2) _ (c .enum-told2 .given .1) in
+    acted (a .seats) (a .numbers) (viewRoom (a .seats) (a .numbers) b) (a .seat .0) b (a .out .now) _ _ _ (seatHeld (a .seats) (a .numbers) b (a .seat .0) (a .key .0)) (relayRead (a .packet .now)) _ e
     (leaves-none (a .seats) (a .numbers) b (a .out .now) (a .seat .0))
 
 same-length-6 : tie.Need-same-length-6
@@ -142,8 +138,8 @@ returns-5 c =
     let s = c .before .before .before .before .before .before .before .before .before .before .before .before in
     let a = s .args in
     let b = a .memory .now in
-    let e = shows-oob (relayRead (a .packet .now)) _ _ (c .before .before .before .before .before .key2 .result .0) (c .before .before .before .before .payload .result .now) (ap Packet (sym (c .before .before .before .before .before .before .before .enum-told3 .given .1)) ∙ s .pre .2) (c .before .before .before .before .before .key2 .ensures) (c .before .before .before .before .payload .ensures .holds) in
-    acted (a .seats) (a .numbers) (viewRoom (a .seats) (a .numbers) b) (a .seat .0) b (a .out .now) _ _ _ (a .key .0) (viewRoutes (a .numbers) (routesTable (a .seats) (a .numbers) b (a .seat .0))) (relayRead (a .packet .now)) _ e
+    let e = shows-oob (a .packet .now) (a .shown) (s .pre .2) _ _ (c .before .before .before .before .before .key2 .result .0) (c .before .before .before .before .payload .result .now) (c .before .before .before .before .before .before .before .enum-told3 .given .1) (c .before .before .before .before .before .key2 .ensures) (c .before .before .before .before .payload .ensures .holds) in
+    acted (a .seats) (a .numbers) (viewRoom (a .seats) (a .numbers) b) (a .seat .0) b (a .out .now) _ _ _ (seatHeld (a .seats) (a .numbers) b (a .seat .0) (a .key .0)) (relayRead (a .packet .now)) _ e
     (c .before .before .out-of-band .ensures)
 
 same-length-8 : tie.Need-same-length-8
@@ -153,12 +149,13 @@ same-length-9 : tie.Need-same-length-9
 same-length-9 c = search needs
 
 returns-6 : tie.Need-returns-6
+unfolding clientPart
 returns-6 c =
     let s = c .before .before .before .before .before .before .before .before .before .before .before .before in
     let a = s .args in
     let b = a .memory .now in
-    let e = shows-data (relayRead (a .packet .now)) (c .before .before .before .before .before .before .before .shown3 .given .0 .0) _ (c .before .before .before .before .payload2 .result .now) (ap Packet (sym (c .before .before .before .before .before .before .before .shown3 .given .1)) ∙ s .pre .2) (c .before .before .before .before .payload2 .ensures .holds) in
-    acted (a .seats) (a .numbers) (viewRoom (a .seats) (a .numbers) b) (a .seat .0) b (a .out .now) _ _ _ (a .key .0) (viewRoutes (a .numbers) (routesTable (a .seats) (a .numbers) b (a .seat .0))) (relayRead (a .packet .now)) _ e
+    let e = shows-data (a .packet .now) (a .shown) (s .pre .2) (c .before .before .before .before .before .before .before .shown3 .given .0 .0) _ (c .before .before .before .before .payload2 .result .now) (c .before .before .before .before .before .before .before .shown3 .given .1) (c .before .before .before .before .payload2 .ensures .holds) in
+    acted (a .seats) (a .numbers) (viewRoom (a .seats) (a .numbers) b) (a .seat .0) b (a .out .now) _ _ _ (seatHeld (a .seats) (a .numbers) b (a .seat .0) (a .key .0)) (relayRead (a .packet .now)) _ e
     (c .before .before .«data» .ensures)
 
 pub act-spec : {M : Type 1} → statement M

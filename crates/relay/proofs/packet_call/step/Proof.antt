@@ -3,8 +3,8 @@ use borrow.Author.Needs.{needs}
 use borrow.Author.Tests.{not-true, not-false}
 use mathlib.Core.Path.{sym, _∙_}
 use Rattle.packet.specs.FromClient.{relayRead}
-use Rattle.room.specs.Layout.{routesTable}
-use Rattle.room.specs.View.{viewRoom, viewRoutes}
+use Rattle.packet.proofs.RelayLaws.{refusal-taken}
+use Rattle.room.specs.View.{viewRoom, seatHeld}
 use Rattle.relay.specs.Calls.{answerOf}
 use Rattle.relay.proofs.LeaveCases.{leave-sits}
 use Rattle.relay.proofs.PacketCases.{from-seat, from-empty, turned-down, shows-refused}
@@ -36,8 +36,8 @@ enum-known-read c = search needs
 enum-told : tie.Need-enum-told
 enum-told c = search needs
 
-refusal-of-requires : tie.Need-refusal-of-requires
-refusal-of-requires c κs = search needs
+refusal-requires : tie.Need-refusal-requires
+refusal-requires c κs = search needs
 
 same-length-2 : tie.Need-same-length-2
 same-length-2 c = search needs
@@ -49,18 +49,18 @@ returns-2 c =
     let a = s .args in
     let b = a .memory .now in
     let key = c .before .before .before .before .key-in in
-    let sits = leave-sits (a .seats) (a .numbers) b (s .pre .0) (a .seat .0) (sym (c .before .before .before .before .before .before .before .is-taken .ensures) ∙ not-false _ (c .before .before .before .before .before .before .if1 .left)) (key .result .0) (key .ensures) in
-    let e = shows-refused (relayRead (a .packet .now)) (c .refusal-of .result) (sym (c .refusal-of .ensures) ∙ c .before .before .before .read .ensures .exact) in
-    let routes = viewRoutes (a .numbers) (routesTable (a .seats) (a .numbers) b (a .seat .0)) in
-    from-seat (a .seats) (a .numbers) (viewRoom (a .seats) (a .numbers) b) (a .seat .0) b (a .out .now) _ _ _ (key .result .0) routes (a .packet .now) sits
-    (turned-down (a .seats) (a .numbers) (viewRoom (a .seats) (a .numbers) b) (a .seat .0) b (a .out .now) (a .packet .now) (key .result .0) routes (relayRead (a .packet .now)) (c .refusal-of .result) e)
+    let sits = leave-sits (a .seats) (a .numbers) b (s .pre .0) (a .seat .0) (c .before .before .before .before .before .before .before .is-taken .result) (c .before .before .before .before .before .before .before .is-taken .ensures) (not-false _ (c .before .before .before .before .before .before .if1 .left)) (key .result .0) (key .ensures) in
+    let e = shows-refused (relayRead (a .packet .now)) (c .refusal .result) (sym (refusal-taken _ _ (c .refusal .result) (c .before .enum-told .given .1) (c .refusal .ensures)) ∙ c .before .before .before .read .ensures .exact) in
+    let held = seatHeld (a .seats) (a .numbers) b (a .seat .0) (key .result .0) in
+    from-seat (a .seats) (a .numbers) (viewRoom (a .seats) (a .numbers) b) (a .seat .0) b (a .out .now) _ _ _ held (a .packet .now) sits
+    (turned-down (a .seats) (a .numbers) (viewRoom (a .seats) (a .numbers) b) (a .seat .0) b (a .out .now) (a .packet .now) held (relayRead (a .packet .now)) (c .refusal .result) e)
 
 act-requires : tie.Need-act-requires
 act-requires c κs =
     let s = c .before .before .before .before .before .before .before .before .before .before .before .before .before .before in
     let a = s .args in
     let key = c .before .before .before .before .before .before .key-in in
-    let sits = leave-sits (a .seats) (a .numbers) (a .memory .now) (s .pre .0) (a .seat .0) (sym (c .before .before .before .before .before .before .before .before .before .is-taken .ensures) ∙ not-false _ (c .before .before .before .before .before .before .before .before .if1 .left)) (key .result .0) (key .ensures) in
+    let sits = leave-sits (a .seats) (a .numbers) (a .memory .now) (s .pre .0) (a .seat .0) (c .before .before .before .before .before .before .before .before .before .is-taken .result) (c .before .before .before .before .before .before .before .before .before .is-taken .ensures) (not-false _ (c .before .before .before .before .before .before .before .before .if1 .left)) (key .result .0) (key .ensures) in
     (s .pre .0, sits, sym (c .before .before .before .read2 .given .1) ∙ c .before .before .before .before .before .read .ensures .exact, s .pre .1)
 
 same-length-3 : tie.Need-same-length-3
@@ -75,8 +75,8 @@ returns-3 c =
     let a = s .args in
     let b = a .memory .now in
     let key = c .before .before .before .before .before .before .before .before .before .before .before .key-in in
-    let sits = leave-sits (a .seats) (a .numbers) b (s .pre .0) (a .seat .0) (sym (c .before .before .before .before .before .before .before .before .before .before .before .before .before .before .is-taken .ensures) ∙ not-false _ (c .before .before .before .before .before .before .before .before .before .before .before .before .before .if1 .left)) (key .result .0) (key .ensures) in
-    from-seat (a .seats) (a .numbers) (viewRoom (a .seats) (a .numbers) b) (a .seat .0) b (a .out .now) _ _ _ (key .result .0) (viewRoutes (a .numbers) (routesTable (a .seats) (a .numbers) b (a .seat .0))) (a .packet .now) sits (c .before .before .before .before .act .ensures)
+    let sits = leave-sits (a .seats) (a .numbers) b (s .pre .0) (a .seat .0) (c .before .before .before .before .before .before .before .before .before .before .before .before .before .before .is-taken .result) (c .before .before .before .before .before .before .before .before .before .before .before .before .before .before .is-taken .ensures) (not-false _ (c .before .before .before .before .before .before .before .before .before .before .before .before .before .if1 .left)) (key .result .0) (key .ensures) in
+    from-seat (a .seats) (a .numbers) (viewRoom (a .seats) (a .numbers) b) (a .seat .0) b (a .out .now) _ _ _ (seatHeld (a .seats) (a .numbers) b (a .seat .0) (key .result .0)) (a .packet .now) sits (c .before .before .before .before .act .ensures)
 
 pub step-spec : {M : Type 1} → statement M
 step-spec =
@@ -89,7 +89,7 @@ step-spec =
     read-requires
     enum-known-read
     enum-told
-    refusal-of-requires
+    refusal-requires
     same-length-2
     returns-2
     act-requires

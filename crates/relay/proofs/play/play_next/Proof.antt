@@ -6,12 +6,13 @@ use native.Mathlib.Omega.{arith}
 use lib.ListN.{length}
 use Rattle.rules.specs.History.{event}
 use Rattle.room.specs.View.{viewRoom}
+use Rattle.records.proofs.EntryLaws.{entry-within}
 use Rattle.relay.specs.declared.play.Next.the-variants.{Played}
 use Rattle.relay.specs.declared.play.Stop.the-variants.{End, NoCall, Allowance, Output}
 use Rattle.relay.specs.Calls.{answerOf}
 use Rattle.relay.specs.Play.{entryBytes}
 use Rattle.relay.specs.PlaySteps.{stopped, played}
-use Rattle.relay.proofs.PlayLaws.{next-end, next-allowance, next-no-call, next-output, next-plays}
+use Rattle.relay.proofs.PlayLaws.{least-space, next-end, next-allowance, next-no-call, next-output, next-plays}
 use Rattle.relay.proofs.LentParts.{length-from}
 use Rattle.relay.proofs.MakeCases.{call-read, none-read}
 use Rattle.relay.proofs.NextCases.{length-back, entry-fits, length-entry, entry-written}
@@ -47,7 +48,7 @@ returns-4 : tie.Need-returns-4
 returns-4 c =
     let a = c .before .before .before .before .before .before .before .before .before .before .args in
     let q = call-read (a .calls .now) _ _ (sym (c .before .before .call .given .1) ∙ c .before .before .before .before .read .ensures) in
-    stopped Output (next-output (a .allowance) (a .calls .now) (length (a .out .now)) (c .before .before .before .before .before .before .if1 .left) (c .before .before .before .before .before .if2 .left) (q .made) (q .first) (omega (arith, c .if3 .taken))) refl refl refl
+    stopped Output (next-output (a .allowance) (a .calls .now) (length (a .out .now)) (c .before .before .before .before .before .before .if1 .left) (c .before .before .before .before .before .if2 .left) (q .made) (q .first) (omega (arith, c .if3 .taken, least-space (q .made)))) refl refl refl
 
 sub-make : tie.Need-sub-make
 sub-make c = search needs
@@ -65,13 +66,7 @@ make-requires c κs =
     (s .pre, record { size = _; is = sym (c .before .before .before .before .call .given .1) ∙ c .before .before .before .before .before .before .read .ensures }, omega arith)
 
 write-requires : tie.Need-write-requires
-write-requires c κs =
-    let s = c .before .before .before .before .before .before .before .before .before .before .before .before .before .before .before .before .before .before in
-    let a = s .args in
-    let make = c .before .before .before .before .before .make in
-    let q = call-read (a .calls .now) _ _ (sym (c .before .before .before .before .before .before .before .before .before .before .call .given .1) ∙ c .before .before .before .before .before .before .before .before .before .before .before .before .read .ensures) in
-    entry-fits (a .seats) (a .numbers) (a .memory .now) (q .made) (answerOf (make .result)) (a .out .now) (make .last .1 .1 .1 .1 .1 .0) (make .last .0) (omega arith)
-    (make .ensures (q .made) (q .first)) (make .kept .1 .1 .1 .1 .1 .0)
+write-requires c κs = search needs
 
 same-length : tie.Need-same-length
 same-length c = search needs
@@ -84,7 +79,6 @@ returns-5 c =
     let s = c .before .before .before .before .before .before .before .before .before .before .before .before .before .before .before .before .before .before .before .before .before in
     let a = s .args in
     let make = c .before .before .before .before .before .before .before .before .make in
-    let write = c .before .before .write in
     let q = call-read (a .calls .now) _ _ (sym (c .before .before .before .before .before .before .before .before .before .before .before .before .before .call .given .1) ∙ c .before .before .before .before .before .before .before .before .before .before .before .before .before .before .before .read .ensures) in
     let long : 4 ≤ length (a .out .now) = omega arith in
     let left = make .ensures (q .made) (q .first) in
@@ -93,11 +87,12 @@ returns-5 c =
     let given = answerOf (make .result) in
     let size = length-entry (a .seats) (a .numbers) (a .memory .now) (q .made) given (a .out .now) new (make .last .0) long left kept in
     let fits = entry-fits (a .seats) (a .numbers) (a .memory .now) (q .made) given (a .out .now) new (make .last .0) long left kept in
+    let write = entry-within given fits (c .before .before .write .ensures) in
     let back = length-back (a .seats) (a .numbers) (a .memory .now) (q .made) given (a .out .now) new (make .last .0) long left kept in
     played (q .made) (entryBytes (event (viewRoom (a .seats) (a .numbers) (a .memory .now)) (q .made))) refl
-    (next-plays (a .allowance) (a .calls .now) (length (a .out .now)) (c .before .before .before .before .before .before .before .before .before .before .before .before .before .before .before .before .before .if1 .left) (c .before .before .before .before .before .before .before .before .before .before .before .before .before .before .before .before .if2 .left) (q .made) (q .first) (c .before .before .before .before .before .before .before .before .before .before .before .if3 .left))
-    (ap₂ Played (q .takes) (write .ensures .0 ∙ sym size)) (left .stores) (omega arith)
-    (write .ensures .1 ∙ entry-written (a .seats) (a .numbers) (a .memory .now) (q .made) given (a .out .now) new (make .last .0) long left kept)
+    (next-plays (a .allowance) (a .calls .now) (length (a .out .now)) (c .before .before .before .before .before .before .before .before .before .before .before .before .before .before .before .before .before .if1 .left) (c .before .before .before .before .before .before .before .before .before .before .before .before .before .before .before .before .if2 .left) (q .made) (q .first) (omega (arith, c .before .before .before .before .before .before .before .before .before .before .before .if3 .left, least-space (q .made))))
+    (ap₂ Played (q .takes) (write .0 ∙ sym size)) (left .stores) (omega arith)
+    (write .1 ∙ entry-written (a .seats) (a .numbers) (a .memory .now) (q .made) given (a .out .now) new (make .last .0) long left kept)
 
 pub play-next-spec : {M : Type 1} → statement M
 play-next-spec =

@@ -2,7 +2,8 @@
 use borrow.Author.Needs.{needs}
 use native.Mathlib.Omega.{arith}
 use Rattle.room.specs.Lookup.{routeWanting, lowestRoute}
-use Rattle.relay.specs.Output.{none, given}
+use Rattle.records.specs.Output.{none, given}
+use Rattle.records.proofs.Fits.{response-fits}
 use Rattle.relay.specs.Calls.{answerOf}
 use Rattle.relay.proofs.RequestCases.{request-old, request-full, request-given, number-right}
 use Rattle.relay.proofs.request.step.Statement.{statement}
@@ -15,11 +16,7 @@ enum-known-old : tie.Need-enum-known-old
 enum-known-old c = search needs
 
 response-requires : tie.Need-response-requires
-response-requires c κs =
-    let a = c .before .before .before .before .before .before .before .before .args in
-    let look = c .before .before .before .before .number-of in
-    let old = c .before .before .old .given in
-    (omega arith, given (old .0 .0 .0) (number-right (routeWanting (a .seats) (a .numbers) (a .memory .now) (a .seat .0) (a .wanted .0)) (look .result) (look .ensures) (old .0 .0) (old .1)))
+response-requires c κs = search needs
 
 same-length : tie.Need-same-length
 same-length c = search needs
@@ -35,8 +32,10 @@ returns c =
     let look = c .before .before .before .before .before .before .before .number-of in
     let old = c .before .before .before .before .before .old .given in
     let w = c .before .before .response in
+    let right = number-right (routeWanting (a .seats) (a .numbers) (a .memory .now) (a .seat .0) (a .wanted .0)) (look .result) (look .ensures) (old .0 .0) (old .1) in
     request-old (a .seats) (a .numbers) (a .memory .now) (a .seat .0) (a .key .0) (a .wanted .0) (s .pre .0) (s .pre .1)
-    (a .out .now) (w .result) (w .last .0) (look .result) (look .ensures) (old .0 .0) (old .1) (w .ensures)
+    (a .out .now) (w .result) (w .last .0) (look .result) (look .ensures) (old .0 .0) (old .1)
+    (response-fits (old .0 .0 .0) (a .wanted .0) (given (old .0 .0 .0) right) (omega arith) (w .ensures))
 
 enum-told : tie.Need-enum-told
 enum-told c = search needs
@@ -47,19 +46,11 @@ lowest-free-requires c κs = search needs
 enum-known-number : tie.Need-enum-known-number
 enum-known-number c = search needs
 
-give-requires : tie.Need-give-requires
-give-requires c κs =
-    let s = c .before .before .before .before .before .before .before .before .before .before .before .before .before in
-    let a = s .args in
-    let look = c .before .before .before .before .before .lowest-free in
-    let number = c .before .before .before .number .given in
-    (s .pre .0, s .pre .2, number-right (lowestRoute (a .seats) (a .numbers) (a .memory .now) (a .seat .0)) (look .result) (look .ensures) (number .0 .0) (number .1))
-
 enum-told-2 : tie.Need-enum-told-2
 enum-told-2 c = search needs
 
 response-requires-2 : tie.Need-response-requires-2
-response-requires-2 c κs = (omega arith, none)
+response-requires-2 c κs = search needs
 
 same-length-3 : tie.Need-same-length-3
 same-length-3 c = search needs
@@ -70,15 +61,22 @@ same-length-4 c = search needs
 returns-2 : tie.Need-returns-2
 unfolding answerOf
 returns-2 c =
-    let s = c .before .before .before .before .before .before .before .before .before .before .before .before .before .before .before .before .before .before in
+    let s = c .before .before .before .before .before .before .before .before .before .before .before .before .before .before in
     let a = s .args in
-    let look = c .before .before .before .before .before .before .before .before .before .before .before .before .before .before .number-of in
-    let look-free = c .before .before .before .before .before .before .before .before .before .before .lowest-free in
-    let number = c .before .before .before .before .before .before .before .before .number .given in
-    let g = c .before .before .before .before .give in
-    request-given (a .seats) (a .numbers) (a .memory .now) (a .seat .0) (a .key .0) (a .wanted .0) (s .pre .0) (s .pre .1)
-    (a .out .now) (g .result) (g .last .1 .1 .1 .1 .1 .1 .1 .0) (look .result) (look .ensures) (c .before .before .before .before .before .before .before .before .before .before .before .before .enum-told .given .1)
-    (look-free .result) (look-free .ensures) (number .0 .0) (number .1) (g .last .0) (g .ensures)
+    let look = c .before .before .before .before .before .before .before .before .before .before .number-of in
+    let look-free = c .before .before .before .before .before .before .lowest-free in
+    let w = c .before .before .response2 in
+    request-full (a .seats) (a .numbers) (a .memory .now) (a .seat .0) (a .key .0) (a .wanted .0) (s .pre .0) (s .pre .1)
+    (a .out .now) (w .result) (w .last .0) (look .result) (look .ensures) (c .before .before .before .before .before .before .before .before .enum-told .given .1)
+    (look-free .result) (look-free .ensures) (c .before .before .before .before .enum-told2 .given .1) (response-fits 0 (a .wanted .0) none (omega arith) (w .ensures))
+
+give-requires : tie.Need-give-requires
+give-requires c κs =
+    let s = c .before .before .before .before .before .before .before .before .before .before .before .before .before in
+    let a = s .args in
+    let look = c .before .before .before .before .before .lowest-free in
+    let number = c .before .before .before .number .given in
+    (s .pre .0, s .pre .2, number-right (lowestRoute (a .seats) (a .numbers) (a .memory .now) (a .seat .0)) (look .result) (look .ensures) (number .0 .0) (number .1))
 
 same-length-5 : tie.Need-same-length-5
 same-length-5 c = search needs
@@ -89,14 +87,15 @@ same-length-6 c = search needs
 returns-3 : tie.Need-returns-3
 unfolding answerOf
 returns-3 c =
-    let s = c .before .before .before .before .before .before .before .before .before .before .before .before .before .before in
+    let s = c .before .before .before .before .before .before .before .before .before .before .before .before .before .before .before .before .before .before in
     let a = s .args in
-    let look = c .before .before .before .before .before .before .before .before .before .before .number-of in
-    let look-free = c .before .before .before .before .before .before .lowest-free in
-    let w = c .before .before .response2 in
-    request-full (a .seats) (a .numbers) (a .memory .now) (a .seat .0) (a .key .0) (a .wanted .0) (s .pre .0) (s .pre .1)
-    (a .out .now) (w .result) (w .last .0) (look .result) (look .ensures) (c .before .before .before .before .before .before .before .before .enum-told .given .1)
-    (look-free .result) (look-free .ensures) (c .before .before .before .before .enum-told2 .given .1) (w .ensures)
+    let look = c .before .before .before .before .before .before .before .before .before .before .before .before .before .before .number-of in
+    let look-free = c .before .before .before .before .before .before .before .before .before .before .lowest-free in
+    let number = c .before .before .before .before .before .before .before .before .number .given in
+    let g = c .before .before .before .before .give in
+    request-given (a .seats) (a .numbers) (a .memory .now) (a .seat .0) (a .key .0) (a .wanted .0) (s .pre .0) (s .pre .1)
+    (a .out .now) (g .result) (g .last .1 .1 .1 .1 .1 .1 .1 .0) (look .result) (look .ensures) (c .before .before .before .before .before .before .before .before .before .before .before .before .enum-told .given .1)
+    (look-free .result) (look-free .ensures) (number .0 .0) (number .1) (g .last .0) (g .ensures)
 
 pub step-spec : {M : Type 1} → statement M
 step-spec =
@@ -111,12 +110,12 @@ step-spec =
     enum-told
     lowest-free-requires
     enum-known-number
-    give-requires
     enum-told-2
     response-requires-2
     same-length-3
     same-length-4
     returns-2
+    give-requires
     same-length-5
     same-length-6
     returns-3)

@@ -1,8 +1,10 @@
 -- `request::tell_both` meets its contract: one notification behind the other. Assumes nothing.
 use borrow.Author.Needs.{needs}
 use native.Mathlib.Omega.{arith}
+use Rattle.records.proofs.AppendLaws.{appends-length}
+use Rattle.records.proofs.Fits.{connected-fits}
 use Rattle.relay.proofs.RequestCases.{connected-next, tells-nobody, tells-both}
-use Rattle.relay.proofs.PeersFound.{joined-right}
+use Rattle.room_laws.proofs.PeersFound.{joined-right}
 use Rattle.relay.proofs.request.tell_both.Statement.{statement}
 use Rattle.relay.proofs.request.tell_both.Tie as tie
 
@@ -13,13 +15,7 @@ connected-requires : tie.Need-connected-requires
 connected-requires c κs = search needs
 
 connected-requires-2 : tie.Need-connected-requires-2
-connected-requires-2 c κs =
-    let s = c .before .before .before .before .before .before .before .before .before in
-    let a = s .args in
-    let w = c .before .before .before .connected in
-    let next = connected-next (a .seat .0) (a .number .0) (a .out .now) (a .at) (w .result) (w .last .0) (w .ensures) in
-    let p = c .before .before .before .before .before .before .peer .given in
-    (omega arith, joined-right (a .peer) (p .0 .0) (p .0 .1 .0) (p .1) (s .pre .2))
+connected-requires-2 c κs = search needs
 
 enum-told : tie.Need-enum-told
 enum-told c = search needs
@@ -33,8 +29,12 @@ returns c =
     let a = s .args in
     let w = c .before .before .before .before .before .before .connected in
     let p = c .before .before .before .before .before .before .before .before .before .peer .given in
-    tells-both (a .seat .0) (a .number .0) (a .peer) (p .0 .0) (p .0 .1 .0) (p .1) (joined-right (a .peer) (p .0 .0) (p .0 .1 .0) (p .1) (s .pre .2))
-    (a .out .now) (a .at) (w .result) (c .before .before .connected2 .result) (w .last .0) (c .before .before .connected2 .last .0) (omega arith) (w .ensures) (c .before .before .connected2 .ensures)
+    let theirs = joined-right (a .peer) (p .0 .0) (p .0 .1 .0) (p .1) (s .pre .2) in
+    let first = connected-fits (a .number .0) (s .pre .1) (omega arith) (w .ensures) in
+    let next = connected-next (a .seat .0) (a .number .0) (a .out .now) (a .at) (w .result) (w .last .0) first in
+    let same = appends-length _ (a .out .now) (a .at) (w .result) (w .last .0) first (omega arith) in
+    tells-both (a .seat .0) (a .number .0) (a .peer) (p .0 .0) (p .0 .1 .0) (p .1) theirs
+    (a .out .now) (a .at) (w .result) (c .before .before .connected2 .result) (w .last .0) (c .before .before .connected2 .last .0) (omega arith) first (connected-fits (p .0 .1 .0 .0) theirs (omega arith) (c .before .before .connected2 .ensures))
 
 returns-2 : tie.Need-returns-2
 returns-2 c =

@@ -4,7 +4,7 @@ use mathlib.Core.Path.{subst}
 use Prim.Native.Nat.{_≤_}
 use lib.ListN.{length}
 use Rattle.relay.specs.Calls.{answerOf, written}
-use Rattle.relay.specs.declared.answer.Answer.{Answer}
+use Rattle.records.specs.declared.answer.Answer.{Answer}
 use Rattle.replay.proofs.call.tell_answer.Statement.{statement}
 use Rattle.replay.proofs.call.tell_answer.Tie as tie
 

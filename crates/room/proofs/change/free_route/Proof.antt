@@ -3,15 +3,14 @@ use borrow.Author.Needs.{needs}
 use borrow.Author.Tests.{not-true, not-false}
 use mathlib.Core.Path.{sym, ap, ap₂, _∙_}
 use mathlib.Core.List.{List}
-use Prim.Native.Nat.{ℕ, _+_, _-_}
-use native.Mathlib.Omega.{arith}
+use Prim.Native.Nat.{ℕ, _-_}
 use lib.ListN.{take, drop}
 use native.Mathlib.Nat.{add-sub-cancel-left}
 use Rattle.table.specs.Table.{freedIn}
 use Rattle.room.specs.Layout.{routesBytes, routesStart}
 use Rattle.room.proofs.StoreSteps.{number-low-freed, freed-not, freed-in, replaced}
 use Rattle.room.proofs.LookupSteps.{has-seat-facts}
-use Rattle.room.proofs.LayoutLaws.{fits-facts, few-numbers, routes-end, routes-lent}
+use Rattle.room.proofs.LayoutLaws.{fits-facts, routes-end, routes-lent}
 use Rattle.room.proofs.change.free_route.Statement.{statement}
 use Rattle.room.proofs.change.free_route.Tie as tie
 
@@ -37,25 +36,22 @@ cast-routes-start c = search needs
 
 routes-start-requires : tie.Need-routes-start-requires
 routes-start-requires c κs =
-    let a = c .before .before .before .before .before .before .before .before .args in
-    let h = has-seat-facts (a .seats) (a .numbers) (a .memory .now) (a .seat .0) (sym (c .before .before .before .has-seat .ensures) ∙ not-false _ (c .before .before .if2 .left)) in
+    let i = c .before .before in
+    let a = i .before .before .before .before .before .before .args in
+    let h = has-seat-facts (a .seats) (a .numbers) (a .memory .now) (a .seat .0) (sym (i .before .has-seat .ensures) ∙ not-false _ (i .if2 .left)) in
     let f = fits-facts (a .seats) (a .numbers) (a .memory .now) (h .0) in
     (f .0, f .1, h .1)
 
-routes-bytes-requires : tie.Need-routes-bytes-requires
-routes-bytes-requires c κs =
-    let a = c .before .before .before .before .before .before .before .before .before .args in
-    let h = has-seat-facts (a .seats) (a .numbers) (a .memory .now) (a .seat .0) (sym (c .before .before .before .before .has-seat .ensures) ∙ not-false _ (c .before .before .before .if2 .left)) in
-    few-numbers (a .seats) (a .numbers) (a .memory .now) (h .0)
+cast-routes-end : tie.Need-cast-routes-end
+cast-routes-end c = search needs
 
-add-end : tie.Need-add-end
-add-end c =
-    let a = c .before .before .before .before .before .before .before .before .before .before .args in
-    let h = has-seat-facts (a .seats) (a .numbers) (a .memory .now) (a .seat .0) (sym (c .before .before .before .before .before .has-seat .ensures) ∙ not-false _ (c .before .before .before .before .if2 .left)) in
-    let l = routes-end (a .seats) (a .numbers) (a .memory .now) (h .0) (a .seat .0) (h .1) in
-    let e = c .routes-bytes .ensures in
-    let d = c .before .routes-start .ensures in
-    omega arith
+routes-end-requires : tie.Need-routes-end-requires
+routes-end-requires c κs =
+    let i = c .before .before .before .before in
+    let a = i .before .before .before .before .before .before .args in
+    let h = has-seat-facts (a .seats) (a .numbers) (a .memory .now) (a .seat .0) (sym (i .before .has-seat .ensures) ∙ not-false _ (i .if2 .left)) in
+    let f = fits-facts (a .seats) (a .numbers) (a .memory .now) (h .0) in
+    (f .0, f .1, h .1)
 
 sub-free : tie.Need-sub-free
 sub-free c = search needs
@@ -65,11 +61,11 @@ part-free-start c = search needs
 
 part-free-end : tie.Need-part-free-end
 part-free-end c =
-    let a = c .before .before .before .before .before .before .before .before .before .before .args in
-    let h = has-seat-facts (a .seats) (a .numbers) (a .memory .now) (a .seat .0) (sym (c .before .before .before .before .before .has-seat .ensures) ∙ not-false _ (c .before .before .before .before .if2 .left)) in
+    let i = c .before .before .before .before .before in
+    let a = i .before .before .before .before .before .before .args in
+    let h = has-seat-facts (a .seats) (a .numbers) (a .memory .now) (a .seat .0) (sym (i .before .has-seat .ensures) ∙ not-false _ (i .if2 .left)) in
     let l = routes-end (a .seats) (a .numbers) (a .memory .now) (h .0) (a .seat .0) (h .1) in
-    let e = c .routes-bytes .ensures in
-    let d = c .before .routes-start .ensures in
+    let e = c .routes-end .ensures in
     search needs
 
 free-requires : tie.Need-free-requires
@@ -80,16 +76,17 @@ same-length-2 c = search needs
 
 returns-3 : tie.Need-returns-3
 returns-3 c =
-    let a = c .before .before .before .before .before .before .before .before .before .before .before .before .before .before .args in
+    let i = c .before .before .before .before .before .before .before .before .before in
+    let a = i .before .before .before .before .before .before .args in
     let b = a .memory .now in
-    let h = sym (c .before .before .before .before .before .before .before .before .before .has-seat .ensures) ∙ not-false _ (c .before .before .before .before .before .before .before .before .if2 .left) in
+    let h = sym (i .before .has-seat .ensures) ∙ not-false _ (i .if2 .left) in
     let g = has-seat-facts (a .seats) (a .numbers) b (a .seat .0) h in
-    let e = c .before .before .before .before .routes-bytes .ensures in
-    let d = c .before .before .before .before .before .routes-start .ensures in
-    let k = ap₂ (λ (x y : ℕ). x + y - x) d e ∙ add-sub-cancel-left (routesStart (a .seats) (a .numbers) (a .seat .0)) (routesBytes (a .numbers)) in
-    let t = ap₂ (λ (x y : ℕ). take (x + y - x) (drop x b)) d e ∙ routes-lent (a .seats) (a .numbers) b (g .0) (a .seat .0) (g .1) in
+    let e = c .before .before .before .before .routes-end .ensures in
+    let d = c .before .before .before .before .before .before .routes-start .ensures in
+    let k = ap₂ (λ (x y : ℕ). y - x) d e ∙ add-sub-cancel-left (routesStart (a .seats) (a .numbers) (a .seat .0)) (routesBytes (a .numbers)) in
+    let t = ap₂ (λ (x y : ℕ). take (y - x) (drop x b)) d e ∙ routes-lent (a .seats) (a .numbers) b (g .0) (a .seat .0) (g .1) in
     replaced b d k (c .before .before .free .ensures ∙ ap (λ (x : List ℕ). freedIn (a .numbers) x (a .number .0 - 16)) t)
-    ∙ sym (freed-in (a .seats) (a .numbers) b (a .seat .0) (a .number .0) (c .before .before .before .before .before .before .before .before .before .before .before .if1 .left) h)
+    ∙ sym (freed-in (a .seats) (a .numbers) b (a .seat .0) (a .number .0) (i .before .before .before .if1 .left) h)
 
 pub free-route-spec : {M : Type 1} → statement M
 free-route-spec =
@@ -102,8 +99,8 @@ free-route-spec =
     cast-place
     cast-routes-start
     routes-start-requires
-    routes-bytes-requires
-    add-end
+    cast-routes-end
+    routes-end-requires
     sub-free
     part-free-start
     part-free-end

@@ -4,6 +4,7 @@ use borrow.Author.Tests.{not-true, not-false}
 use mathlib.Core.Path.{refl, sym, ap, _∙_}
 use Prim.Native.Nat.{ℕ, _-_}
 use lib.ListN.{take, drop}
+use Rattle.table.specs.Table.{putIn}
 use Rattle.room.proofs.StoreSteps.{store-taken, store-taken-not, replaced, put-same}
 use Rattle.room.proofs.LayoutLaws.{fits-facts, few-numbers, room-long, seats-lent, seats-cut}
 use Rattle.room.proofs.change.take_seat.Statement.{statement}
@@ -62,7 +63,11 @@ returns-2 c =
     let f = sym (c .before .before .before .before .before .before .before .before .before .before .fits2 .ensures) ∙ not-false _ (c .before .before .before .before .before .before .before .before .before .if1 .left) in
     let d = ap (λ (x : ℕ). x - 2) (c .before .before .before .before .before .before .room-bytes .ensures) ∙ seats-cut (a .seats) (a .numbers) b f in
     let t = ap (λ (x : ℕ). take (x - 2) (drop 2 b)) (c .before .before .before .before .before .before .room-bytes .ensures) ∙ seats-lent (a .seats) (a .numbers) b f in
-    replaced b {at = 2} {at′ = 2} refl d (c .before .before .put .ensures ∙ put-same (a .seats) (a .seat .0) (c .before .before .before .before .before .before .before .seat-bytes .ensures) t (c .before .before .before .before .before .before .before .before .new-seat .ensures))
+    let w = c .before .before .before .before .before .before .before in
+    let lent = take (c .before .before .before .before .before .before .room-bytes .result - 2) (drop 2 b) in
+    replaced b {at = 2} {at′ = 2} refl d
+    (_∙_ {b = putIn (a .seats) (w .seat-bytes .result) lent (a .seat .0) (w .before .new-seat .result)} (c .before .before .put .ensures)
+    (put-same (a .seats) (a .seat .0) (w .seat-bytes .ensures) t (w .before .new-seat .ensures)))
     ∙ sym (store-taken (a .seats) (a .numbers) b f (a .seat .0) (a .key .0))
 
 pub take-seat-spec : {M : Type 1} → statement M

@@ -1,6 +1,6 @@
 -- `lookup::number_at` meets its contract. Assumes nothing.
 use borrow.Author.Needs.{needs}
-use mathlib.Core.Path.{sym, ap, _∙_}
+use mathlib.Core.Path.{sym, ap}
 use Rattle.room.specs.Numbers.{numberFound}
 use Rattle.room.proofs.LookupSteps.{place-in, place-out}
 use Rattle.room.proofs.lookup.number_at.Statement.{statement}

@@ -41,7 +41,8 @@ returns-2 c =
     let a = c .before .before .before .before .before .before .before .args in
     c .number-at .ensures
     ∙ ap numberFound
-    (ap (placeIn (a .numbers)) (c .before .find .ensures ∙ ap (λ (t : List ℕ). found (a .numbers) 32 t (a .key .0)) (c .before .before .routes-table .ensures))
+    (ap (placeIn (a .numbers)) (_∙_ {b = found (a .numbers) 32 (c .before .before .routes-table .result .now) (a .key .0)} (c .before .find .ensures)
+    (ap (λ (t : List ℕ). found (a .numbers) 32 t (a .key .0)) (c .before .before .routes-table .ensures)))
     ∙ sym (wanting-in (a .seats) (a .numbers) (a .memory .now) (a .seat .0) (sym (c .before .before .before .before .before .has-seat .ensures) ∙ not-false _ (c .before .before .before .before .if1 .left)) (a .key .0)))
 
 pub number-of-spec : {M : Type 1} → statement M

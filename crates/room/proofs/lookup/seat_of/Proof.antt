@@ -37,7 +37,9 @@ returns-2 c =
     c .seat-at .ensures
     ∙ ap seatFound
     (ap (placeIn (a .seats))
-    (c .before .find .ensures ∙ ap₂ (λ (w : ℕ) (t : List ℕ). found (a .seats) w t (a .key .0)) (c .before .before .before .seat-bytes .ensures) (c .before .before .seat-table .ensures))
+    (_∙_ {b = found (a .seats) (c .before .before .before .seat-bytes .result) (c .before .before .seat-table .result .now) (a .key .0)}
+    (c .before .find .ensures)
+    (ap₂ (λ (w : ℕ) (t : List ℕ). found (a .seats) w t (a .key .0)) (c .before .before .before .seat-bytes .ensures) (c .before .before .seat-table .ensures)))
     ∙ sym (holding-fits (a .seats) (a .numbers) (a .memory .now) (sym (c .before .before .before .before .before .fits2 .ensures) ∙ not-false _ (c .before .before .before .before .if1 .left)) (a .key .0)))
 
 pub seat-of-spec : {M : Type 1} → statement M

@@ -30,9 +30,12 @@ routes-whole-requires c κs = (sym (c .before .before .before .before .before .f
 returns-4 : tie.Need-returns-4
 returns-4 c =
     let a = c .before .before .before .before .before .before .before .before .args in
-    c .routes-whole .ensures
-    ∙ sym (room-routes (a .seats) (a .numbers) (a .memory .now) (sym (c .before .before .before .before .before .before .fits2 .ensures) ∙ not-false _ (c .before .before .before .before .before .if1 .left))
-    (sym (c .before .before .before .before .header-right .ensures) ∙ not-false _ (c .before .before .before .if2 .left)) (sym (c .before .before .seats-whole .ensures) ∙ not-false _ (c .before .if3 .left)))
+    let fits = c .before .before .before .before .before in
+    let headed = c .before .before .before in
+    room-routes (a .seats) (a .numbers) (a .memory .now) (sym (fits .before .fits2 .ensures) ∙ not-false _ (fits .if1 .left))
+    (sym (headed .before .header-right .ensures) ∙ not-false _ (headed .if2 .left))
+    (sym (c .before .before .seats-whole .ensures) ∙ not-false _ (c .before .if3 .left))
+    (c .routes-whole .result) (c .routes-whole .ensures)
 
 pub is-whole-spec : {M : Type 1} → statement M
 is-whole-spec =

@@ -1,13 +1,12 @@
 -- `order::close` meets its contract. Assumes nothing.
-use mathlib.Core.Path.{_≡_, refl, sym, ap, ap₂, _∙_}
+use mathlib.Core.Path.{_≡_, refl, ap, ap₂, _∙_}
 use mathlib.Core.List.{List, _++_}
 use Prim.Native.Nat.{ℕ, _≤_, _-_, _<_, _+_}
 use native.Mathlib.Omega.{arith}
-use native.Mathlib.Numerals.{add-one}
-use lib.ListN.{length, take, drop, getD, set, length-set, take-append-drop}
-use Rattle.table.specs.Bytes.{removeAt}
+use lib.ListN.{length, take, drop, getD, set, length-set}
+use Rattle.lists.specs.Insert.{removeAt}
+use Rattle.lists.proofs.Shift.{close-begins, close-next, close-stored}
 use Rattle.table.specs.Table.{closed}
-use Rattle.table.proofs.Shift.{store, length-out, take-out, after-out, still-next}
 use Rattle.table.proofs.order.close.Statement.{statement}
 use Rattle.table.proofs.order.close.Tie as tie
 
@@ -23,7 +22,7 @@ loop-holds c =
       omega arith,
       omega arith,
       refl,
-      sym (ap (λ (x : List ℕ). x ++ drop (a .at) (a .order .now)) (take-out (a .at) (a .order .now)) ∙ take-append-drop (a .at) (a .order .now)),
+      close-begins (a .at) (a .order .now),
     )
 
 add-order : tie.Need-add-order Inv-loop μ-loop
@@ -46,18 +45,13 @@ loop-again c =
     let l = c .before .before .loop in
     let a = c .before .before .before .args in
     let o = a .order .now in
-    let hl : l .i < length o = omega arith in
-    let q = length-out (a .at) o (omega arith) in
-    let hr : l .i < length (removeAt (a .at) o) = omega arith in
+    let h : l .i + 1 < length o = omega arith in
     let v : getD (l .order) (l .i + 1) 0 ≡ getD (removeAt (a .at) o) (l .i) 0
-    = ap (λ (x : List ℕ). getD x (l .i + 1) 0) (l .inv .3)
-    ∙ still-next (removeAt (a .at) o) o (l .i) (omega arith)
-    ∙ ap (λ (x : ℕ). getD o x 0) (add-one (l .i))
-    ∙ sym (after-out (a .at) o (l .i) (l .inv .0)) in (
+    = ap (λ (x : List ℕ). getD x (l .i + 1) 0) (l .inv .3) ∙ close-next (a .at) o 0 (l .i) (l .inv .0) h in (
       omega arith,
       omega arith,
       simp length-set (omega arith),
-      ap₂ (λ (x : List ℕ) (y : ℕ). set x (l .i) y) (l .inv .3) v ∙ store (removeAt (a .at) o) o (l .i) hr hl,
+      ap₂ (λ (x : List ℕ) (y : ℕ). set x (l .i) y) (l .inv .3) v ∙ close-stored (a .at) o 0 (l .i) (l .inv .0) h,
     )
 
 same-length : tie.Need-same-length Inv-loop μ-loop

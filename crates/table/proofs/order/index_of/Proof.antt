@@ -4,9 +4,10 @@ use mathlib.Core.Path.{_≡_, _∙_, sym}
 use Prim.Native.Nat.{_+_, _-_, _≤_, _<_}
 use native.Mathlib.Omega.{arith}
 use lib.ListN.{length, drop}
-use Rattle.table.specs.Bytes.{indexOf}
+use Rattle.lists.specs.Find.{indexOf}
+use Rattle.lists.proofs.Members.{index-here, index-next, index-end}
 use Rattle.table.specs.Table.{listed}
-use Rattle.table.proofs.Listed.{listed-few, at-listed, index-here, index-next, index-end}
+use Rattle.table.proofs.Listed.{listed-few, at-listed}
 use Rattle.table.proofs.order.index_of.Statement.{statement}
 use Rattle.table.proofs.order.index_of.Tie as tie
 

@@ -6,9 +6,10 @@ use mathlib.Core.Logic.{⊎-elim}
 use Prim.Native.Nat.{_+_, _-_, _≤_, _<_}
 use native.Mathlib.Omega.{arith}
 use lib.ListN.{length, drop}
-use Rattle.table.specs.Bytes.{member}
+use Rattle.lists.specs.Find.{member}
+use Rattle.lists.proofs.Members.{member-here, member-next, member-end}
 use Rattle.table.specs.Table.{listed}
-use Rattle.table.proofs.Listed.{listed-few, at-listed, member-here, member-next, member-end}
+use Rattle.table.proofs.Listed.{listed-few, at-listed}
 use Rattle.table.proofs.order.lists.Statement.{statement}
 use Rattle.table.proofs.order.lists.Tie as tie
 

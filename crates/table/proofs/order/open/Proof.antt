@@ -4,11 +4,10 @@ use mathlib.Core.Path.{_≡_, refl, sym, ap, ap₂, _∙_}
 use mathlib.Core.List.{List, _++_}
 use Prim.Native.Nat.{ℕ, _≤_, _-_, _<_, _+_}
 use native.Mathlib.Omega.{arith}
-use native.Mathlib.Numerals.{add-one}
-use lib.ListN.{length, take, drop, getD, set, length-set, take-append-drop}
-use Rattle.table.specs.Bytes.{insertAt}
+use lib.ListN.{length, take, drop, getD, set, length-set}
+use Rattle.lists.specs.Insert.{insertAt}
+use Rattle.lists.proofs.Shift.{at-in, open-begins, open-stored, open-carried}
 use Rattle.table.specs.Table.{entered}
-use Rattle.table.proofs.Shift.{still, store, take-in, at-in, after-in, length-in}
 use Rattle.table.proofs.order.open.Statement.{statement}
 use Rattle.table.proofs.order.open.Tie as tie
 
@@ -27,8 +26,8 @@ loop-holds c =
       omega arith,
       omega arith,
       refl,
-      sym (ap (λ (x : List ℕ). x ++ drop (a .at) (a .order .now)) (take-in (a .at) (a .place) (a .order .now) h) ∙ take-append-drop (a .at) (a .order .now)),
-      sym (at-in (a .at) (a .place) (a .order .now) h),
+      open-begins (a .at) (a .place) (a .order .now) h,
+      sym (at-in (a .at) (a .place) (a .order .now) 0 h),
     )
 
 slice-read-next : tie.Need-slice-read-next Inv-loop μ-loop
@@ -48,16 +47,12 @@ loop-again c =
     let l = c .before .before .loop in
     let a = c .before .before .before .args in
     let o = a .order .now in
-    let h : a .at ≤ length o = omega arith in
-    let hl : l .i < length o = omega arith in
-    let q = length-in (a .at) (a .place) o h in
-    let hr : l .i < length (insertAt (a .at) (a .place) o) = omega arith in (
+    let h : l .i < length o = omega arith in (
       omega arith,
       omega arith,
       simp length-set (omega arith),
-      ap₂ (λ (x : List ℕ) (y : ℕ). set x (l .i) y) (l .inv .3) (l .inv .4) ∙ store (insertAt (a .at) (a .place) o) o (l .i) hr hl,
-      ap (λ (x : List ℕ). getD x (l .i) 0) (l .inv .3) ∙ still (insertAt (a .at) (a .place) o) o (l .i) hr hl
-          ∙ sym (rw add-one (after-in (a .at) (a .place) o (l .i) (l .inv .0) h)),
+      ap₂ (λ (x : List ℕ) (y : ℕ). set x (l .i) y) (l .inv .3) (l .inv .4) ∙ open-stored (a .at) (a .place) o 0 (l .i) (l .inv .0) h,
+      ap (λ (x : List ℕ). getD x (l .i) 0) (l .inv .3) ∙ open-carried (a .at) (a .place) o 0 (l .i) (l .inv .0) h,
     )
 
 same-length : tie.Need-same-length Inv-loop μ-loop

@@ -1,7 +1,7 @@
 -- `records::all_rise` meets its contract. The invariant: what was passed rises up to the last place, and what is left behind it decides. Assumes
 -- nothing.
 use borrow.Author.Needs.{needs}
-use borrow.Author.Tests.{not-true, not-false, lt-ltb, le-ltb}
+use borrow.Author.Tests.{lt-ltb, le-ltb}
 use mathlib.Core.Path.{_≡_, refl, sym, _∙_}
 use Prim.Native.Nat.{_≤_, _-_, _<_, _+_}
 use native.Mathlib.Omega.{arith}
@@ -97,7 +97,7 @@ returns-5 c =
     let f : p < length t = omega arith in
     let m : getD t 0 0 ≤ p = omega arith in
     sym (l .loop .inv .4
-    ∙ step-falls p (a .width) t m f (l .loop .last) (l .loop .i) (getD t (1 + l .loop .i) 0) refl (omega arith) (sym (c .before .rises .ensures) ∙ not-true _ (c .if5 .taken)))
+    ∙ step-falls p (a .width) t m f (l .loop .last) (l .loop .i) (getD t (1 + l .loop .i) 0) refl (omega arith) _ (c .before .rises .ensures) (c .if5 .taken))
 
 add-i : tie.Need-add-i Inv-loop μ-loop
 add-i c = omega arith
@@ -119,8 +119,8 @@ loop-again c =
       l .loop .inv .2,
       omega arith,
       l .loop .inv .4
-          ∙ step-on p (a .width) t m f (l .loop .last) (l .loop .i) (getD t (1 + l .loop .i) 0) refl (omega arith) (c .before .before .if4 .left)
-          (sym (c .before .rises .ensures) ∙ not-false _ (c .if5 .left)),
+          ∙ step-on p (a .width) t m f (l .loop .last) (l .loop .i) (getD t (1 + l .loop .i) 0) refl (omega arith)
+          _ (c .before .rises .ensures) (c .before .before .if4 .left) (c .if5 .left),
     )
 
 returns-6 : tie.Need-returns-6 Inv-loop μ-loop

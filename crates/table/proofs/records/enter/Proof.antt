@@ -1,18 +1,16 @@
--- `records::enter` meets its contract: the order is opened where the key belongs, the record is copied, and the count is one more. Assumes nothing.
+-- `records::enter` meets its contract: the order is opened where the key belongs, the record is refilled from its front, and the count is one more.
+-- Assumes nothing.
 use borrow.Author.Needs.{needs}
 use borrow.Rule.Slice.PartMut.{same-len-mid}
 use mathlib.Core.Path.{_≡_, refl, ap, _∙_}
 use mathlib.Core.List.{List}
 use Prim.Native.Nat.{ℕ, _-_, _<_, _+_}
-use native.Mathlib.Nat.{add-sub-cancel-left}
 use native.Mathlib.Omega.{arith}
 use lib.ListN.{length, take, drop, getD, length-set, length-drop}
 use lib.Seq.{length-take-le}
-use Rattle.wire.proofs.Copy.{copy-whole, length-lent}
-use Rattle.table.specs.Bytes.{splice}
 use Rattle.table.specs.Table.{entered}
 use Rattle.table.proofs.Listed.{place-le}
-use Rattle.table.proofs.Stores.{put-done, length-splice}
+use Rattle.table.proofs.Stores.{opened-table, put-done}
 use Rattle.table.proofs.records.enter.Statement.{statement}
 use Rattle.table.proofs.records.enter.Tie as tie
 
@@ -34,12 +32,6 @@ part-position-of-end c = search needs
 position-of-requires : tie.Need-position-of-requires
 position-of-requires c κs = search needs
 
-spot-requires : tie.Need-spot-requires
-spot-requires c κs = search needs
-
-add-to : tie.Need-add-to
-add-to c = search needs
-
 add-end : tie.Need-add-end
 add-end c = search needs
 
@@ -57,24 +49,21 @@ cast-open c = search needs
 
 open-requires : tie.Need-open-requires
 open-requires c κs =
-    let s = c .before .before .before .before .before .before .before .before .before in
-    let a = s .args in
+    let a = c .before .before .before .before .before .before .before .args in
     let f : a .places < length (a .table .now) = omega arith in
     let q = place-le (a .places) (a .width) (a .table .now) (omega arith) f (take 32 (a .«record» .now)) in
-    let e = c .before .before .before .position-of .ensures in
+    let e = c .before .position-of .ensures in
     search needs
 
-sub-copy : tie.Need-sub-copy
-sub-copy c = search needs
-
-part-copy-start : tie.Need-part-copy-start
-part-copy-start c = search needs
-
-part-copy-end : tie.Need-part-copy-end
-part-copy-end c = search needs
-
-copy-requires : tie.Need-copy-requires
-copy-requires c κs = search needs
+refill-requires : tie.Need-refill-requires
+refill-requires c κs =
+    let s = c .before .before .before .before .before .before .before .before .before .before .before in
+    let t = s .args .table .now in
+    let p = s .args .places in
+    let o : List ℕ = c .before .before .before .«open» .last .0 in
+    let k : 1 + p - 1 ≡ p = omega arith in
+    let lo : length o ≡ p = c .before .before .before .«open» .kept .0 ∙ rw k (length-take-le p (drop 1 t) (rw length-drop (omega arith))) in
+    (opened-table p (s .args .width) t (s .pre .0) (1 + p - 1) o k lo, s .pre .2, omega (arith, s .pre .4))
 
 add-table : tie.Need-add-table
 add-table c = search needs
@@ -87,34 +76,27 @@ slice-write-table c = search needs
 
 same-length : tie.Need-same-length
 same-length c =
-    let a = c .before .before .before .before .before .before .before .before .before .before .before .before .before .before .before .before .args in
-    let r = c .before .before .before .before .before .before .before .before .spot .result in
+    let a = c .before .before .before .before .before .before .before .before .before .before .before .before .before .before .args in
     let p = a .places in
     let o : List ℕ = c .before .before .before .before .before .before .«open» .last .0 in
     simp length-set
-    (same-len-mid {X = ℕ} r (r + length (a .«record» .now) - r) (splice (a .table .now) 1 o (1 + p - 1)) (c .before .before .copy .last .1 .0) (c .before .before .copy .kept .1 .0)
+    (c .before .before .refill .kept .0
     ∙ same-len-mid {X = ℕ} 1 (1 + p - 1) (a .table .now) o (c .before .before .before .before .before .before .«open» .kept .0))
 
 returns : tie.Need-returns
 returns c =
-    let s = c .before .before .before .before .before .before .before .before .before .before .before .before .before .before .before .before in
+    let s = c .before .before .before .before .before .before .before .before .before .before .before .before .before .before in
     let a = s .args in
     let t = a .table .now in
     let p = a .places in
-    let new = a .«record» .now in
-    let spot = c .before .before .before .before .before .before .before .before .spot in
-    let r = spot .result in
-    let i = c .before .before .before .before .before .before .before .before .before .before .position-of in
+    let i = c .before .before .before .before .before .before .before .before .position-of in
     let o : List ℕ = c .before .before .before .before .before .before .«open» .last .0 in
     let k : 1 + p - 1 ≡ p = omega arith in
-    let j : r + length new - r ≡ length new = add-sub-cancel-left r (length new) in
-    let lo : length o ≡ p = c .before .before .before .before .before .before .«open» .kept .0 ∙ rw k (length-take-le p (drop 1 t) (rw length-drop (omega arith))) in
-    let ls : length (splice t 1 o p) ≡ length t = length-splice t 1 o p (omega arith) lo in
-    let copied : c .before .before .copy .last .1 .0 ≡ new
-    = c .before .before .copy .ensures .1 ∙ rw (j, k) (copy-whole new (take (length new) (drop r (splice t 1 o p))) (length-lent (splice t 1 o p) r (length new) (omega arith))) in
-    rw (j, k, copied)
-    (put-done p (a .width) t (a .place) new (s .pre .0) r (getD t 0 0 + 1) (i .result) (getD t 0 0) o (spot .ensures) refl (i .ensures) refl lo
-    (c .before .before .before .before .before .before .«open» .ensures ∙ ap (λ (x : ℕ). entered (getD t 0 0) (i .result) (a .place) (take x (drop 1 t))) k))
+    let lo : length o ≡ p
+    = c .before .before .before .before .before .before .«open» .kept .0 ∙ rw k (length-take-le p (drop 1 t) (rw length-drop (omega arith))) in
+    put-done p (a .width) t (s .pre .0) (1 + p - 1) o k lo (a .place) (a .«record» .now) (getD t 0 0 + 1) (i .result) (getD t 0 0) _ refl (i .ensures) refl
+    (c .before .before .before .before .before .before .«open» .ensures ∙ ap (λ (x : ℕ). entered (getD t 0 0) (i .result) (a .place) (take x (drop 1 t))) k)
+    (c .before .before .refill .ensures)
 
 pub enter-spec : {M : Type 1} → statement M
 enter-spec =
@@ -126,18 +108,13 @@ enter-spec =
     part-position-of-start
     part-position-of-end
     position-of-requires
-    spot-requires
-    add-to
     add-end
     sub-open
     part-open-start
     part-open-end
     cast-open
     open-requires
-    sub-copy
-    part-copy-start
-    part-copy-end
-    copy-requires
+    refill-requires
     add-table
     cast-table
     slice-write-table

@@ -1,13 +1,12 @@
 -- `records::place_of` meets its contract. The invariant: none of those passed has the key, and what is left decides. Assumes nothing.
 use borrow.Author.Needs.{needs}
-use mathlib.Core.Path.{_≡_, sym, ap, _∙_}
-use Prim.Native.Nat.{ℕ, _≤_, _-_, _<_, _+_}
+use mathlib.Core.Path.{_≡_, sym, _∙_}
+use Prim.Native.Nat.{_≤_, _-_, _<_, _+_}
 use native.Mathlib.Omega.{arith}
 use lib.ListN.{length, drop}
-use Rattle.key.specs.Keys.{sameKey}
 use Rattle.table.specs.Table.{listed, keyAt, findKey}
-use Rattle.table.proofs.Listed.{listed-few, at-listed}
-use Rattle.table.proofs.SearchLaws.{find-here, find-next, find-end}
+use Rattle.table.proofs.Listed.{listed-few}
+use Rattle.table.proofs.SearchLaws.{find-read, find-on, find-end}
 use Rattle.table.proofs.records.place_of.Statement.{statement}
 use Rattle.table.proofs.records.place_of.Tie as tie
 
@@ -55,11 +54,7 @@ returns c =
     let t = a .table .now in
     let f : a .places < length t = omega arith in
     let h : l .i < length (listed (a .places) t) = omega (arith, l .inv .1) in
-    let e = at-listed (a .places) t f (l .i) h in
-    sym (l .inv .2
-    ∙ find-here (a .places) (keyAt (a .places) (a .width) t) (a .key .now) (listed (a .places) t) (l .i) h
-    (ap (λ (n : ℕ). sameKey (keyAt (a .places) (a .width) t n) (a .key .now)) e ∙ sym (c .before .has-key .ensures) ∙ c .if1 .taken)
-    ∙ e)
+    sym (l .inv .2 ∙ find-read (a .places) (a .width) t f (a .key .now) (l .i) h _ (c .before .has-key .ensures) (c .if1 .taken))
 
 add-i : tie.Need-add-i Inv-loop μ-loop
 add-i c = search needs
@@ -74,13 +69,10 @@ loop-again c =
     let a = s .args in
     let t = a .table .now in
     let f : a .places < length t = omega arith in
-    let h : l .i < length (listed (a .places) t) = omega (arith, l .inv .1) in
-    let e = at-listed (a .places) t f (l .i) h in (
+    let h : l .i < length (listed (a .places) t) = omega (arith, l .inv .1) in (
       omega arith,
       l .inv .1,
-      l .inv .2
-          ∙ find-next (a .places) (keyAt (a .places) (a .width) t) (a .key .now) (listed (a .places) t) (l .i) h
-          (ap (λ (n : ℕ). sameKey (keyAt (a .places) (a .width) t n) (a .key .now)) e ∙ sym (c .before .has-key .ensures) ∙ c .if1 .left),
+      l .inv .2 ∙ find-on (a .places) (a .width) t f (a .key .now) (l .i) h _ (c .before .has-key .ensures) (c .if1 .left),
     )
 
 returns-2 : tie.Need-returns-2 Inv-loop μ-loop

@@ -1,14 +1,12 @@
 -- `records::position_of` meets its contract. The invariant: those passed come before the key, and what is left decides. Assumes nothing.
 use borrow.Author.Needs.{needs}
-use borrow.Author.Tests.{not-true, not-false}
-use mathlib.Core.Path.{_≡_, sym, ap, _∙_}
-use Prim.Native.Nat.{ℕ, _≤_, _-_, _<_, _+_}
+use mathlib.Core.Path.{_≡_}
+use Prim.Native.Nat.{_≤_, _-_, _<_, _+_}
 use native.Mathlib.Omega.{arith}
 use lib.ListN.{length, drop}
-use Rattle.table.specs.Bytes.{keyBefore}
 use Rattle.table.specs.Table.{listed, keyAt, position}
-use Rattle.table.proofs.Listed.{listed-few, at-listed}
-use Rattle.table.proofs.SearchLaws.{position-stop, position-next, position-end}
+use Rattle.table.proofs.Listed.{listed-few}
+use Rattle.table.proofs.SearchLaws.{position-read, position-on, position-end}
 use Rattle.table.proofs.records.position_of.Statement.{statement}
 use Rattle.table.proofs.records.position_of.Tie as tie
 
@@ -56,9 +54,7 @@ returns c =
     let t = a .table .now in
     let f : a .places < length t = omega arith in
     let h : l .i < length (listed (a .places) t) = omega (arith, l .inv .1) in
-    let e = at-listed (a .places) t f (l .i) h in
-    let q = position-stop (a .places) (keyAt (a .places) (a .width) t) (a .key .now) (listed (a .places) t) (l .i) h
-    (ap (λ (n : ℕ). keyBefore (keyAt (a .places) (a .width) t n) (a .key .now)) e ∙ sym (c .before .comes-before .ensures) ∙ not-true _ (c .if1 .taken)) in
+    let q = position-read (a .places) (a .width) t f (a .key .now) (l .i) h _ (c .before .comes-before .ensures) (c .if1 .taken) in
     omega (arith, l .inv .2)
 
 add-i : tie.Need-add-i Inv-loop μ-loop
@@ -75,9 +71,7 @@ loop-again c =
     let t = a .table .now in
     let f : a .places < length t = omega arith in
     let h : l .i < length (listed (a .places) t) = omega (arith, l .inv .1) in
-    let e = at-listed (a .places) t f (l .i) h in
-    let q = position-next (a .places) (keyAt (a .places) (a .width) t) (a .key .now) (listed (a .places) t) (l .i) h
-    (ap (λ (n : ℕ). keyBefore (keyAt (a .places) (a .width) t n) (a .key .now)) e ∙ sym (c .before .comes-before .ensures) ∙ not-false _ (c .if1 .left)) in
+    let q = position-on (a .places) (a .width) t f (a .key .now) (l .i) h _ (c .before .comes-before .ensures) (c .if1 .left) in
     (omega arith, l .inv .1, omega (arith, l .inv .2))
 
 returns-2 : tie.Need-returns-2 Inv-loop μ-loop

@@ -1,10 +1,9 @@
 -- `records::rises` meets its contract. Assumes nothing.
-use mathlib.Core.Path.{sym, ap, _∙_}
+use mathlib.Core.Path.{sym}
 use Prim.Native.Nat.{_-_}
 use borrow.Author.Needs.{needs}
-use Rattle.table.specs.Bytes.{keyBefore}
 use Rattle.table.specs.Table.{keyAt}
-use Rattle.table.proofs.Listed.{first-rises, key-lent}
+use Rattle.table.proofs.Listed.{first-rises, before-lent}
 use Rattle.table.proofs.records.rises.Statement.{statement}
 use Rattle.table.proofs.records.rises.Tie as tie
 
@@ -52,8 +51,9 @@ returns-2 : tie.Need-returns-2
 returns-2 c =
     let s = c .before .before .before .before .before .before .before .before in
     let a = s .args in
-    c .place-before .ensures
-    ∙ ap (keyBefore (keyAt (a .places) (a .width) (a .table .now) (a .place))) (key-lent (a .places) (a .width) (a .table .now) (a .next) (c .before .before .before .before .before .spot2 .result) (c .before .before .before .before .before .spot2 .ensures))
+    let at = c .before .before .before .before .before .spot2 in
+    before-lent (a .places) (a .width) (a .table .now) (keyAt (a .places) (a .width) (a .table .now) (a .place)) (a .next) (at .result) (at .ensures)
+    _ (c .place-before .ensures)
 
 pub rises-spec : {M : Type 1} → statement M
 rises-spec =

@@ -1,0 +1,3 @@
+-- What laws of lists name.
+pub mod Insert
+pub mod Find

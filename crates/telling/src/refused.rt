@@ -1,0 +1,40 @@
+// A refusal: its number, and document 01's words for it, from the table "Given exactly when".
+use crate::say;
+use refusal::Refusal;
+
+fn reason(why: Refusal) {
+    match why {
+        Refusal::RoomFull => say::words(b"arrival with all 40 seats taken"),
+        Refusal::AlreadySeated => say::words(b"arrival of a key already seated"),
+        Refusal::NotSeated => say::words(b"seat above 39, or empty"),
+        Refusal::PacketSize => say::words(b"packet of 0 or more than 2,032 bytes"),
+        Refusal::UnexpectedKind => say::words(b"a kind this end does not take"),
+        Refusal::WrongLength => say::words(b"wrong length for the kind"),
+        Refusal::ZeroPing => say::words(b"ping number 0"),
+        Refusal::NoSuchRoute => say::words(
+            b"room: number names no route; laptop's end: answer with 1 to 15, or kind 2 or 3 below 16",
+        ),
+        Refusal::NotConnected => say::words(b"data on a waiting route"),
+        Refusal::OutputTooShort => say::words(
+            b"lent output too short: under 2,048 for packet and leave, under the exact length for a writer",
+        ),
+        Refusal::RoomNotWhole => say::words(b"room not whole"),
+        Refusal::ListSize => say::words(b"list size not 1 to 16"),
+        Refusal::KeyNotHeld => say::words(b"key to remove is not held"),
+        Refusal::ListNotWhole => say::words(
+            b"list longer than its size, not strictly rising in distance, or holding an unknown family",
+        ),
+        Refusal::UnknownFamily => say::words(b"unknown family byte"),
+        Refusal::NodeCutShort => say::words(b"node cut short"),
+        Refusal::BytesAfterNodes => say::words(b"bytes left after four nodes"),
+    }
+}
+
+pub fn tell(why: Refusal)
+    ensures { λ _. ⊤ₛ }
+{
+    say::words(b"refused with ");
+    say::number(why.number() as u64);
+    say::words(b": ");
+    reason(why);
+}
