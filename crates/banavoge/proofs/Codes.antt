@@ -6,8 +6,8 @@ use lib.IntN.{ℤ, pos, negℤ, _-ℤ_, +ℤ-idl}
 use mir.Syntax.{w32}
 use mir.Val.{SFits, toZ, ofZ}
 use mir.ValLaws.{toZ-pos, toZ-ofZ}
-use Rattle.packet.specs.declared.write.Written.{Written}
-use Rattle.packet.specs.declared.write.Written.the-variants.{Bytes}
+use Rattle.packet_write.specs.declared.Written.{Written}
+use Rattle.packet_write.specs.declared.Written.the-variants.{Bytes}
 use Rattle.banavoge.specs.Answers.{Counted}
 
 minus-fits : (n : ℕ) → n < 2 ^ 31 → SFits w32 (negℤ (pos n))

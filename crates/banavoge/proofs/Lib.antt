@@ -1,5 +1,5 @@
--- `Codes` has the laws of answers as signed numbers; `Reading`, `Writing`, `NodeTelling` and `HeldTelling` carry the promises of `packet`, `node`
--- and `lent_list` over to the exports; `RelayCounts` bounds what a call of the relay answers.
+-- `Codes` has the laws of answers as signed numbers; `Reading`, `Writing`, `NodeTelling` and `HeldTelling` carry the promises of `packet`, `packet_write`,
+-- `node` and `lent_list` over to the exports; `RelayCounts` bounds what a call of the relay answers.
 mod Codes
 mod HeldTelling
 mod NodeTelling

@@ -9,14 +9,16 @@ use Rattle.packet.specs.declared.relay.RelayRead as relay-read
 use Rattle.packet.specs.declared.relay.ClientPacket as relay-packet
 use Rattle.packet.specs.declared.client.ClientRead as client-read
 use Rattle.packet.specs.declared.client.RelayPacket as client-packet
-use Rattle.packet.specs.Read.{Read, packet, refused}
-use Rattle.packet.specs.FromClient as client
-use Rattle.packet.specs.FromRelay as relay
+use Rattle.packet_laws.specs.Read.{Read, packet, refused}
+use Rattle.packet_laws.specs.FromClient as client
+use Rattle.packet_laws.specs.FromRelay as relay
 use Rattle.packet.specs.RelayReads.{shownRelayRead, shownClient}
 use Rattle.packet.specs.ClientReads.{shownClientRead, shownRelay}
-use Rattle.banavoge.specs.declared.readers.Fields.{Fields}
+use Rattle.fields.specs.declared.Fields.{Fields}
 use Rattle.banavoge.specs.Answers.{refusalCode}
-use Rattle.banavoge.specs.Fields.{clientFields, relayFields, clientShown, relayShown, Places, placesOf, readCode, placesAfter, keyAfter, ReadsFields, ReadsKey}
+use Rattle.fields.proofs.FieldsShown.{client-fields-shown, relay-fields-shown}
+use Rattle.fields.specs.Fields.{clientFields, relayFields, clientShown, relayShown}
+use Rattle.banavoge.specs.Fields.{Places, placesOf, readCode, placesAfter, keyAfter, ReadsFields, ReadsKey}
 
 -- ---- at either end: a packet was read, and these are its fields; or none was
 
@@ -59,15 +61,6 @@ module _ {A : Type 0} (fieldsOf : A → Fields) (read : Read A) (z : ℤ) where
 
 -- ---- the relay's reader
 
-client-fields-shown : (p : client.FromClient) → clientShown (shownClient p) ≡ clientFields p
-unfolding clientShown shownClient clientFields
-client-fields-shown (client.routingRequest key) = refl
-client-fields-shown (client.dropRoute number) = refl
-client-fields-shown (client.ping n) = refl
-client-fields-shown (client.pong n) = refl
-client-fields-shown (client.oobSend key bytes) = refl
-client-fields-shown (client.routedData number bytes) = refl
-
 pub relay-found : (read : Read client.FromClient) (answer : relay-read.RelayRead) (shown : relay-packet.ClientPacket) (f : Fields) → answer ≡ shownRelayRead read → answer ≡ relay-read.the-variants.Packet shown
     → f ≡ clientShown shown → Found clientFields read f
 unfolding shownRelayRead
@@ -82,16 +75,6 @@ relay-turned (packet p) answer why r s = let n : _≡_ {A = ℕ} 0 1 = cc in abs
 relay-turned (refused x) answer why r s = let q : x ≡ why = cc in ap refused q
 
 -- ---- the client's reader
-
-relay-fields-shown : (p : relay.FromRelay) → relayShown (shownRelay p) ≡ relayFields p
-unfolding relayShown shownRelay relayFields
-relay-fields-shown (relay.routingResponse number key) = refl
-relay-fields-shown (relay.connectNotice number) = refl
-relay-fields-shown (relay.disconnectNotice number) = refl
-relay-fields-shown (relay.ping n) = refl
-relay-fields-shown (relay.pong n) = refl
-relay-fields-shown (relay.oobReceived key bytes) = refl
-relay-fields-shown (relay.routedData number bytes) = refl
 
 pub client-found : (read : Read relay.FromRelay) (answer : client-read.ClientRead) (shown : client-packet.RelayPacket) (f : Fields) → answer ≡ shownClientRead read → answer ≡ client-read.the-variants.Packet shown
     → f ≡ relayShown shown → Found relayFields read f

@@ -12,12 +12,12 @@ use Rattle.rules.specs.Accepted.{RefusedOrAccepted, refusal, acceptance}
 use Rattle.rules.proofs.RefusedOrAccepted.{outcome-made}
 use Rattle.rules.proofs.WithinOutput.{needs-within}
 use Rattle.seat.specs.declared.Seat as seats
-use Rattle.room.specs.View.{viewRoom}
-use Rattle.room.specs.Whole.{roomWhole}
+use Rattle.room_laws.specs.View.{viewRoom}
+use Rattle.room_laws.specs.Whole.{roomWhole}
 use Rattle.room_laws.proofs.OutcomeLaws.{outcome-within}
-use Rattle.records.specs.declared.answer.Answer as code
-use Rattle.relay.specs.Calls.{answerOf, Leaves, tested, withOutput}
-use Rattle.relay.proofs.CallsLaws.{by-length}
+use Rattle.records.specs.declared.Answer as code
+use Rattle.relay_laws.specs.Calls.{answerOf, Leaves, tested, withOutput}
+use Rattle.relay_laws.proofs.CallsLaws.{by-length}
 use Rattle.banavoge.specs.RelayCalls.{CallCounted}
 
 -- an answer counts the bytes sent

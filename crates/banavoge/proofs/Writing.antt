@@ -1,4 +1,4 @@
--- What a writer of `packet` promises, carried over to the exported one. Assumes nothing.
+-- What a writer of `packet_write` promises, carried over to the exported one. Assumes nothing.
 use mathlib.Core.Path.{_≡_, refl}
 use mathlib.Core.Bool.{Bool, true, false, cond}
 use mathlib.Core.List.{List}
@@ -6,14 +6,15 @@ use Prim.Native.Nat.{ℕ, _≤_}
 use lib.Dec.{leb}
 use lib.ListN.{length}
 use Rattle.refusal.specs.declared.Refusal.the-variants.{OutputTooShort}
-use Rattle.packet.specs.declared.write.Written.{Written}
-use Rattle.packet.specs.declared.write.Written.the-variants.{Bytes, Refused}
-use Rattle.packet.specs.Read.{Read, packet, refused}
-use Rattle.packet.specs.FromClient.{FromClient, clientBytes}
-use Rattle.packet.specs.FromRelay.{FromRelay, relayBytes}
-use Rattle.packet.specs.Written.{Writes, ClientWrites, RelayWrites, writtenAnswer, clientJudged, relayJudged}
-use Rattle.packet.proofs.ClientRoundTrip.{client-judged-size}
-use Rattle.packet.proofs.RelayRoundTrip.{relay-judged-size}
+use Rattle.packet_write.specs.declared.Written.{Written}
+use Rattle.packet_write.specs.declared.Written.the-variants.{Bytes, Refused}
+use Rattle.packet_laws.specs.Read.{Read, packet, refused}
+use Rattle.packet_laws.specs.FromClient.{FromClient, clientBytes}
+use Rattle.packet_laws.specs.FromRelay.{FromRelay, relayBytes}
+use Rattle.packet_write.specs.Written.{Writes, ClientWrites, RelayWrites, writtenAnswer}
+use Rattle.packet_laws.specs.Judged.{clientJudged, relayJudged}
+use Rattle.packet_laws.proofs.ClientRoundTrip.{client-judged-size}
+use Rattle.packet_laws.proofs.RelayRoundTrip.{relay-judged-size}
 use Rattle.banavoge.specs.Answers.{Counted}
 
 -- ---- every count is that of a packet, so it is small

@@ -6,8 +6,8 @@ use lib.IntN.{ℤ, pos, negℤ}
 use Rattle.wire.specs.Numbers as wire
 use Rattle.refusal.specs.declared.Refusal.{Refusal}
 use Rattle.refusal.specs.Numbers.{refusalNumber}
-use Rattle.packet.specs.declared.write.Written.{Written}
-use Rattle.packet.specs.declared.write.Written.the-variants.{Bytes, Refused}
+use Rattle.packet_write.specs.declared.Written.{Written}
+use Rattle.packet_write.specs.declared.Written.the-variants.{Bytes, Refused}
 
 unfoldable pub refusalCode : Refusal → ℤ
 refusalCode why = negℤ (pos (refusalNumber why))

@@ -1,4 +1,4 @@
--- What the exported functions on a nearest list answer. The relations are those of `lent_list` (`Begins`, `Offers`, `Removes`), told as the numbers here; a
+-- What the exported functions on a nearest list answer. The relations are those of `lent_list_laws` (`Begins`, `Offers`, `Removes`), told as the numbers here; a
 -- refusal sets no reference.
 use mathlib.Core.List.{List}
 use mathlib.Core.Path.{_≡_}

@@ -1,4 +1,4 @@
--- What the exported calls of the relay answer. The relations are those of `relay` (`Arrives`, `Departs`, `Sends`), for document 01's 40 seats and 32 numbers;
+-- What the exported calls of the relay answer. The relations are those of `relay_laws` (`Arrives`, `Departs`, `Sends`), for document 01's 40 seats and 32 numbers;
 -- here the answer becomes one number.
 use Prim.Native.Nat.{_≤_}
 use lib.IntN.{ℤ, pos}

@@ -1,4 +1,4 @@
--- What the exported functions on a room answer. The empty room is that of `room` (`MakesEmpty`), told as `doneOr OutputTooShort`: "The empty room and the empty
+-- What the exported functions on a room answer. The empty room is that of `room_laws` (`MakesEmpty`), told as `doneOr OutputTooShort`: "The empty room and the empty
 -- list of size 8 are given". The sizes are document 01's: "40 seats, 0 to 39; each is empty or holds one key and 32 routes, numbers 16 to 47".
 use mathlib.Core.Bool.{Bool, true, false}
 use mathlib.Core.List.{List}
@@ -6,7 +6,7 @@ use Prim.Native.Nat.{ℕ}
 use lib.IntN.{ℤ, pos}
 use Rattle.refusal.specs.declared.Refusal.{Refusal}
 use Rattle.refusal.specs.declared.Refusal.the-variants.{RoomNotWhole}
-use Rattle.room.specs.Whole.{roomWhole}
+use Rattle.room_laws.specs.Whole.{roomWhole}
 use Rattle.banavoge.specs.Answers.{refusalCode}
 
 -- 0, or minus a refusal

@@ -7,7 +7,7 @@ ghost use Rattle.banavoge.specs.Nearest.{doneCode, keptCode};
 ghost use Rattle.banavoge.specs.Rooms.{doneOr};
 use nearest::Answer;
 use nearest::OfferAnswer;
-use packet::write::Written;
+use packet_write::Written;
 use refusal::Refusal;
 
 // Minus the refusal's number.

@@ -3,8 +3,9 @@
 // Every call but banavoge_nearest_begin tests all of the list first: 12, then 14. Memory too short gets 14, or 12 where its first byte is no size. A refused
 // offer or removal leaves every byte of the memory.
 ghost use mathlib.Core.Path.{_≡_};
-ghost use Rattle.lent_list.specs.Layout.{listLength};
-ghost use Rattle.lent_list.specs.Calls.{Begins, Offers, Removes, heldAt};
+ghost use Rattle.lent_list_laws.specs.Layout.{listLength};
+ghost use Rattle.lent_list_laws.specs.Calls.{Begins, Offers, Removes};
+ghost use Rattle.lent_list.specs.Held.{heldAt};
 ghost use Rattle.banavoge.specs.Answers.{ToldAs};
 ghost use Rattle.banavoge.specs.Nodes.{nodeGiven};
 ghost use Rattle.banavoge.specs.Nearest.{keyGiven, doneCode, keptCode, heldPlaces, heldPlacesOf, ShowsHeld};

@@ -2,7 +2,7 @@
 //
 // Every call tests the room in full before it uses it. A refused call leaves every byte of the room and of the output.
 ghost use mathlib.Core.Path.{_≡_};
-ghost use Rattle.relay.specs.Calls.{answerOf, Arrives, Departs, Sends};
+ghost use Rattle.relay_laws.specs.Calls.{answerOf, Arrives, Departs, Sends};
 ghost use Rattle.banavoge.specs.Answers.{ToldAs};
 ghost use Rattle.banavoge.specs.RelayCalls.{seatCode, countCode, CallCounted};
 use crate::answer;

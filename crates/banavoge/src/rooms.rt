@@ -1,8 +1,8 @@
 // The room in the host's memory: its size, the empty room, and the test. Document 01's section "The room"; docs/ARCHITECTURE.md draws the memory.
 ghost use mathlib.Core.Path.{_≡_};
-ghost use Rattle.room.specs.Layout.{roomBytes};
+ghost use Rattle.room_laws.specs.Layout.{roomBytes};
 ghost use Rattle.refusal.specs.declared.Refusal.the-variants.{OutputTooShort};
-ghost use Rattle.room.specs.Store.{MakesEmpty};
+ghost use Rattle.room_laws.specs.Store.{MakesEmpty};
 ghost use Rattle.banavoge.specs.Answers.{ToldAs};
 ghost use Rattle.banavoge.specs.Rooms.{doneOr, roomCode};
 use crate::answer;

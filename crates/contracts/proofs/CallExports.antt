@@ -1,6 +1,6 @@
 -- The exported calls of the relay. Each contract is what stands here, and asks nothing of the caller. Assumes nothing.
 use denote.Ref.{now}
-use Rattle.relay.specs.Calls.{Arrives, Departs, Sends}
+use Rattle.relay_laws.specs.Calls.{Arrives, Departs, Sends}
 use Rattle.banavoge.specs.Answers.{ToldAs}
 use Rattle.banavoge.specs.RelayCalls.{seatCode, countCode}
 use Rattle.banavoge.proofs.relay_calls.banavoge_arrive.Kinds as arrive-kinds

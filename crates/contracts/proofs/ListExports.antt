@@ -1,8 +1,9 @@
 -- The exports on nearest lists. Each contract is what stands here, and asks nothing of the caller. Assumes nothing.
 use denote.Ref.{now}
 use mathlib.Core.Path.{_≡_}
-use Rattle.lent_list.specs.Layout.{listLength}
-use Rattle.lent_list.specs.Calls.{Begins, Offers, Removes, heldAt}
+use Rattle.lent_list_laws.specs.Layout.{listLength}
+use Rattle.lent_list_laws.specs.Calls.{Begins, Offers, Removes}
+use Rattle.lent_list.specs.Held.{heldAt}
 use Rattle.banavoge.specs.Answers.{ToldAs}
 use Rattle.banavoge.specs.Nodes.{nodeGiven}
 use Rattle.banavoge.specs.Nearest.{keyGiven, doneCode, keptCode, heldPlaces, ShowsHeld}

@@ -1,11 +1,10 @@
 -- The exported readers of packets. Each contract is what stands here, and asks nothing of the caller. Assumes nothing.
 use denote.Ref.{now}
-use Rattle.packet.specs.FromClient.{relayRead}
-use Rattle.packet.specs.FromRelay.{clientRead}
-use Rattle.packet.specs.RelayReads.{relayKey}
-use Rattle.packet.specs.ClientReads.{clientKey}
+use Rattle.packet_laws.specs.FromClient.{relayRead, relayKey}
+use Rattle.packet_laws.specs.FromRelay.{clientRead, clientKey}
 use Rattle.banavoge.specs.Answers.{OfBytes}
-use Rattle.banavoge.specs.Fields.{places, clientFields, relayFields, ReadsFields, ReadsKey}
+use Rattle.banavoge.specs.Fields.{places, ReadsFields, ReadsKey}
+use Rattle.fields.specs.Fields.{clientFields, relayFields}
 use Rattle.banavoge.proofs.readers.banavoge_relay_read.Kinds as relay-read-kinds
 use Rattle.banavoge.proofs.readers.banavoge_relay_read.Reads as relay-read-reads
 use Rattle.banavoge.proofs.readers.banavoge_client_read.Kinds as client-read-kinds

@@ -1,9 +1,9 @@
 -- The exports on the memory of a room. Each contract is what stands here, and asks nothing of the caller. Assumes nothing.
 use denote.Ref.{now}
 use mathlib.Core.Path.{_≡_}
-use Rattle.room.specs.Layout.{roomBytes}
+use Rattle.room_laws.specs.Layout.{roomBytes}
 use Rattle.refusal.specs.declared.Refusal.the-variants.{OutputTooShort}
-use Rattle.room.specs.Store.{MakesEmpty}
+use Rattle.room_laws.specs.Store.{MakesEmpty}
 use Rattle.banavoge.specs.Answers.{ToldAs}
 use Rattle.banavoge.specs.Rooms.{doneOr, roomCode}
 use Rattle.banavoge.proofs.rooms.banavoge_room_bytes.Kinds as room-bytes-kinds

@@ -9,16 +9,16 @@ use mathlib.Core.List.{List, [], _∷_, _++_}
 use Prim.Native.Nat.{ℕ, _≤_}
 use lib.IntN.{ℤ}
 use lib.ListN.{length}
-use Rattle.packet.specs.Read as read
-use Rattle.packet.specs.FromClient as client
+use Rattle.packet_laws.specs.Read as read
+use Rattle.packet_laws.specs.FromClient as client
 use Rattle.rules.specs.Call.{Call, packetCall, mostNeeded}
 use Rattle.rules.specs.History.{Event, event}
 use Rattle.rules.specs.Transcript.{fromEmpty}
 use Rattle.rules.specs.After.{pastAfter}
-use Rattle.rules.specs.GoesOn.{DataGoesOn}
+use Rattle.after_calls.specs.GoesOn.{DataGoesOn}
 use Rattle.rules.specs.Room.{sizesOf}
-use Rattle.rules.proofs.DataGoesOn.{data-goes-on, data-goes-on-from-empty}
-use Rattle.relay.specs.Calls.{Sends}
+use Rattle.after_calls.proofs.DataGoesOn.{data-goes-on, data-goes-on-from-empty}
+use Rattle.relay_laws.specs.Calls.{Sends}
 use Rattle.banavoge.specs.Answers.{ToldAs}
 use Rattle.banavoge.specs.RelayCalls.{countCode}
 use Rattle.histories.specs.Seen.{seenAs, seen}

@@ -15,9 +15,10 @@ use Rattle.nearest.specs.declared.NearestList.{NearestList}
 use Rattle.nearest.specs.declared.Answer.the-variants as answer
 use Rattle.nearest.specs.Lists.{defaultSize, sizeRight}
 use Rattle.nearest.specs.Calls.{begun, offered, removed}
-use Rattle.lent_list.specs.Layout.{listLength, listAt, stored, Storable}
-use Rattle.lent_list.specs.Calls.{begunAnswer, offerAnswered, removeAnswered, heldAt}
-use Rattle.lent_list.proofs.AfterCalls.{begin-storable, offer-storable, remove-storable, stored-read, bytes-stored, length-stored}
+use Rattle.lent_list_laws.specs.Layout.{listLength, listAt, stored, Storable}
+use Rattle.lent_list_laws.specs.Calls.{begunAnswer, offerAnswered, removeAnswered}
+use Rattle.lent_list.specs.Held.{heldAt}
+use Rattle.lent_list_laws.proofs.AfterCalls.{begin-storable, offer-storable, remove-storable, stored-read, bytes-stored, length-stored}
 use Rattle.banavoge.specs.Nearest.{doneCode, keptCode, heldCode, heldAfter}
 use Rattle.histories.specs.ListHistory.{ListCall, offering, removing, reading, ListEvent, listEvent, noHeld, ListChain, none, next, ListBegun, ofSize, ofBadSize, listCalls, FitsCalls, ListHistoryOf}
 use Rattle.histories.specs.ListHistory as list

@@ -13,11 +13,11 @@ use Rattle.rules.specs.Call.{Call, arrive, leave, packetCall, Sent, KeyOf32, mo
 use Rattle.rules.specs.Outcome.{Outcome, refuse, sentBytes, outcome}
 use Rattle.rules.specs.History.{Event}
 use Rattle.rules.proofs.QuietArrival.{arrive-sends-nothing}
-use Rattle.room.specs.Layout.{fitsRoom}
-use Rattle.room.specs.View.{viewRoom}
-use Rattle.room.specs.Whole.{roomWhole}
-use Rattle.room.specs.Store.{storeAll, emptied}
-use Rattle.relay.specs.Calls.{Leaves, tested, ifLong, withOutput}
+use Rattle.room_laws.specs.Layout.{fitsRoom}
+use Rattle.room_laws.specs.View.{viewRoom}
+use Rattle.room_laws.specs.Whole.{roomWhole}
+use Rattle.room_laws.specs.Store.{storeAll, emptied}
+use Rattle.relay_laws.specs.Calls.{Leaves, tested, ifLong, withOutput}
 use Rattle.banavoge.specs.Rooms.{doneOr}
 use Rattle.banavoge.specs.RelayCalls.{seatCode, countCode}
 use Rattle.histories.specs.Seen.{seenAs, seen}

@@ -20,7 +20,7 @@ use Rattle.banavoge.proofs.relay_calls.banavoge_packet.Kinds as packet-kinds
 use Rattle.banavoge.proofs.relay_calls.banavoge_packet.Reads as packet-reads
 use Rattle.banavoge.proofs.runs.banavoge_play.Kinds as play-kinds
 use Rattle.banavoge.proofs.runs.banavoge_play.Reads as play-reads
-use Rattle.room.specs.Store.{MakesEmpty}
+use Rattle.room_laws.specs.Store.{MakesEmpty}
 use Rattle.banavoge.specs.Answers.{ToldAs}
 use Rattle.banavoge.specs.Rooms.{doneOr, roomCode}
 use Rattle.banavoge.specs.Runs.{counts, telling}

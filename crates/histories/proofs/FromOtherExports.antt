@@ -50,8 +50,8 @@ use Rattle.banavoge.proofs.nearest_lists.banavoge_nearest_node.Kinds as nearest
 use Rattle.banavoge.proofs.nearest_lists.banavoge_nearest_node.Reads as nearest-node-reads
 use Rattle.refusal.specs.declared.Refusal.the-variants.{ListSize}
 use Rattle.nearest.specs.Lists.{defaultSize, sizeRight}
-use Rattle.lent_list.specs.Layout.{listLength}
-use Rattle.lent_list.specs.Calls.{Begins}
+use Rattle.lent_list_laws.specs.Layout.{listLength}
+use Rattle.lent_list_laws.specs.Calls.{Begins}
 use Rattle.banavoge.specs.Answers.{refusalCode, ToldAs}
 use Rattle.banavoge.specs.Fields.{places}
 use Rattle.banavoge.specs.Nodes.{nodePlaces, nodeGiven}

@@ -23,16 +23,16 @@ use Rattle.rules.specs.Accepted.{MadeAt}
 use Rattle.rules.proofs.RefusedOrAccepted.{outcome-made, leave-made-at, packet-made-at}
 use Rattle.rules.proofs.QuietArrival.{arrive-sends-nothing}
 use Rattle.rules.proofs.Tied.{tied-empty}
-use Rattle.room.specs.Layout.{fitsRoom}
-use Rattle.room.specs.View.{viewRoom}
-use Rattle.room.specs.Whole.{roomWhole}
-use Rattle.room.specs.Store.{storeAll, emptied, MakesEmpty}
+use Rattle.room_laws.specs.Layout.{fitsRoom}
+use Rattle.room_laws.specs.View.{viewRoom}
+use Rattle.room_laws.specs.Whole.{roomWhole}
+use Rattle.room_laws.specs.Store.{storeAll, emptied, MakesEmpty}
 use Rattle.room_laws.proofs.WholeLaws.{whole-view}
 use Rattle.room_laws.proofs.EmptyLaws.{empty-whole, empty-view}
-use Rattle.relay.specs.Calls.{written, Leaves, tested, withOutput, Arrives, Departs, Sends}
+use Rattle.relay_laws.specs.Calls.{written, Leaves, tested, withOutput, Arrives, Departs, Sends}
 use Rattle.records.proofs.RoundTrips.{all-short}
-use Rattle.relay.proofs.OutcomeLeaves.{made-written}
-use Rattle.relay.proofs.CallsLaws.{by-call}
+use Rattle.relay_laws.proofs.OutcomeLeaves.{made-written}
+use Rattle.relay_laws.proofs.CallsLaws.{by-call}
 use Rattle.banavoge.specs.Answers.{refusalCode, ToldAs}
 use Rattle.banavoge.specs.Rooms.{doneOr}
 use Rattle.banavoge.specs.RelayCalls.{seatCode, countCode}
@@ -255,7 +255,7 @@ pub base-history-runs : (events : List Event) (b′ : List ℕ) → History (bas
     → EqualsRules (baseSizes .seats) (baseSizes .numbers) (emptyRoom baseSizes) events b′
 base-history-runs = history-runs (baseSizes .seats) (baseSizes .numbers)
 
--- so what is proved of each event of the rules' transcripts, each law of `rules` named `..-from-empty`, holds of each event that the host sees
+-- so what is proved of each event of the rules' transcripts, each law of `after_calls` named `..-from-empty`, holds of each event that the host sees
 pub history-event : (s n : ℕ) (events : List Event) (b′ : List ℕ) → History s n events b′
     → (before : List Event) (e : Event) (later : List Event) → events ≡ before ++ (e ∷ later)
     → transcript (sizesOf s n) (emptyRoom (sizesOf s n)) (callsOf events) ≡ before ++ (e ∷ later)

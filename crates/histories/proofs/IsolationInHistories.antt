@@ -10,8 +10,8 @@ use Rattle.rules.specs.Room.{Sizes, Key, emptyRoom, sizesOf}
 use Rattle.rules.specs.Call.{Call}
 use Rattle.rules.specs.History.{Event, transcript}
 use Rattle.rules.specs.Transcript.{fromEmpty}
-use Rattle.rules.specs.Record.{recordFor, packetsFor, answersFor, zeroForC}
-use Rattle.rules.proofs.Isolation.{two-histories}
+use Rattle.isolation.specs.Record.{recordFor, packetsFor, answersFor, zeroForC}
+use Rattle.isolation.proofs.Isolation.{two-histories}
 use Rattle.histories.specs.History.{History, callsOf}
 use Rattle.histories.proofs.Histories.{history-runs}
 

@@ -18,12 +18,12 @@ use Rattle.rules.specs.Call.{KeyOf32, mostNeeded, needed}
 use Rattle.rules.proofs.RefusedOrAccepted.{outcome-made}
 use Rattle.rules.proofs.Tied.{tied-after, tied-refused}
 use Rattle.rules.proofs.WithinOutput.{needs-within}
-use Rattle.room.specs.View.{viewRoom}
-use Rattle.room.specs.Whole.{roomWhole}
-use Rattle.room.specs.Store.{storeAll}
+use Rattle.room_laws.specs.View.{viewRoom}
+use Rattle.room_laws.specs.Whole.{roomWhole}
+use Rattle.room_laws.specs.Store.{storeAll}
 use Rattle.room_laws.proofs.OutcomeLaws.{outcome-stored, outcome-within}
-use Rattle.relay.specs.Calls.{ifLong}
-use Rattle.relay.proofs.CallsLaws.{by-length}
+use Rattle.relay_laws.specs.Calls.{ifLong}
+use Rattle.relay_laws.proofs.CallsLaws.{by-length}
 use Rattle.histories.specs.Lent.{Lent, lentOutcome, lentEvent, lentTranscript, lentRoomAfter, AllLong, callsLent}
 
 -- ---- by the length of the output

@@ -36,11 +36,12 @@ use Rattle.nearest.proofs.KNearest.{offers-hold-nearest}
 use Rattle.nearest.proofs.Kept.{reached-whole}
 use Rattle.lent_list.specs.declared.Held.the-variants as found
 use Rattle.lent_list.specs.declared.HeldNode.{HeldNode}
-use Rattle.lent_list.specs.Layout.{listAt, stored, Storable}
-use Rattle.lent_list.specs.Calls.{begunAnswer, Begins, offerAnswered, removeAnswered, heldAt}
-use Rattle.lent_list.specs.Calls as lent
-use Rattle.lent_list.proofs.RoundTrips.{remove-refused-same}
-use Rattle.lent_list.proofs.AfterCalls.{begin-storable, offer-storable, remove-storable, stored-read, length-stored}
+use Rattle.lent_list_laws.specs.Layout.{listAt, stored, Storable}
+use Rattle.lent_list_laws.specs.Calls.{begunAnswer, Begins, offerAnswered, removeAnswered}
+use Rattle.lent_list.specs.Held.{heldAt}
+use Rattle.lent_list.specs.Held as lent
+use Rattle.lent_list_laws.proofs.RoundTrips.{remove-refused-same}
+use Rattle.lent_list_laws.proofs.AfterCalls.{begin-storable, offer-storable, remove-storable, stored-read, length-stored}
 use Rattle.banavoge.specs.Answers.{refusalCode}
 use Rattle.banavoge.specs.Nodes.{nodeGiven}
 use Rattle.banavoge.specs.Nearest.{doneCode, keptCode, heldCode, HeldPlaces, heldPlacesOf}

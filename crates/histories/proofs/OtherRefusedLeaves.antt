@@ -11,11 +11,9 @@ use lib.IntN.{ℤ}
 use lib.ListN.{length}
 use Rattle.refusal.specs.declared.Refusal.the-variants.{ListSize}
 use Rattle.key.specs.declared.Key.{Key}
-use Rattle.packet.specs.declared.write.Written as packet-written
-use Rattle.packet.specs.Read as packet
-use Rattle.packet.specs.FromClient as client
-use Rattle.packet.specs.FromRelay as relay
-use Rattle.packet.specs.Written as packets
+use Rattle.packet_write.specs.declared.Written as packet-written
+use Rattle.packet_laws.specs.Read as packet
+use Rattle.packet_write.specs.Written as packets
 use Rattle.node.specs.declared.Node.{Node}
 use Rattle.node.specs.declared.writer.Written as node-written
 use Rattle.node.specs.Families.{knownFamily}
@@ -34,10 +32,11 @@ use Rattle.nearest.proofs.Judge.{bounds-size}
 use Rattle.nearest.proofs.ListOf.{begun-bad}
 use Rattle.lent_list.specs.declared.Held.{Held}
 use Rattle.lent_list.specs.declared.Held.the-variants as found
-use Rattle.lent_list.specs.Layout.{stored}
-use Rattle.lent_list.specs.Calls.{Begins, Offers, Removes, heldAt}
-use Rattle.lent_list.proofs.RefusedLeaves.{refused-offer-leaves, refused-remove-leaves}
-use Rattle.banavoge.specs.declared.readers.Fields.{Fields}
+use Rattle.lent_list_laws.specs.Layout.{stored}
+use Rattle.lent_list_laws.specs.Calls.{Begins, Offers, Removes}
+use Rattle.lent_list.specs.Held.{heldAt}
+use Rattle.lent_list_laws.proofs.RefusedLeaves.{refused-offer-leaves, refused-remove-leaves}
+use Rattle.fields.specs.declared.Fields.{Fields}
 use Rattle.banavoge.specs.Answers.{refusalCode, writtenCode, ToldAs}
 use Rattle.banavoge.specs.Fields.{Places, readCode, placesAfter, ReadsFields, keyAfter, ReadsKey}
 use Rattle.banavoge.specs.Nodes.{NodePlaces, nodeCode, nodeAfter, ReadsNode, stepCode, stepAfter, StepsNode, nodeWrittenCode}

@@ -10,7 +10,7 @@ use Rattle.rules.specs.Call.{Answer, Sent}
 use Rattle.rules.specs.Outcome.{sentBytes}
 use Rattle.records.specs.Read.{Short}
 use Rattle.records.proofs.RoundTrips.{reads-back}
-use Rattle.relay.specs.Calls.{written}
+use Rattle.relay_laws.specs.Calls.{written}
 use Rattle.histories.specs.Seen.{recordsRead}
 
 pub written-read : (sent : List Sent) → Short sent → (given : Answer) → written given ≡ length (sentBytes sent) → (behind : List ℕ)

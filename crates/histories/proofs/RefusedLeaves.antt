@@ -13,12 +13,12 @@ use Rattle.rules.specs.Call.{Answer, accepted, refused}
 use Rattle.rules.specs.Outcome.{Outcome, refuse, accept, sentBytes}
 use Rattle.rules.specs.Accepted.{RefusedOrAccepted, refusal, acceptance}
 use Rattle.rules.specs.Room.{sizesOf}
-use Rattle.room.specs.View.{viewRoom}
-use Rattle.room.specs.Whole.{roomWhole}
-use Rattle.room.specs.Store.{storeAll, emptied, MakesEmpty}
+use Rattle.room_laws.specs.View.{viewRoom}
+use Rattle.room_laws.specs.Whole.{roomWhole}
+use Rattle.room_laws.specs.Store.{storeAll, emptied, MakesEmpty}
 use Rattle.relay.specs.declared.play.Run as code
-use Rattle.relay.specs.Calls.{Leaves}
-use Rattle.relay.proofs.CallsLaws.{call-made}
+use Rattle.relay_laws.specs.Calls.{Leaves}
+use Rattle.relay_laws.proofs.CallsLaws.{call-made}
 use Rattle.relay.specs.Play.{run, played, Playing, playing, LeavesRun, Plays}
 use Rattle.banavoge.specs.Rooms.{doneOr}
 use Rattle.banavoge.specs.RelayCalls.{seatCode, countCode}

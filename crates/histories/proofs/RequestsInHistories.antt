@@ -8,9 +8,9 @@ use mathlib.Core.Logic.{_↔_, _≢_}
 use Prim.Native.Nat.{ℕ, _≤_}
 use lib.IntN.{ℤ}
 use lib.ListN.{length}
-use Rattle.packet.specs.Read as read
-use Rattle.packet.specs.FromClient as client
-use Rattle.packet.specs.FromRelay as relay
+use Rattle.packet_laws.specs.Read as read
+use Rattle.packet_laws.specs.FromClient as client
+use Rattle.packet_laws.specs.FromRelay as relay
 use Rattle.rules.specs.Room.{sizesOf, Key}
 use Rattle.rules.specs.Whole.{Whole}
 use Rattle.rules.specs.Call.{Call, packetCall, Sent, mostNeeded}
@@ -18,15 +18,15 @@ use Rattle.rules.specs.Outcome.{to}
 use Rattle.rules.specs.History.{Event, event}
 use Rattle.rules.specs.Transcript.{clientOf, fromEmpty, sitter}
 use Rattle.rules.specs.After.{pastAfter, Tied}
-use Rattle.rules.specs.GoesOn.{Connected}
-use Rattle.rules.specs.Given.{Asked, NoneFree}
-use Rattle.rules.specs.OwnKey.{OwnWaits, OwnKey}
-use Rattle.rules.proofs.OneSeat.{one-seat, connected-differ, asked-or-not}
-use Rattle.rules.proofs.OwnKey.{zero-exactly-full, own-number-waits, own-key}
-use Rattle.room.specs.View.{viewRoom}
-use Rattle.room.specs.Whole.{roomWhole}
+use Rattle.after_calls.specs.GoesOn.{Connected}
+use Rattle.after_calls.specs.Given.{Asked, NoneFree}
+use Rattle.after_calls.specs.OwnKey.{OwnWaits, OwnKey}
+use Rattle.after_calls.proofs.OneSeat.{one-seat, connected-differ, asked-or-not}
+use Rattle.after_calls.proofs.OwnKey.{zero-exactly-full, own-number-waits, own-key}
+use Rattle.room_laws.specs.View.{viewRoom}
+use Rattle.room_laws.specs.Whole.{roomWhole}
 use Rattle.room_laws.proofs.WholeLaws.{whole-view}
-use Rattle.relay.specs.Calls.{Sends}
+use Rattle.relay_laws.specs.Calls.{Sends}
 use Rattle.banavoge.specs.Answers.{ToldAs}
 use Rattle.banavoge.specs.RelayCalls.{countCode}
 use Rattle.histories.specs.Seen.{seenAs, seen}

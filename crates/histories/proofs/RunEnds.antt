@@ -19,8 +19,8 @@ use Rattle.rules.specs.History.{Event, event, transcript}
 use Rattle.rules.specs.After.{roomAfterAll}
 use Rattle.rules.proofs.Whole.{whole-after}
 use Rattle.rules.proofs.WithinOutput.{sent-within, keys-stay-short, needs-within}
-use Rattle.room.specs.View.{viewRoom}
-use Rattle.room.specs.Whole.{roomWhole}
+use Rattle.room_laws.specs.View.{viewRoom}
+use Rattle.room_laws.specs.Whole.{roomWhole}
 use Rattle.room_laws.proofs.WholeLaws.{whole-few, whole-view}
 use Rattle.room_laws.proofs.OutcomeLaws.{view-keys}
 use Rattle.stored.specs.Stored.{storedBytes, storedAll, Storable, firstCall, call}

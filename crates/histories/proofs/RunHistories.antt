@@ -12,7 +12,7 @@ use Prim.Native.Nat.{ℕ}
 use Rattle.rules.specs.Room.{Key}
 use Rattle.rules.specs.History.{Event}
 use Rattle.rules.specs.Transcript.{fromEmpty}
-use Rattle.rules.specs.Record.{recordFor, packetsFor, answersFor, zeroForC}
+use Rattle.isolation.specs.Record.{recordFor, packetsFor, answersFor, zeroForC}
 use Rattle.relay.specs.Play.{Plays}
 use Rattle.banavoge.specs.Answers.{ToldAs}
 use Rattle.banavoge.specs.Runs.{Counts, Telling, runTold}

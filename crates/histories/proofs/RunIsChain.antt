@@ -19,9 +19,9 @@ use Rattle.rules.specs.Room.{Sizes, Room, sizesOf}
 use Rattle.rules.specs.Call.{Call, mostNeeded}
 use Rattle.rules.specs.Outcome.{outcome, roomAfter}
 use Rattle.rules.specs.History.{Event, event, transcript}
-use Rattle.room.specs.View.{viewRoom}
-use Rattle.room.specs.Whole.{roomWhole}
-use Rattle.room.specs.Store.{storeAll}
+use Rattle.room_laws.specs.View.{viewRoom}
+use Rattle.room_laws.specs.Whole.{roomWhole}
+use Rattle.room_laws.specs.Store.{storeAll}
 use Rattle.stored.specs.Stored.{storedBytes}
 use Rattle.relay.specs.Play.{entryBytes, entriesBytes, Next, stops, plays, Run, goOn, run, changesAll, played, playing, LeavesRun, Plays}
 use Rattle.relay.specs.Play as play

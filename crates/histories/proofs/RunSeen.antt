@@ -18,14 +18,14 @@ use Rattle.rules.specs.Room.{Sizes, Room, sizesOf}
 use Rattle.rules.specs.Call.{Call, Answer, accepted, refused, Sent}
 use Rattle.rules.specs.Outcome.{sentBytes, outcome, roomAfter}
 use Rattle.rules.specs.History.{Event, event, transcript}
-use Rattle.room.specs.View.{viewRoom}
-use Rattle.room.specs.Whole.{roomWhole}
+use Rattle.room_laws.specs.View.{viewRoom}
+use Rattle.room_laws.specs.Whole.{roomWhole}
 use Rattle.stored.specs.Stored.{storedBytes}
 use Rattle.records.specs.Read.{tooLong}
 use Rattle.records.proofs.RoundTrips.{all-short}
-use Rattle.relay.specs.Calls.{written}
+use Rattle.relay_laws.specs.Calls.{written}
 use Rattle.relay.specs.Play.{entryHead, entryBytes, entriesBytes, Plays}
-use Rattle.relay.proofs.OutcomeLeaves.{made-written}
+use Rattle.relay_laws.proofs.OutcomeLeaves.{made-written}
 use Rattle.records.proofs.EntryLaws.{length-entry-head}
 use Rattle.banavoge.specs.Answers.{ToldAs}
 use Rattle.banavoge.specs.Runs.{Counts, Telling, runTold}

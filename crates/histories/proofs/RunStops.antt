@@ -25,8 +25,8 @@ use Rattle.rules.specs.Call.{Call}
 use Rattle.rules.specs.Outcome.{outcome, roomAfter}
 use Rattle.rules.specs.History.{Event, event, transcript}
 use Rattle.rules.specs.After.{roomAfterAll}
-use Rattle.room.specs.View.{viewRoom}
-use Rattle.room.specs.Whole.{roomWhole}
+use Rattle.room_laws.specs.View.{viewRoom}
+use Rattle.room_laws.specs.Whole.{roomWhole}
 use Rattle.stored.specs.Stored.{storedBytes, storedAll, First, none, call, firstCall}
 use Rattle.stored.proofs.StoredLaws.{first-within}
 use Rattle.relay.specs.declared.play.Run as code

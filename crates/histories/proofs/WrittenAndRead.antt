@@ -12,20 +12,21 @@ use lib.Seq.{take-all, take-at, drop-at}
 use borrow.Author.Tests.{le-leb}
 use Rattle.wire.specs.Numbers.{Bytes}
 use Rattle.wire.proofs.Numbers.{bytes-drop}
-use Rattle.packet.specs.declared.write.Written.{Written}
-use Rattle.packet.specs.declared.write.Written.the-variants as written
+use Rattle.packet_write.specs.declared.Written.{Written}
+use Rattle.packet_write.specs.declared.Written.the-variants as written
 use Rattle.refusal.specs.declared.Refusal.the-variants.{PacketSize, UnexpectedKind, NodeCutShort, BytesAfterNodes}
-use Rattle.packet.specs.Read as packet
-use Rattle.packet.specs.Table.{kindOf, sizeRight}
-use Rattle.packet.specs.FromClient as client
-use Rattle.packet.specs.FromRelay as relay
-use Rattle.packet.specs.RelayReads.{keyFromClient, relayKey}
-use Rattle.packet.specs.ClientReads.{keyFromRelay, clientKey}
-use Rattle.packet.specs.Written as packets
-use Rattle.packet.specs.Written.{dataNumber, clientJudged, relayJudged, writtenAnswer, writtenOutput, BothWrite}
-use Rattle.packet.proofs.ClientRoundTrip.{relay-reads-written, client-writes-read}
-use Rattle.packet.proofs.RelayRoundTrip.{client-reads-written, relay-writes-read}
-use Rattle.packet.proofs.WriteLaws.{writes-put}
+use Rattle.packet_laws.specs.Read as packet
+use Rattle.packet_laws.specs.Table.{kindOf, sizeRight}
+use Rattle.packet_laws.specs.FromClient as client
+use Rattle.packet_laws.specs.FromRelay as relay
+use Rattle.packet_laws.specs.FromClient.{keyFromClient, relayKey}
+use Rattle.packet_laws.specs.FromRelay.{keyFromRelay, clientKey}
+use Rattle.packet_write.specs.Written as packets
+use Rattle.packet_laws.specs.Judged.{dataNumber, clientJudged, relayJudged}
+use Rattle.packet_write.specs.Written.{writtenAnswer, writtenOutput, BothWrite}
+use Rattle.packet_laws.proofs.ClientRoundTrip.{relay-reads-written, client-writes-read}
+use Rattle.packet_laws.proofs.RelayRoundTrip.{client-reads-written, relay-writes-read}
+use Rattle.packet_write.proofs.WriteLaws.{writes-put}
 use Rattle.node.specs.declared.Node.{Node}
 use Rattle.node.specs.declared.writer.Written as node-written
 use Rattle.node.specs.Nodes.{NodeInfo, packedNode, Read, node, refused, readNode}
@@ -35,9 +36,10 @@ use Rattle.node.specs.Written.{Writes, WritesNode}
 use Rattle.node.proofs.NodeLaws.{read-packed, info-of-value}
 use Rattle.node.proofs.RoundTrips.{read-exactly, count-put, put-count, value-settled, value-fits}
 use Rattle.node.proofs.StepLaws.{step-read}
-use Rattle.banavoge.specs.declared.readers.Fields.{Fields}
+use Rattle.fields.specs.declared.Fields.{Fields}
 use Rattle.banavoge.specs.Answers.{writtenCode, OfBytes, ToldAs}
-use Rattle.banavoge.specs.Fields.{Places, placesOf, clientFields, relayFields, readCode, placesAfter, keyAfter}
+use Rattle.banavoge.specs.Fields.{Places, placesOf, readCode, placesAfter, keyAfter}
+use Rattle.fields.specs.Fields.{clientFields, relayFields}
 use Rattle.banavoge.specs.Nodes.{NodePlaces, nodePlacesOf, nodeGiven, nodeCode, nodeAfter, ReadsNode, stepCode, stepAfter, StepsNode, nodeWrittenCode}
 use Rattle.histories.specs.WrittenAndRead.{kindTold, payloadAt, clientTold, relayTold, Tells, RelayTells, ClientTells, ClientWriting, RelayWriting, Makes, WrittenBack, NodeTold, NodeTells, NodeMakes}
 use Rattle.histories.proofs.Answered.{below-not}

@@ -6,9 +6,9 @@ use Prim.Native.Nat.{ℕ}
 use lib.IntN.{ℤ, pos, negsuc}
 use Rattle.refusal.specs.declared.Refusal.the-variants.{OutputTooShort, RoomNotWhole}
 use Rattle.rules.specs.Room.{Key}
-use Rattle.room.specs.Whole.{roomWhole}
-use Rattle.room.specs.Store.{MakesEmpty}
-use Rattle.relay.specs.Calls.{Arrives, Departs, Sends}
+use Rattle.room_laws.specs.Whole.{roomWhole}
+use Rattle.room_laws.specs.Store.{MakesEmpty}
+use Rattle.relay_laws.specs.Calls.{Arrives, Departs, Sends}
 use Rattle.relay.specs.Play.{Plays}
 use Rattle.banavoge.specs.Answers.{ToldAs}
 use Rattle.banavoge.specs.Rooms.{doneOr}

@@ -10,8 +10,8 @@ use Rattle.refusal.specs.declared.Refusal.the-variants.{OutputTooShort}
 use Rattle.rules.specs.Room.{Key}
 use Rattle.rules.specs.Call.{Call, arrive, leave, packetCall}
 use Rattle.rules.specs.History.{Event}
-use Rattle.room.specs.Store.{MakesEmpty}
-use Rattle.relay.specs.Calls.{Arrives, Departs, Sends}
+use Rattle.room_laws.specs.Store.{MakesEmpty}
+use Rattle.relay_laws.specs.Calls.{Arrives, Departs, Sends}
 use Rattle.banavoge.specs.Answers.{ToldAs}
 use Rattle.banavoge.specs.Rooms.{doneOr}
 use Rattle.banavoge.specs.RelayCalls.{seatCode, countCode}

@@ -7,7 +7,7 @@ use Rattle.rules.specs.Room.{Sizes, Room}
 use Rattle.rules.specs.Call.{Call, needed}
 use Rattle.rules.specs.Outcome.{Outcome, roomAfter, outcome}
 use Rattle.rules.specs.History.{Event}
-use Rattle.relay.specs.Calls.{ifLong}
+use Rattle.relay_laws.specs.Calls.{ifLong}
 
 -- a call, and how many bytes of output it is lent
 pub record Lent : Type 0 where

@@ -14,9 +14,10 @@ use Rattle.nearest.specs.declared.NearestList.{NearestList}
 use Rattle.nearest.specs.Lists.{defaultSize, emptyOf}
 use Rattle.nearest.specs.Calls.{checked, offered, removed}
 use Rattle.nearest.specs.Sequence.{Nearest}
-use Rattle.lent_list.specs.Layout.{listLength, listAt, Fits}
-use Rattle.lent_list.specs.Calls.{Begins, Offers, Removes, heldAt}
-use Rattle.lent_list.specs.Calls as lent
+use Rattle.lent_list_laws.specs.Layout.{listLength, listAt, Fits}
+use Rattle.lent_list_laws.specs.Calls.{Begins, Offers, Removes}
+use Rattle.lent_list.specs.Held.{heldAt}
+use Rattle.lent_list.specs.Held as lent
 use Rattle.banavoge.specs.Answers.{refusalCode, ToldAs}
 use Rattle.banavoge.specs.Nodes.{nodeGiven}
 use Rattle.banavoge.specs.Nearest.{doneCode, keptCode, heldCode, HeldPlaces, heldPlaces, ShowsHeld}

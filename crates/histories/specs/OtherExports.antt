@@ -7,19 +7,19 @@ use Prim.Native.Nat.{ℕ}
 use lib.IntN.{ℤ}
 use lib.ListN.{drop}
 use Rattle.key.specs.declared.Key.{Key}
-use Rattle.packet.specs.FromClient.{FromClient, relayRead}
-use Rattle.packet.specs.FromRelay.{FromRelay, clientRead}
-use Rattle.packet.specs.RelayReads.{relayKey}
-use Rattle.packet.specs.ClientReads.{clientKey}
-use Rattle.packet.specs.Written.{ClientWrites, RelayWrites, BothWrite}
+use Rattle.packet_laws.specs.FromClient.{FromClient, relayRead, relayKey}
+use Rattle.packet_laws.specs.FromRelay.{FromRelay, clientRead, clientKey}
+use Rattle.packet_write.specs.Written.{ClientWrites, RelayWrites, BothWrite}
 use Rattle.node.specs.declared.Node.{Node}
 use Rattle.node.specs.Nodes.{readNode}
 use Rattle.node.specs.Steps.{stepOf}
 use Rattle.node.specs.Written.{WritesNode}
 use Rattle.nearest.specs.Lists.{sizeRight}
-use Rattle.lent_list.specs.Calls.{Begins, Offers, Removes, heldAt}
+use Rattle.lent_list_laws.specs.Calls.{Begins, Offers, Removes}
+use Rattle.lent_list.specs.Held.{heldAt}
 use Rattle.banavoge.specs.Answers.{ToldAs, writtenCode}
-use Rattle.banavoge.specs.Fields.{Places, clientFields, relayFields, ReadsFields, ReadsKey}
+use Rattle.banavoge.specs.Fields.{Places, ReadsFields, ReadsKey}
+use Rattle.fields.specs.Fields.{clientFields, relayFields}
 use Rattle.banavoge.specs.Nodes.{NodePlaces, nodeWrittenCode, ReadsNode, StepsNode}
 use Rattle.banavoge.specs.Nearest.{doneCode, keptCode, HeldPlaces, ShowsHeld}
 

@@ -9,7 +9,7 @@ use lib.ListN.{length, drop}
 use Rattle.rules.specs.Room.{Sizes, Room}
 use Rattle.rules.specs.Call.{Call}
 use Rattle.rules.specs.History.{Event, transcript}
-use Rattle.room.specs.View.{viewRoom}
+use Rattle.room_laws.specs.View.{viewRoom}
 use Rattle.stored.specs.Stored.{storedBytes, storedAll, Storable, none, call, firstCall}
 use Rattle.relay.specs.declared.play.Stop.{Stop}
 use Rattle.relay.specs.declared.play.Stop.the-variants.{End, NoCall, Allowance, Output}

@@ -8,7 +8,7 @@ use Rattle.refusal.specs.Numbers.{refusalOf}
 use Rattle.rules.specs.Call.{Call, arrive, leave, packetCall, Answer, accepted, refused, Sent}
 use Rattle.rules.specs.History.{Event}
 use Rattle.records.specs.Read.{recordsIn}
-use Rattle.relay.specs.Calls.{written}
+use Rattle.relay_laws.specs.Calls.{written}
 
 -- ---- the records
 

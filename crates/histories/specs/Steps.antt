@@ -8,9 +8,9 @@ use Rattle.rules.specs.Room.{sizesOf, Room}
 use Rattle.rules.specs.Outcome.{Outcome, outcome, roomAfter}
 use Rattle.rules.specs.History.{Event, event, transcript}
 use Rattle.rules.specs.After.{roomAfterAll}
-use Rattle.room.specs.View.{viewRoom}
-use Rattle.room.specs.Whole.{roomWhole}
-use Rattle.room.specs.Store.{storeAll}
+use Rattle.room_laws.specs.View.{viewRoom}
+use Rattle.room_laws.specs.Whole.{roomWhole}
+use Rattle.room_laws.specs.Store.{storeAll}
 use Rattle.histories.specs.Lent.{Lent, lentOutcome, lentEvent, lentTranscript, lentRoomAfter}
 use Rattle.histories.specs.History.{callsOf}
 

@@ -7,21 +7,22 @@ use Prim.Native.Nat.{ℕ, _+_, _-_, _<_, _≤_}
 use lib.Dec.{eqb, leb}
 use lib.IntN.{ℤ, pos}
 use lib.ListN.{length, take, drop}
-use Rattle.packet.specs.Read.{Read}
-use Rattle.packet.specs.Table.{firstNumber, kindOf}
-use Rattle.packet.specs.FromClient as client
-use Rattle.packet.specs.FromRelay as relay
-use Rattle.packet.specs.RelayReads.{relayKey}
-use Rattle.packet.specs.ClientReads.{clientKey}
-use Rattle.packet.specs.Written.{ClientWrites, RelayWrites}
+use Rattle.packet_laws.specs.Read.{Read}
+use Rattle.packet_laws.specs.Table.{firstNumber, kindOf}
+use Rattle.packet_laws.specs.FromClient as client
+use Rattle.packet_laws.specs.FromRelay as relay
+use Rattle.packet_laws.specs.FromClient.{relayKey}
+use Rattle.packet_laws.specs.FromRelay.{clientKey}
+use Rattle.packet_write.specs.Written.{ClientWrites, RelayWrites}
 use Rattle.node.specs.declared.Node.{Node}
 use Rattle.node.specs.Nodes.{readNode}
 use Rattle.node.specs.Values.{settled}
 use Rattle.node.specs.Steps.{stepOf}
 use Rattle.node.specs.Written.{WritesNode}
-use Rattle.banavoge.specs.declared.readers.Fields.{Fields}
+use Rattle.fields.specs.declared.Fields.{Fields}
 use Rattle.banavoge.specs.Answers.{OfBytes, ToldAs, writtenCode}
-use Rattle.banavoge.specs.Fields.{Places, clientFields, relayFields, ReadsFields, ReadsKey}
+use Rattle.banavoge.specs.Fields.{Places, ReadsFields, ReadsKey}
+use Rattle.fields.specs.Fields.{clientFields, relayFields}
 use Rattle.banavoge.specs.Nodes.{NodePlaces, nodeGiven, nodeWrittenCode, ReadsNode, StepsNode}
 
 -- ---- packets: what the host is told

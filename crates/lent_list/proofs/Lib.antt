@@ -1,9 +1,2 @@
--- Theorems: `RoundTrips`, a list written and read; `RefusedLeaves`, a refusal leaves the memory; `AfterCalls`, the list in memory after a call is the one
--- handed back by value. Laws that they and the functions rest on: `SlotLaws` of slots,
--- `StoreLaws` of a list put into memory part by part, `CallLaws` of each call's ways out.
-pub mod RoundTrips
-pub mod RefusedLeaves
-pub mod AfterCalls
-pub mod SlotLaws
-pub mod StoreLaws
-pub mod CallLaws
+-- `HeldLaws`, of the search for the node at an index.
+pub mod HeldLaws

@@ -1,3 +1,2 @@
--- What a reader must believe of this crate, in the order to read it.
-pub mod Layout
-pub mod Calls
+-- What a reader must believe of this crate, beside the bytes of a list and the calls on them (`lent_list_laws`).
+pub mod Held

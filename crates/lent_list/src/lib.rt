@@ -3,7 +3,8 @@
 // An offer and a removal read the list, do by value what `nearest` does, its test of the whole list first, and write the list back; a refused one
 // writes nothing. Where the memory comes from, and how long it lives, stay with the host.
 ghost use mathlib.Core.Path.{_≡_};
-ghost use Rattle.lent_list.specs.Calls.{shortRefusal, Begins, Offers, Removes, heldAt, nothingShown};
+ghost use Rattle.lent_list_laws.specs.Calls.{shortRefusal, Begins, Offers, Removes};
+ghost use Rattle.lent_list.specs.Held.{heldAt, nothingShown};
 
 mod layout;
 pub mod memory;

@@ -1,6 +1,6 @@
 // A whole list, from lent bytes to the value and back.
 ghost use mathlib.Core.Path.{_≡_};
-ghost use Rattle.lent_list.specs.Layout.{loaded, stored};
+ghost use Rattle.lent_list_laws.specs.Layout.{loaded, stored};
 use crate::layout;
 use crate::slot;
 use key::Key;

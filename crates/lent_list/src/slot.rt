@@ -1,7 +1,7 @@
 // The slots of a list in lent bytes: one read, one written, and all 16.
 ghost use mathlib.Core.Path.{_≡_};
 ghost use lib.ListN.{length};
-ghost use Rattle.lent_list.specs.Layout.{slotLength, slotsLength, slotNumber, slotAt, slotsAt, slotBytes, slotsBytes};
+ghost use Rattle.lent_list_laws.specs.Layout.{slotLength, slotsLength, slotNumber, slotAt, slotsAt, slotBytes, slotsBytes};
 use crate::layout;
 use key::Key;
 use nearest::NearestList;

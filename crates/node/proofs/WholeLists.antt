@@ -24,7 +24,7 @@ use Rattle.node.specs.declared.walk.Shown.{Shown}
 use Rattle.node.specs.declared.walk.Shown.the-variants as shown
 use Rattle.node.specs.declared.walk.Stepped.{Stepped}
 use Rattle.node.specs.Families.{packedLength}
-use Rattle.node.specs.Nodes.{NodeInfo, node, packedNode, nodeOf, readNode, FitsNode}
+use Rattle.node.specs.Nodes.{NodeInfo, packedNode, nodeOf, readNode, FitsNode}
 use Rattle.node.specs.Values.{infoOf, valueOf}
 use Rattle.node.specs.Steps.{Showing, shows, ends, refuses, showingRead, stepOf, placeAfter, countAfter, showingOf, shownBy, nodeBy, shownStep, Steps}
 use Rattle.node.specs.Walks.{Ending, ended, unfinished, Walk, walkOn, walkFrom, packedNodes, AllFit, Stops, at-end, four-shown, unknown, cut-short, Walked, Calls, says-end, is-refused, shows-node}

@@ -1,57 +1,29 @@
--- Laws of the relay's reader: which kinds it takes, and that its answer as code stands for the packet read, its payload's place included. Assumes nothing.
+-- Laws of the relay's reader: its answer as code stands for the packet read, its payload's place included. Assumes nothing.
 use mathlib.Core.Path.{_≡_, _∙_, refl, sym, ap, ap₂}
-use mathlib.Core.Bool.{true}
 use mathlib.Core.List.{List}
-use mathlib.Core.Logic.{⊎-elim}
-use Prim.Native.Nat.{ℕ, _≤_}
+use Prim.Native.Nat.{ℕ}
 use native.Mathlib.Omega.{arith}
-use lib.Dec.{eqb, leb}
 use lib.ListN.{length, drop, length-drop}
 use lib.Seq.{drop-drop}
-use borrow.Author.Tests.{eqb-true, leb-true}
 use Rattle.refusal.specs.declared.Refusal.{Refusal}
 use Rattle.packet.specs.declared.relay.ClientPacket.{ClientPacket}
 use Rattle.packet.specs.declared.relay.ClientPacket.the-variants.{RoutingRequest, DropRoute, Ping, Pong, OobSend, Data}
 use Rattle.packet.specs.declared.relay.RelayRead.{RelayRead}
 use Rattle.packet.specs.declared.relay.RelayRead.the-variants.{Packet, Refused}
-use Rattle.packet.specs.Read.{packet, refused}
-use Rattle.packet.specs.Table.{kindOf, bodyOf, relayTakes}
-use Rattle.packet.specs.FromClient.{FromClient, routingRequest, oobSend, routedData, fromClient, relayRead}
+use Rattle.packet_laws.specs.Read.{packet, refused}
+use Rattle.packet_laws.specs.Table.{kindOf, bodyOf, relayTakes}
+use Rattle.packet_laws.specs.FromClient.{FromClient, routingRequest, oobSend, routedData, fromClient, relayRead, payloadFromClient, relayPayload, keyFromClient, relayKey}
 use Rattle.packet.specs.Parts.{partOf, startOf}
-use Rattle.packet.specs.RelayReads.{RelayReads, clientPacketOf, relayReadOf, shownClient, shownRelayRead}
-use Rattle.packet.specs.RelayReads.{relayRefusal, payloadFromClient, relayPayload, clientPart, keyFromClient, relayKey}
-use Rattle.packet.proofs.KindLaws.{or-true, from-client-data, size-bounds, length-request, length-oob-send}
+use Rattle.packet.specs.RelayReads.{RelayReads, clientPacketOf, relayReadOf, shownClient, shownRelayRead, relayRefusal, clientPart}
+use Rattle.packet_laws.proofs.KindLaws.{from-client-data, size-bounds, length-request, length-oob-send}
 use Rattle.key.proofs.Lent.{key-whole}
-use Rattle.packet.proofs.CheckLaws.{Passes, passes, Checks, pass, fail, checks}
+use Rattle.packet_laws.proofs.CheckLaws.{Passes, Checks, pass, fail, checks}
+use Rattle.packet_laws.proofs.RelayKinds.{RelayKind, is-request, is-drop, is-ping, is-pong, is-oob, is-data, relay-kind, relay-takes}
 use Rattle.packet.proofs.PartLaws.{part-tail, start-tail, no-part, no-start}
-
--- ---- the kinds that the relay takes
-
-pub data RelayKind (k : ℕ) : Type 0 where
-  is-request : k ≡ 0 → RelayKind k
-  is-drop : k ≡ 3 → RelayKind k
-  is-ping : k ≡ 4 → RelayKind k
-  is-pong : k ≡ 5 → RelayKind k
-  is-oob : k ≡ 6 → RelayKind k
-  is-data : 16 ≤ k → RelayKind k
-
-pub relay-kind : (k : ℕ) → relayTakes k ≡ true → RelayKind k
-unfolding relayTakes
-relay-kind k h =
-    ⊎-elim (λ (e : eqb k 0 ≡ true). is-request (eqb-true k 0 e)) (λ (r : _ ≡ true).
-    ⊎-elim (λ (e : eqb k 3 ≡ true). is-drop (eqb-true k 3 e)) (λ (r : _ ≡ true).
-    ⊎-elim (λ (e : eqb k 4 ≡ true). is-ping (eqb-true k 4 e)) (λ (r : _ ≡ true).
-    ⊎-elim (λ (e : eqb k 5 ≡ true). is-pong (eqb-true k 5 e)) (λ (r : _ ≡ true).
-    ⊎-elim (λ (e : eqb k 6 ≡ true). is-oob (eqb-true k 6 e)) (λ (r : leb 16 k ≡ true). is-data (leb-true 16 k r))
-    (or-true _ _ r)) (or-true _ _ r)) (or-true _ _ r)) (or-true _ _ r)) (or-true _ _ h)
 
 -- ---- a packet that the relay takes
 
 module _ (bytes : List ℕ) (taken : Passes relayTakes bytes) where
-  pub relay-takes : relayRead bytes ≡ packet (fromClient (kindOf bytes) (bodyOf bytes))
-  unfolding relayRead
-  relay-takes = passes relayTakes bytes (packet (fromClient (kindOf bytes) (bodyOf bytes))) taken
-
   -- each place in the answer holds what was read there
   shown-is-read : RelayKind (kindOf bytes) → clientPacketOf bytes (shownClient (fromClient (kindOf bytes) (bodyOf bytes))) ≡ fromClient (kindOf bytes) (bodyOf bytes)
   unfolding fromClient shownClient clientPacketOf bodyOf
@@ -115,10 +87,14 @@ pub relay-reads-refused : (bytes : List ℕ) (why : Refusal) → relayRead bytes
 unfolding shownRelayRead
 relay-reads-refused bytes why e = relay-reads bytes (Refused why) (sym (ap shownRelayRead e))
 
+-- the refusal taken out of a read that is one is its own
+pub refusal-own : (why : Refusal) → relayRefusal (Refused why) ≡ why
+unfolding relayRefusal
+refusal-own why = refl
+
 -- a read that is a refusal is the one that is taken out of it
 pub refusal-taken : (read : RelayRead) (why taken : Refusal) → read ≡ Refused why → taken ≡ relayRefusal read → read ≡ Refused taken
-unfolding relayRefusal
-refusal-taken read why taken e t = e ∙ ap Refused (sym (t ∙ ap relayRefusal e))
+refusal-taken read why taken e t = e ∙ ap Refused (sym (t ∙ ap relayRefusal e ∙ refusal-own why))
 
 pub relay-reads-packet : (bytes : List ℕ) (shown : ClientPacket) → Passes relayTakes bytes → shown ≡ shownClient (fromClient (kindOf bytes) (bodyOf bytes))
     → RelayReads bytes (Packet shown)

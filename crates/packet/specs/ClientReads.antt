@@ -1,17 +1,17 @@
 -- The client's reader as code: for each case of its answer, document 01's packet or refusal.
-use mathlib.Core.List.{List, []}
+use mathlib.Core.List.{List}
 use mathlib.Core.Path.{_≡_}
 use Prim.Native.Nat.{ℕ}
-use lib.ListN.{length, drop, replicate}
+use lib.ListN.{length, drop}
 use Rattle.key.specs.Keys.{keyOf}
-use Rattle.packet.specs.declared.parts.Part.{Part}
+use Rattle.packet.specs.declared.Part.{Part}
 use Rattle.packet.specs.declared.client.RelayPacket.{RelayPacket}
 use Rattle.packet.specs.declared.client.RelayPacket.the-variants.{RoutingResponse, ConnectNotification, DisconnectNotification, Ping, Pong, OobReceived, Data}
 use Rattle.packet.specs.declared.client.ClientRead.{ClientRead}
 use Rattle.packet.specs.declared.client.ClientRead.the-variants.{Packet, Refused}
-use Rattle.packet.specs.Read.{Read, packet, refused}
-use Rattle.packet.specs.FromRelay.{FromRelay, routingResponse, connectNotice, disconnectNotice, ping, pong, oobReceived, routedData, clientRead}
-use Rattle.packet.specs.Table.{kindAndKey}
+use Rattle.packet_laws.specs.Read.{Read, packet, refused}
+use Rattle.packet_laws.specs.FromRelay.{FromRelay, routingResponse, connectNotice, disconnectNotice, ping, pong, oobReceived, routedData, clientRead}
+use Rattle.packet_laws.specs.Table.{kindAndKey}
 use Rattle.packet.specs.Parts.{partOf, noPart}
 
 -- the packet that a case stands for, in the lent bytes
@@ -47,20 +47,6 @@ pub record ClientReads (bytes : List ℕ) (answer : ClientRead) : Type 0 where
   pub means : clientReadOf bytes answer ≡ clientRead bytes
   pub exact : answer ≡ shownClientRead (clientRead bytes)
 
--- "the data is shown as part of the lent packet": the payload of a packet that has one
-unfoldable pub payloadFromRelay : FromRelay → List ℕ
-payloadFromRelay (routingResponse number key) = []
-payloadFromRelay (connectNotice number) = []
-payloadFromRelay (disconnectNotice number) = []
-payloadFromRelay (ping n) = []
-payloadFromRelay (pong n) = []
-payloadFromRelay (oobReceived key bytes) = bytes
-payloadFromRelay (routedData number bytes) = bytes
-
-unfoldable pub clientPayload : Read FromRelay → List ℕ
-clientPayload (packet p) = payloadFromRelay p
-clientPayload (refused why) = []
-
 -- the part of the lent packet that a case names as its payload
 unfoldable pub relayPart : RelayPacket → Part
 relayPart (RoutingResponse number key) = noPart
@@ -70,17 +56,3 @@ relayPart (Ping n) = noPart
 relayPart (Pong n) = noPart
 relayPart (OobReceived key part) = part
 relayPart (Data number part) = part
-
--- the key of a packet that has one
-unfoldable pub keyFromRelay : FromRelay → List ℕ
-keyFromRelay (routingResponse number key) = key
-keyFromRelay (connectNotice number) = replicate 32 0
-keyFromRelay (disconnectNotice number) = replicate 32 0
-keyFromRelay (ping n) = replicate 32 0
-keyFromRelay (pong n) = replicate 32 0
-keyFromRelay (oobReceived key bytes) = key
-keyFromRelay (routedData number bytes) = replicate 32 0
-
-unfoldable pub clientKey : Read FromRelay → List ℕ
-clientKey (packet p) = keyFromRelay p
-clientKey (refused why) = replicate 32 0

@@ -1,9 +1,4 @@
--- What a reader must believe of this crate, in the order to read it.
-pub mod Read
-pub mod Table
-pub mod FromClient
-pub mod FromRelay
+-- What a reader must believe of the readers' answers, in the order to read it; what a packet is stands in `packet_laws`.
 pub mod Parts
 pub mod RelayReads
 pub mod ClientReads
-pub mod Written

@@ -6,7 +6,7 @@ use Prim.Native.Nat.{ℕ, _+_, _-_}
 use lib.Dec.{leb}
 use lib.ListN.{length, take, drop}
 use denote.Ref.{RefT, now}
-use Rattle.packet.specs.declared.parts.Part.{Part}
+use Rattle.packet.specs.declared.Part.{Part}
 
 -- the bytes at a part of a packet; none where it runs past the end
 unfoldable pub partOf : List ℕ → Part → List ℕ

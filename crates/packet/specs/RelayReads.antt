@@ -1,19 +1,19 @@
 -- The relay's reader as code: for each case of its answer, document 01's packet or refusal.
-use mathlib.Core.List.{List, []}
+use mathlib.Core.List.{List}
 use mathlib.Core.Path.{_≡_}
 use Prim.Native.Nat.{ℕ}
-use lib.ListN.{length, drop, replicate}
+use lib.ListN.{length, drop}
 use Rattle.key.specs.Keys.{keyOf}
 use Rattle.refusal.specs.declared.Refusal.{Refusal}
 use Rattle.refusal.specs.declared.Refusal.the-variants.{UnexpectedKind}
-use Rattle.packet.specs.declared.parts.Part.{Part}
+use Rattle.packet.specs.declared.Part.{Part}
 use Rattle.packet.specs.declared.relay.ClientPacket.{ClientPacket}
 use Rattle.packet.specs.declared.relay.ClientPacket.the-variants.{RoutingRequest, DropRoute, Ping, Pong, OobSend, Data}
 use Rattle.packet.specs.declared.relay.RelayRead.{RelayRead}
 use Rattle.packet.specs.declared.relay.RelayRead.the-variants.{Packet, Refused}
-use Rattle.packet.specs.Read.{Read, packet, refused}
-use Rattle.packet.specs.FromClient.{FromClient, routingRequest, dropRoute, ping, pong, oobSend, routedData, relayRead}
-use Rattle.packet.specs.Table.{kindAndKey}
+use Rattle.packet_laws.specs.Read.{Read, packet, refused}
+use Rattle.packet_laws.specs.FromClient.{FromClient, routingRequest, dropRoute, ping, pong, oobSend, routedData, relayRead}
+use Rattle.packet_laws.specs.Table.{kindAndKey}
 use Rattle.packet.specs.Parts.{partOf, noPart}
 
 -- the packet that a case stands for, in the lent bytes
@@ -52,19 +52,6 @@ unfoldable pub relayRefusal : RelayRead → Refusal
 relayRefusal (Packet shown) = UnexpectedKind
 relayRefusal (Refused why) = why
 
--- "the data is shown as part of the lent packet": the payload of a packet that has one
-unfoldable pub payloadFromClient : FromClient → List ℕ
-payloadFromClient (routingRequest key) = []
-payloadFromClient (dropRoute number) = []
-payloadFromClient (ping n) = []
-payloadFromClient (pong n) = []
-payloadFromClient (oobSend key bytes) = bytes
-payloadFromClient (routedData number bytes) = bytes
-
-unfoldable pub relayPayload : Read FromClient → List ℕ
-relayPayload (packet p) = payloadFromClient p
-relayPayload (refused why) = []
-
 -- the part of the lent packet that a case names as its payload
 unfoldable pub clientPart : ClientPacket → Part
 clientPart (RoutingRequest key) = noPart
@@ -73,16 +60,3 @@ clientPart (Ping n) = noPart
 clientPart (Pong n) = noPart
 clientPart (OobSend key part) = part
 clientPart (Data number part) = part
-
--- the key of a packet that has one
-unfoldable pub keyFromClient : FromClient → List ℕ
-keyFromClient (routingRequest key) = key
-keyFromClient (dropRoute number) = replicate 32 0
-keyFromClient (ping n) = replicate 32 0
-keyFromClient (pong n) = replicate 32 0
-keyFromClient (oobSend key bytes) = key
-keyFromClient (routedData number bytes) = replicate 32 0
-
-unfoldable pub relayKey : Read FromClient → List ℕ
-relayKey (packet p) = keyFromClient p
-relayKey (refused why) = replicate 32 0

@@ -2,14 +2,14 @@
 ghost use mathlib.Core.Path.{_≡_};
 ghost use mathlib.Core.Bool.{true};
 ghost use lib.ListN.{length, drop};
-ghost use Rattle.packet.specs.FromRelay.{fromRelay};
-ghost use Rattle.packet.specs.Table.{lengthRight};
+ghost use Rattle.packet_laws.specs.FromRelay.{fromRelay, keyFromRelay};
+ghost use Rattle.packet_laws.specs.Table.{lengthRight};
 ghost use Rattle.packet.specs.Parts.{PartAt};
-ghost use Rattle.packet.specs.ClientReads.{ClientReads, relayPacketOf, shownRelay, relayPart, keyFromRelay};
+ghost use Rattle.packet.specs.ClientReads.{ClientReads, relayPacketOf, shownRelay, relayPart};
+use crate::ConnectionNumber;
+use crate::Part;
 use crate::kind;
 use crate::parts;
-use crate::parts::ConnectionNumber;
-use crate::parts::Part;
 use key::Key;
 use refusal::Refusal;
 

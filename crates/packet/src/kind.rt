@@ -1,39 +1,39 @@
 // Document 01's table of packet kinds: who takes which, and how long each is. Each function is one check; both ends' readers and the writers
 // share them.
 ghost use mathlib.Core.Path.{_≡_};
-ghost use Rattle.packet.specs.Table.{sizeRight, relayTakes, clientTakes, lengthRight, pingRight, numberRight};
-use crate::parts::ConnectionNumber;
+ghost use Rattle.packet_laws.specs.Table.{sizeRight, relayTakes, clientTakes, lengthRight, pingRight, numberRight};
+use crate::ConnectionNumber;
 
-pub(crate) const REQUEST: u8 = 0;
+pub const REQUEST: u8 = 0;
 
-pub(crate) const RESPONSE: u8 = 1;
+pub const RESPONSE: u8 = 1;
 
-pub(crate) const CONNECT: u8 = 2;
+pub const CONNECT: u8 = 2;
 
-pub(crate) const DISCONNECT: u8 = 3;
+pub const DISCONNECT: u8 = 3;
 
-pub(crate) const PING: u8 = 4;
+pub const PING: u8 = 4;
 
-pub(crate) const PONG: u8 = 5;
+pub const PONG: u8 = 5;
 
-pub(crate) const OOB_SEND: u8 = 6;
+pub const OOB_SEND: u8 = 6;
 
-pub(crate) const OOB_RECEIVED: u8 = 7;
+pub const OOB_RECEIVED: u8 = 7;
 
 // "document 001 caps a sealed packet at 2,048, and sealing adds 16"
 pub(crate) const MOST_BYTES: usize = 2032;
 
 // The bytes of a kind and a key: a routing request has these alone, and an out-of-band payload begins behind them.
-pub(crate) const KIND_AND_KEY: usize = 33;
+pub const KIND_AND_KEY: usize = 33;
 
 // With one byte more: those of a routing response, and the fewest of an out-of-band packet.
-pub(crate) const KIND_KEY_AND_BYTE: usize = 34;
+pub const KIND_KEY_AND_BYTE: usize = 34;
 
 // The most of an out-of-band packet: its payload has at most 1,024.
 pub(crate) const MOST_OOB_BYTES: usize = 1057;
 
 // 4: "A packet has 1 to 2,032 bytes".
-pub(crate) fn size_right(size: usize) -> bool
+pub fn size_right(size: usize) -> bool
     ensures { λ r. ⌜ r ≡ sizeRight size ⌝ }
 {
     if size == 0 {
@@ -69,7 +69,7 @@ pub(crate) fn client_takes(kind: u8) -> bool
 }
 
 // 6: the table's last column.
-pub(crate) fn length_right(kind: u8, size: usize) -> bool
+pub fn length_right(kind: u8, size: usize) -> bool
     ensures { λ r. ⌜ r ≡ lengthRight kind size ⌝ }
 {
     match kind {
@@ -98,7 +98,7 @@ pub(crate) fn ping_right(kind: u8, body: &[u8]) -> bool
 }
 
 // 8, at the client: a connection number is 16 or more; the response 0 says that none was given.
-pub(crate) fn number_right(kind: u8, number: u8) -> bool
+pub fn number_right(kind: u8, number: u8) -> bool
     ensures { λ r. ⌜ r ≡ numberRight kind number ⌝ }
 {
     match kind {

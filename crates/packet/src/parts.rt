@@ -1,23 +1,10 @@
-// What the readers' answers are made of: connection numbers, and places in the lent packet.
+// What stands at a place of the lent packet.
 ghost use mathlib.Core.Path.{_≡_};
 ghost use lib.ListN.{drop};
 ghost use Rattle.key.specs.Keys.{keyOf};
 ghost use Rattle.packet.specs.Parts.{PartAt};
+use crate::Part;
 use key::Key;
-
-// A connection number: a client's own word for one of its routes. Document 01 calls it a route number; it has nothing to do with a seat.
-pub struct ConnectionNumber(pub u8);
-
-impl ConnectionNumber {
-    // The lowest that a route has, and so the lowest kind of a data packet.
-    pub const FIRST: u8 = 16;
-}
-
-// Where a payload stands in a packet.
-pub struct Part {
-    pub start: usize,
-    pub length: usize,
-}
 
 // The bytes at a part of a packet; where it runs past the end none, at the front.
 pub(crate) fn bytes_at(packet: &[u8], part: Part) -> &[u8]

@@ -7,12 +7,12 @@ use native.Mathlib.Omega.{arith}
 use borrow.Author.Tests.{le-leb, ne-eqb}
 use lib.ListN.{length, length-append}
 use Rattle.wire.proofs.Numbers.{length-bytesOf}
-use Rattle.packet.specs.Read.{Read, packet}
-use Rattle.packet.specs.FromRelay.{FromRelay, FitsRelay, routingResponse, connectNotice, disconnectNotice, pong, oobReceived, routedData, relayBytes}
-use Rattle.packet.specs.Table.{lengthRight, numberRight}
-use Rattle.packet.specs.Written.{relayJudged}
-use Rattle.packet.proofs.KindLaws.{size-within}
-use Rattle.packet.proofs.Judged.{relay-response-judged, relay-connect-judged, relay-disconnect-judged, relay-pong-judged, relay-oob-judged, relay-data-judged}
+use Rattle.packet_laws.specs.Read.{Read, packet}
+use Rattle.packet_laws.specs.FromRelay.{FromRelay, FitsRelay, routingResponse, connectNotice, disconnectNotice, pong, oobReceived, routedData, relayBytes}
+use Rattle.packet_laws.specs.Table.{lengthRight, numberRight}
+use Rattle.packet_laws.specs.Judged.{relayJudged}
+use Rattle.packet_laws.proofs.KindLaws.{size-within}
+use Rattle.packet_laws.proofs.Judged.{relay-response-judged, relay-connect-judged, relay-disconnect-judged, relay-pong-judged, relay-oob-judged, relay-data-judged}
 use Rattle.rules.specs.Call.{Sent}
 use Rattle.rules.specs.Outcome.{to}
 use Rattle.records.specs.Output.{Appends, fitting, fittingRecord, WritesRecord, Answers, none, given}

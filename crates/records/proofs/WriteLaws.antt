@@ -13,11 +13,12 @@ use Rattle.wire.proofs.Numbers.{length-bytesOf}
 use Rattle.wire.proofs.Copy.{length-lent}
 use Rattle.refusal.specs.declared.Refusal.{Refusal}
 use Rattle.refusal.specs.declared.Refusal.the-variants.{OutputTooShort}
-use Rattle.packet.specs.Read.{Read, packet, refused}
-use Rattle.packet.specs.FromRelay.{FromRelay, routingResponse, connectNotice, disconnectNotice, ping, pong, oobReceived, routedData, relayBytes}
-use Rattle.packet.specs.Written.{Writes, RelayWrites, relayJudged, writtenAnswer, writtenOutput}
-use Rattle.packet.specs.declared.write.Written.{Written}
-use Rattle.packet.specs.declared.write.Written.the-variants.{Bytes, Refused}
+use Rattle.packet_laws.specs.Read.{Read, packet, refused}
+use Rattle.packet_laws.specs.FromRelay.{FromRelay, routingResponse, connectNotice, disconnectNotice, ping, pong, oobReceived, routedData, relayBytes}
+use Rattle.packet_write.specs.Written.{Writes, RelayWrites, writtenAnswer, writtenOutput}
+use Rattle.packet_laws.specs.Judged.{relayJudged}
+use Rattle.packet_write.specs.declared.Written.{Written}
+use Rattle.packet_write.specs.declared.Written.the-variants.{Bytes, Refused}
 use Rattle.rules.specs.Call.{Sent}
 use Rattle.rules.specs.Outcome.{to, recordBytes}
 use Rattle.rules.proofs.SentLaws.{count-record, count-one}

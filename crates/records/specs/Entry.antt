@@ -8,8 +8,8 @@ use lib.ListN.{length, drop}
 use Rattle.refusal.specs.Numbers.{refusalNumber}
 use Rattle.wire.specs.Numbers.{bytesOf}
 use Rattle.rules.specs.Call as rules
-use Rattle.records.specs.declared.answer.Answer.{Answer}
-use Rattle.records.specs.declared.answer.Answer.the-variants as answer
+use Rattle.records.specs.declared.Answer.{Answer}
+use Rattle.records.specs.declared.Answer.the-variants as answer
 
 -- an answer of the code, as the rules have it
 unfoldable pub answerOf : Answer → rules.Answer

@@ -8,11 +8,11 @@ use Prim.Native.Nat.{ℕ, _+_, _≤_}
 use lib.Dec.{leb}
 use lib.ListN.{length, take, drop}
 use Rattle.wire.specs.Numbers.{bytesOf}
-use Rattle.packet.specs.Read.{Read, packet, refused}
-use Rattle.packet.specs.FromRelay.{FromRelay, FitsRelay}
-use Rattle.packet.specs.Written.{relayJudged}
-use Rattle.packet.specs.declared.write.Written.{Written}
-use Rattle.packet.specs.declared.write.Written.the-variants.{Bytes, Refused}
+use Rattle.packet_laws.specs.Read.{Read, packet, refused}
+use Rattle.packet_laws.specs.FromRelay.{FromRelay, FitsRelay}
+use Rattle.packet_laws.specs.Judged.{relayJudged}
+use Rattle.packet_write.specs.declared.Written.{Written}
+use Rattle.packet_write.specs.declared.Written.the-variants.{Bytes, Refused}
 use Rattle.rules.specs.Call.{Sent}
 use Rattle.rules.specs.Outcome.{to, recordBytes, sentBytes}
 

@@ -2,7 +2,7 @@
 ghost use mathlib.Core.List.{_∷_};
 ghost use Rattle.wire.specs.Numbers.{bytesOf};
 ghost use Rattle.records.specs.Entry.{answerOf, WritesHead, WritesEntry};
-use crate::answer::Answer;
+use crate::Answer;
 use seat::Seat;
 
 pub const HEAD: usize = 4;

@@ -4,14 +4,20 @@
 // `entry` writes what a run of stored calls puts before the records of a call.
 ghost use mathlib.Core.Path.{_≡_};
 ghost use Rattle.records.specs.Read.{firstRecord, shownFirst};
+use refusal::Refusal;
 use seat::Seat;
 
-pub mod answer;
 pub mod entry;
 pub mod record;
 
 // The bytes before the packet: the seat and the length.
 pub const HEAD: usize = 3;
+
+// What a call answers. Accepted: the seat of the call, and how many bytes it wrote.
+pub enum Answer {
+    Accepted(Seat, usize),
+    Refused(Refusal),
+}
 
 // What stands at the front of bytes: a record for a seat, and how many bytes it takes, of which those behind the head are the packet; the beginning
 // of a record that the bytes end inside; or, where there are no bytes, nothing.

@@ -3,13 +3,12 @@
 ghost use mathlib.Core.Path.{_≡_};
 ghost use Prim.Native.Nat.{ℕ, _+_, _≤_};
 ghost use lib.ListN.{length};
-ghost use Rattle.packet.specs.FromRelay.{routingResponse, connectNotice, disconnectNotice, pong, oobReceived, routedData};
+ghost use Rattle.packet_laws.specs.FromRelay.{routingResponse, connectNotice, disconnectNotice, pong, oobReceived, routedData};
 ghost use Rattle.records.specs.Output.{WritesRecord, behindHead, nextAfter, headed};
 use crate::HEAD;
 use key::Key;
 use packet::ConnectionNumber;
-use packet::write;
-use packet::write::Written;
+use packet_write::Written;
 use seat::Seat;
 
 // Where the packet goes: behind the head, or at the end of the output where no head fits, so that the packet does not fit either.
@@ -45,7 +44,7 @@ pub fn connected(out: &mut [u8], at: usize, seat: Seat, number: ConnectionNumber
     ensures { λ r. ⌜ WritesRecord (seat .0) (connectNotice (number .0)) (now (out .entry)) at r (now (out .exit)) ⌝ }
 {
     let start = behind_head(out.len(), at);
-    let written = write::connect_notification(number, &mut out[start..]);
+    let written = packet_write::connect_notification(number, &mut out[start..]);
     head(out, at, seat, written)
 }
 
@@ -54,7 +53,7 @@ pub fn disconnected(out: &mut [u8], at: usize, seat: Seat, number: ConnectionNum
     ensures { λ r. ⌜ WritesRecord (seat .0) (disconnectNotice (number .0)) (now (out .entry)) at r (now (out .exit)) ⌝ }
 {
     let start = behind_head(out.len(), at);
-    let written = write::disconnect_notification(number, &mut out[start..]);
+    let written = packet_write::disconnect_notification(number, &mut out[start..]);
     head(out, at, seat, written)
 }
 
@@ -63,7 +62,7 @@ pub fn response(out: &mut [u8], at: usize, seat: Seat, number: ConnectionNumber,
     ensures { λ r. ⌜ WritesRecord (seat .0) (routingResponse (number .0) (key .0)) (now (out .entry)) at r (now (out .exit)) ⌝ }
 {
     let start = behind_head(out.len(), at);
-    let written = write::routing_response(number, key, &mut out[start..]);
+    let written = packet_write::routing_response(number, key, &mut out[start..]);
     head(out, at, seat, written)
 }
 
@@ -72,7 +71,7 @@ pub fn answered(out: &mut [u8], at: usize, seat: Seat, ping: u64) -> usize
     ensures { λ r. ⌜ WritesRecord (seat .0) (pong ping) (now (out .entry)) at r (now (out .exit)) ⌝ }
 {
     let start = behind_head(out.len(), at);
-    let written = write::pong(ping, &mut out[start..]);
+    let written = packet_write::pong(ping, &mut out[start..]);
     head(out, at, seat, written)
 }
 
@@ -81,7 +80,7 @@ pub fn out_of_band(out: &mut [u8], at: usize, seat: Seat, key: Key, data: &[u8])
     ensures { λ r. ⌜ WritesRecord (seat .0) (oobReceived (key .0) (now («data» .entry))) (now (out .entry)) at r (now (out .exit)) ⌝ }
 {
     let start = behind_head(out.len(), at);
-    let written = write::oob_received(key, data, &mut out[start..]);
+    let written = packet_write::oob_received(key, data, &mut out[start..]);
     head(out, at, seat, written)
 }
 
@@ -90,6 +89,6 @@ pub fn data(out: &mut [u8], at: usize, seat: Seat, number: ConnectionNumber, dat
     ensures { λ r. ⌜ WritesRecord (seat .0) (routedData (number .0) (now («data» .entry))) (now (out .entry)) at r (now (out .exit)) ⌝ }
 {
     let start = behind_head(out.len(), at);
-    let written = write::data(number, data, &mut out[start..]);
+    let written = packet_write::data(number, data, &mut out[start..]);
     head(out, at, seat, written)
 }

@@ -6,8 +6,8 @@ use Rattle.refusal.specs.declared.Refusal.the-variants.{RoomFull, AlreadySeated
 use Rattle.rules.specs.Room.{Key, Room, none, at, find, seatOf, isVacant}
 use Rattle.rules.specs.Call.{arrive, accepted, refused}
 use Rattle.rules.specs.Outcome.{outcome, arriveAt, accept, refuse, sentBytes, seatTaken}
-use Rattle.room.specs.Store.{store, storeAll}
-use Rattle.relay.specs.Calls.{Leaves}
+use Rattle.room_laws.specs.Store.{store, storeAll}
+use Rattle.relay_laws.specs.Calls.{Leaves}
 
 module _ (s n : ℕ) (room : Room) (b : List ℕ) (key : Key) where
   pub arrive-seated : (seat : ℕ) → find (seatOf key) (room .seats) ≡ at seat → Leaves s n (outcome room (arrive key)) b [] (refused AlreadySeated) b []

@@ -4,19 +4,19 @@ use mathlib.Core.List.{List, [], _∷_}
 use Prim.Native.Nat.{ℕ, _-_, _≤_}
 use native.Mathlib.Omega.{arith}
 use Rattle.refusal.specs.declared.Refusal.the-variants.{NoSuchRoute, NotConnected}
-use Rattle.packet.specs.FromClient as client
-use Rattle.packet.specs.FromRelay as relay
+use Rattle.packet_laws.specs.FromClient as client
+use Rattle.packet_laws.specs.FromRelay as relay
 use Rattle.rules.specs.Room.{Key, free, wants, Room, none, at, find, seatOf, routeAt, Peer, alone, joined, firstNumber, numberOfPlace, Held}
 use Rattle.rules.specs.Call.{Answer, accepted, refused}
 use Rattle.rules.specs.Outcome.{act, oobTo, dataAt, carryTo, peer, to}
-use Rattle.packet.specs.declared.parts.ConnectionNumber as numbers
+use Rattle.packet.specs.declared.ConnectionNumber as numbers
 use Rattle.seat.specs.declared.Seat as seats
 use Rattle.room.specs.declared.peer.Peer as code
 use Rattle.relay.specs.Steps.{Carries}
 use Rattle.records.specs.Output.{Appends}
-use Rattle.relay.specs.Calls.{Leaves}
+use Rattle.relay_laws.specs.Calls.{Leaves}
 use Rattle.room.specs.Numbers.{peerOf, PeerRight}
-use Rattle.relay.proofs.OutcomeLeaves.{leaves-refused, leaves-none, leaves-sent}
+use Rattle.relay_laws.proofs.OutcomeLeaves.{leaves-refused, leaves-none, leaves-sent}
 
 module _ (s n : ℕ) (room : Room) (seat : ℕ) (held : Held) (b out : List ℕ) where
   pub oob-nobody : (wanted : Key) (bytes : List ℕ) → find (seatOf wanted) (room .seats) ≡ none → Leaves s n (act (client.oobSend wanted bytes) room seat held) b out (accepted seat 0) b out

@@ -8,19 +8,19 @@ use lib.Dec.{ltb}
 use lib.ListN.{getD}
 use borrow.Author.Tests.{ltb-false, le-ltb}
 use Rattle.refusal.specs.declared.Refusal.the-variants.{NoSuchRoute}
-use Rattle.packet.specs.FromClient.{dropRoute}
-use Rattle.packet.specs.FromRelay.{disconnectNotice}
+use Rattle.packet_laws.specs.FromClient.{dropRoute}
+use Rattle.packet_laws.specs.FromRelay.{disconnectNotice}
 use Rattle.rules.specs.Room.{Key, Route, free, wants, Room, routeAt, firstNumber, Held}
 use Rattle.rules.specs.Call.{accepted, refused}
 use Rattle.rules.specs.Outcome.{act, dropAt, accept, refuse, sentBytes, routeFreed, peer, toPeer, tellPeer}
-use Rattle.room.specs.Layout.{routesTable}
-use Rattle.room.specs.View.{viewRoom, viewRoutes, seatHeld}
-use Rattle.room.specs.Whole.{roomWhole}
-use Rattle.room.specs.Store.{store, storeAll}
+use Rattle.room_laws.specs.Layout.{routesTable}
+use Rattle.room_laws.specs.View.{viewRoom, viewRoutes, seatHeld}
+use Rattle.room_laws.specs.Whole.{roomWhole}
+use Rattle.room_laws.specs.Store.{store, storeAll}
 use Rattle.room.specs.declared.lookup.Wanted.{Wanted}
 use Rattle.room.specs.Numbers.{routeNumbered, wantedOf, freedNumber}
 use Rattle.records.specs.Output.{Appends}
-use Rattle.relay.specs.Calls.{Leaves}
+use Rattle.relay_laws.specs.Calls.{Leaves}
 use Rattle.relay.specs.Steps.{Sits}
 use Rattle.records.proofs.AppendLaws.{appends-front, appends-front-answer}
 use Rattle.relay.proofs.LeaveCases.{tells-peer, appends-as}

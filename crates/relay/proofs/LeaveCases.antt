@@ -9,34 +9,33 @@ use lib.ListN.{length, take, drop, getD}
 use lib.Seq.{take-suc, take-all}
 use borrow.Author.Tests.{lt-ltb}
 use Rattle.refusal.specs.declared.Refusal.the-variants.{NotSeated}
-use Rattle.packet.specs.FromRelay.{disconnectNotice}
-use Rattle.packet.specs.declared.parts.ConnectionNumber.{ConnectionNumber}
-use Rattle.table.specs.Table.{keyOfPlace}
-use Rattle.table.proofs.KeyOrder.{both}
-use Rattle.table.proofs.TableLaws.{key-record}
-use Rattle.rules.specs.Room.{Key, Route, free, wants, Seat, vacant, holds, Room, isVacant, seatAt, firstNumber, numberOfPlace, Peer}
+use Rattle.packet_laws.specs.FromRelay.{disconnectNotice}
+use Rattle.packet.specs.declared.ConnectionNumber.{ConnectionNumber}
+use Rattle.table_laws.specs.Table.{keyOfPlace}
+use Rattle.table_laws.proofs.KeyOrder.{both}
+use Rattle.table_laws.proofs.TableLaws.{key-record}
+use Rattle.rules.specs.Room.{Key, Route, free, wants, Seat, vacant, holds, Room, isVacant, seatAt, firstNumber, numberOfPlace}
 use Rattle.rules.specs.Call.{Sent, leave, accepted, refused}
 use Rattle.rules.specs.Outcome.{peer, to, toPeer, tellPeer, tellPeers, sentBytes, outcome, leaveFrom, accept, refuse, seatEmptied}
 use Rattle.rules.proofs.WithinOutput.{tell-within}
 use Rattle.seat.specs.declared.Seat as seats
 use Rattle.room.specs.declared.lookup.Wanted.{Wanted}
-use Rattle.room.specs.Layout.{keyBytes, seatBytes, seatTable, seatStart, routesTable}
-use Rattle.room.specs.View.{viewRoom, viewRoutes, seatHeld}
-use Rattle.room.specs.Whole.{roomWhole}
-use Rattle.room.specs.Store.{store, storeAll}
-use Rattle.room.specs.Lookup.{hasSeat, taken, keyIn}
-use Rattle.room.specs.Numbers.{routeNumbered, wantedOf}
-use Rattle.room.proofs.LayoutLaws.{seats-fit}
+use Rattle.room_laws.specs.Layout.{keyBytes, seatBytes, seatTable, seatStart, routesTable}
+use Rattle.room_laws.specs.View.{viewRoom, viewRoutes, seatHeld}
+use Rattle.room_laws.specs.Whole.{roomWhole}
+use Rattle.room_laws.specs.Store.{store, storeAll}
+use Rattle.room_laws.specs.Lookup.{hasSeat, taken, keyIn}
+use Rattle.room.specs.Numbers.{routeNumbered, wantedOf, peerFound}
+use Rattle.room_laws.proofs.LayoutLaws.{seats-fit}
 use Rattle.room.proofs.LookupSteps.{has-seat-facts, key-in-seat}
 use Rattle.room_laws.proofs.LookupLaws.{taken-is, taken-holds}
 use Rattle.room_laws.proofs.TablesLaws.{seat-key-stands}
 use Rattle.room_laws.proofs.WholeLaws.{whole-fits}
 use Rattle.room.specs.declared.peer.Peer as code
-use Rattle.room.specs.Numbers.{peerFound}
-use Rattle.relay.specs.Calls.{Leaves}
+use Rattle.relay_laws.specs.Calls.{Leaves}
 use Rattle.relay.specs.Steps.{Sits}
 use Rattle.relay.proofs.SeatedClient.{wanted-free, wanted-wants, sits-numbered, route-of-number}
-use Rattle.room_laws.proofs.PeersFound.{found-joined, found-alone}
+use Rattle.room.proofs.PeersFound.{found-joined, found-alone}
 use Rattle.records.specs.Output.{Appends}
 use Rattle.records.proofs.AppendLaws.{appends-none, appends-more, appends-front, appends-front-answer}
 

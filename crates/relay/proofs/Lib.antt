@@ -1,13 +1,12 @@
 -- The laws that the functions rest on.
 pub mod ArriveCases
-pub mod OutcomeLeaves
 pub mod SeatedClient
 pub mod CarryCases
 pub mod LeaveCases
 pub mod DropCases
 pub mod RequestCases
 pub mod PacketCases
-pub mod CallsLaws
+pub mod PlayTested
 pub mod LentParts
 pub mod PlayLaws
 pub mod MakeCases

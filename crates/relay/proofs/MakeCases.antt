@@ -13,13 +13,13 @@ use Rattle.rules.specs.Call.{Call, arrive, leave, packetCall, Answer, Sent}
 use Rattle.rules.specs.Outcome.{outcome, sentBytes}
 use Rattle.rules.proofs.QuietArrival.{arrive-sends-nothing}
 use Rattle.seat.specs.declared.Seat.{Seat}
-use Rattle.room.specs.View.{viewRoom}
+use Rattle.room_laws.specs.View.{viewRoom}
 use Rattle.stored.specs.declared.StoredCall.{StoredCall}
 use Rattle.stored.specs.declared.StoredCall.the-variants.{Arrive, Leave, Packet}
 use Rattle.stored.specs.declared.StoredRead.the-variants as read
 use Rattle.stored.specs.Stored.{storedBytes, First, none, call, firstCall, shownCall, shownFirst}
 use Rattle.stored.proofs.StoredLaws.{Formed, arrives, leaves, sends, sizeIn, givenIn, Fronts, first-is, same-call}
-use Rattle.relay.specs.Calls.{Leaves}
+use Rattle.relay_laws.specs.Calls.{Leaves}
 use Rattle.relay.specs.PlaySteps.{Reads, Makes}
 
 -- ---- the call that was read

@@ -9,10 +9,10 @@ use Rattle.rules.specs.Call.{Call, Answer}
 use Rattle.rules.specs.Outcome.{outcome, sentBytes}
 use Rattle.rules.specs.History.{event}
 use Rattle.rules.proofs.RefusedOrAccepted.{outcome-made}
-use Rattle.room.specs.View.{viewRoom}
-use Rattle.relay.specs.Calls.{written, Leaves}
+use Rattle.room_laws.specs.View.{viewRoom}
+use Rattle.relay_laws.specs.Calls.{written, Leaves}
 use Rattle.relay.specs.Play.{entryHead, entryBytes}
-use Rattle.relay.proofs.OutcomeLeaves.{made-written}
+use Rattle.relay_laws.proofs.OutcomeLeaves.{made-written}
 use Rattle.relay.proofs.LentParts.{from, from-is, length-from, back, back-is}
 use Rattle.records.proofs.EntryLaws.{length-entry-head}
 

@@ -7,26 +7,26 @@ use lib.ListN.{drop}
 use Rattle.key.specs.Keys.{keyOf}
 use Rattle.refusal.specs.declared.Refusal.{Refusal}
 use Rattle.refusal.specs.declared.Refusal.the-variants.{NotSeated}
-use Rattle.packet.specs.declared.parts.ConnectionNumber.{ConnectionNumber}
-use Rattle.packet.specs.declared.parts.Part.{Part}
+use Rattle.packet.specs.declared.ConnectionNumber.{ConnectionNumber}
+use Rattle.packet.specs.declared.Part.{Part}
 use Rattle.packet.specs.declared.relay.ClientPacket.{ClientPacket}
 use Rattle.packet.specs.declared.relay.ClientPacket.the-variants as shown
 use Rattle.packet.specs.declared.relay.RelayRead.the-variants as answer
-use Rattle.packet.specs.Read.{Read, packet, refused}
-use Rattle.packet.specs.FromClient.{FromClient, routingRequest, oobSend, routedData, relayRead}
-use Rattle.packet.specs.RelayReads.{shownRelayRead, keyFromClient, clientPacketOf, clientPart}
+use Rattle.packet_laws.specs.Read.{Read, packet, refused}
+use Rattle.packet_laws.specs.FromClient.{FromClient, routingRequest, oobSend, routedData, relayRead, keyFromClient}
+use Rattle.packet.specs.RelayReads.{shownRelayRead, clientPacketOf, clientPart}
 use Rattle.rules.specs.Room.{Room, Seat, vacant, holds, isVacant, seatAt, Held}
 use Rattle.packet.specs.Parts.{partOf}
 use Rattle.packet.proofs.RelayLaws.{relay-shown}
 use Rattle.rules.specs.Call as call
 use Rattle.rules.specs.Outcome.{act, actOn, outcome, packetFrom}
-use Rattle.room.specs.View.{viewRoom}
-use Rattle.room.specs.Whole.{roomWhole}
-use Rattle.room.specs.Lookup.{taken}
+use Rattle.room_laws.specs.View.{viewRoom}
+use Rattle.room_laws.specs.Whole.{roomWhole}
+use Rattle.room_laws.specs.Lookup.{taken}
 use Rattle.room_laws.proofs.LookupLaws.{taken-is}
-use Rattle.relay.specs.Calls.{Leaves}
+use Rattle.relay_laws.specs.Calls.{Leaves}
 use Rattle.relay.specs.Steps.{Shows}
-use Rattle.relay.proofs.OutcomeLeaves.{leaves-refused}
+use Rattle.relay_laws.proofs.OutcomeLeaves.{leaves-refused}
 
 -- ---- what was read
 

@@ -11,7 +11,7 @@ use Rattle.rules.specs.Room.{Sizes, Room}
 use Rattle.rules.specs.Call.{Call, arrive, leave, packetCall}
 use Rattle.rules.specs.Outcome.{Change, outcome, roomAfter}
 use Rattle.rules.specs.History.{event}
-use Rattle.room.specs.Store.{storeAll}
+use Rattle.room_laws.specs.Store.{storeAll}
 use Rattle.stored.specs.Stored.{storedBytes, First, none, call, firstCall}
 use Rattle.relay.specs.declared.play.Stop.{Stop}
 use Rattle.relay.specs.declared.play.Stop.the-variants.{End, NoCall, Allowance, Output}

@@ -6,29 +6,28 @@ use Prim.Native.Nat.{ℕ, _+_, _-_, _≤_}
 use native.Mathlib.Omega.{arith}
 use borrow.Author.Tests.{le-ltb}
 use lib.ListN.{length}
-use Rattle.packet.specs.FromClient.{routingRequest}
-use Rattle.packet.specs.FromRelay.{relayBytes, routingResponse, connectNotice}
-use Rattle.packet.specs.declared.parts.ConnectionNumber.{ConnectionNumber}
+use Rattle.packet_laws.specs.FromClient.{routingRequest}
+use Rattle.packet_laws.specs.FromRelay.{relayBytes, routingResponse, connectNotice}
+use Rattle.packet.specs.declared.ConnectionNumber.{ConnectionNumber}
 use Rattle.rules.specs.Room.{firstNumber, numberOfPlace, Key, Seat, Found, none, at, find, routeTo, isFree, routesOf}
 use Rattle.rules.specs.Call.{accepted}
 use Rattle.rules.specs.Outcome.{act, accept, requestAt, tellBoth, to, peer, routeGiven}
 use Rattle.seat.specs.declared.Seat as seats
 use Rattle.room.specs.declared.lookup.FoundNumber.{FoundNumber}
 use Rattle.room.specs.declared.lookup.FoundNumber.the-variants as number
-use Rattle.room.specs.Layout.{routesTable}
-use Rattle.room.specs.View.{viewRoom, viewRoutes, seatHeld}
-use Rattle.room.specs.Whole.{roomWhole}
-use Rattle.room.specs.Lookup.{routeWanting, lowestRoute}
-use Rattle.room.specs.Numbers.{numberFound, givenNumber}
-use Rattle.room.specs.Store.{store, storeAll}
+use Rattle.room_laws.specs.Layout.{routesTable}
+use Rattle.room_laws.specs.View.{viewRoom, viewRoutes, seatHeld}
+use Rattle.room_laws.specs.Whole.{roomWhole}
+use Rattle.room_laws.specs.Lookup.{routeWanting, lowestRoute}
+use Rattle.room.specs.Numbers.{numberFound, givenNumber, peerFound, peerOf}
+use Rattle.room_laws.specs.Store.{store, storeAll}
 use Rattle.room_laws.proofs.LookupLaws.{route-wanting-finds, lowest-route-finds}
-use Rattle.room_laws.proofs.AnswerLaws.{number-found, number-not-found}
+use Rattle.room.proofs.AnswerLaws.{number-found, number-not-found}
 use Rattle.room.specs.declared.peer.Peer as code
-use Rattle.room.specs.Numbers.{peerFound, peerOf}
-use Rattle.relay.specs.Calls.{Leaves}
+use Rattle.relay_laws.specs.Calls.{Leaves}
 use Rattle.relay.specs.Steps.{Sits, Gives}
 use Rattle.relay.proofs.SeatedClient.{sits-taken}
-use Rattle.room_laws.proofs.PeersFound.{found-back}
+use Rattle.room.proofs.PeersFound.{found-back}
 use Rattle.records.specs.Output.{Appends}
 use Rattle.records.proofs.AppendLaws.{appends-none, appends-more, appends-one-next, appends-front, appends-front-answer}
 

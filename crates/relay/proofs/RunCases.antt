@@ -10,9 +10,9 @@ use Rattle.rules.specs.Room.{Room, sizesOf}
 use Rattle.rules.specs.Call.{Call, KeyOf32}
 use Rattle.rules.specs.Outcome.{outcome, roomAfter}
 use Rattle.rules.specs.History.{event, transcript}
-use Rattle.room.specs.View.{viewRoom}
-use Rattle.room.specs.Whole.{roomWhole}
-use Rattle.room.specs.Store.{storeAll}
+use Rattle.room_laws.specs.View.{viewRoom}
+use Rattle.room_laws.specs.Whole.{roomWhole}
+use Rattle.room_laws.specs.Store.{storeAll}
 use Rattle.room_laws.proofs.OutcomeLaws.{outcome-stored}
 use Rattle.stored.specs.Stored.{storedBytes, storedAll, call, firstCall}
 use Rattle.stored.proofs.StoredLaws.{Formed, arrives, leaves, sends, givenIn, first-is}

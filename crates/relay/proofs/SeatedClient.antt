@@ -10,10 +10,10 @@ use Rattle.rules.specs.Room.{Key, Route, free, wants, Seat, isVacant, routesOf,
 use Rattle.rules.specs.Outcome.{peer}
 use Rattle.room.specs.declared.lookup.Wanted.{Wanted}
 use Rattle.room.specs.declared.peer.Peer.{Peer}
-use Rattle.room.specs.Layout.{routesTable}
-use Rattle.room.specs.View.{viewRoom, viewRoutes}
-use Rattle.room.specs.Whole.{roomWhole}
-use Rattle.room.specs.Lookup.{taken, routeAtPlace, peerWanting}
+use Rattle.room_laws.specs.Layout.{routesTable}
+use Rattle.room_laws.specs.View.{viewRoom, viewRoutes}
+use Rattle.room_laws.specs.Whole.{roomWhole}
+use Rattle.room_laws.specs.Lookup.{taken, routeAtPlace, peerWanting}
 use Rattle.room.specs.Numbers.{routeNumbered, wantedOf, peerFound}
 use Rattle.room_laws.proofs.LookupLaws.{taken-is, route-at-place-is, peer-wanting-is}
 use Rattle.relay.specs.Steps.{Sits}

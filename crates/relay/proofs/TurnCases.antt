@@ -10,9 +10,9 @@ use lib.ListN.{length, take, drop, take-append-drop}
 use lib.Seq.{drop-drop}
 use Rattle.rules.specs.Outcome.{outcome}
 use Rattle.rules.specs.Room.{sizesOf}
-use Rattle.room.specs.View.{viewRoom}
-use Rattle.room.specs.Whole.{roomWhole}
-use Rattle.room.specs.Store.{storeAll}
+use Rattle.room_laws.specs.View.{viewRoom}
+use Rattle.room_laws.specs.Whole.{roomWhole}
+use Rattle.room_laws.specs.Store.{storeAll}
 use Rattle.stored.specs.Stored.{storedBytes}
 use Rattle.stored.proofs.StoredLaws.{first-within}
 use Rattle.relay.specs.declared.play.Next as code

@@ -1,5 +1,4 @@
--- What a reader must believe of this crate, in the order to read it: Calls and Play. Steps and PlaySteps are cited by private functions alone.
-pub mod Calls
+-- What a reader must believe of this crate, beside the single calls (`relay_laws`): `Play`. `Steps` and `PlaySteps` are cited by private functions alone.
 pub mod Steps
 pub mod Play
 pub mod PlaySteps

@@ -14,9 +14,9 @@ use Rattle.rules.specs.Outcome.{Change, outcome, roomAfter, sentBytes}
 use Rattle.rules.specs.History.{Event, event, transcript}
 unfoldable pub use Rattle.records.specs.Entry.{entryHead}
 use Rattle.stored.specs.Stored.{storedBytes, storedAll, First, none, call, firstCall}
-use Rattle.room.specs.View.{viewRoom}
-use Rattle.room.specs.Whole.{roomWhole}
-use Rattle.room.specs.Store.{storeAll}
+use Rattle.room_laws.specs.View.{viewRoom}
+use Rattle.room_laws.specs.Whole.{roomWhole}
+use Rattle.room_laws.specs.Store.{storeAll}
 use Rattle.relay.specs.declared.play.Run as code
 use Rattle.relay.specs.declared.play.Stop.{Stop}
 use Rattle.relay.specs.declared.play.Stop.the-variants.{End, NoCall, Allowance, Output}
@@ -111,6 +111,6 @@ pub record LeavesRun (s n : ℕ) (p : Playing) (b out : List ℕ) (given : code.
   pub stores : b′ ≡ storeAll s n b (p .changes)
   pub writes : out′ ≡ p .bytes ++ drop (length (p .bytes)) out
 
--- THE PUBLIC CALL: a run of stored calls, one relation as each single call is one (`Calls.antt`)
+-- THE PUBLIC CALL: a run of stored calls, one relation as each single call is one (`relay_laws`, `Calls.antt`)
 abbrev pub Plays : (s n allowance : ℕ) (stored b out b′ out′ : List ℕ) (given : code.Run) → Type 0
 Plays s n allowance stored b out b′ out′ given = LeavesRun s n (playing s n allowance stored b out) b out given b′ out′

@@ -7,15 +7,15 @@ use Rattle.rules.specs.Room.{Sizes}
 use Rattle.rules.specs.Call.{Call, Answer}
 use Rattle.rules.specs.Outcome.{outcome}
 use Rattle.rules.specs.History.{event}
-use Rattle.room.specs.View.{viewRoom}
-use Rattle.room.specs.Store.{storeAll}
+use Rattle.room_laws.specs.View.{viewRoom}
+use Rattle.room_laws.specs.Store.{storeAll}
 use Rattle.stored.specs.declared.StoredCall.{StoredCall}
 use Rattle.stored.specs.declared.StoredRead.the-variants as read
 use Rattle.stored.specs.Stored.{storedBytes, call, firstCall, shownFirst}
 use Rattle.relay.specs.declared.play.Next as code
 use Rattle.relay.specs.declared.play.Run.{Run}
 use Rattle.relay.specs.declared.play.Stop.{Stop}
-use Rattle.relay.specs.Calls.{Leaves}
+use Rattle.relay_laws.specs.Calls.{Leaves}
 use Rattle.relay.specs.Play.{entryBytes, stops, plays, next, run, LeavesRun}
 use Rattle.relay.specs.Play as play
 

@@ -5,15 +5,15 @@ use Prim.Native.Nat.{ℕ, _-_}
 use Rattle.packet.specs.declared.relay.ClientPacket.{ClientPacket}
 use Rattle.packet.specs.declared.relay.RelayRead.the-variants.{Packet}
 use Rattle.packet.specs.RelayReads.{shownRelayRead}
-use Rattle.packet.specs.FromClient.{relayRead}
-use Rattle.packet.specs.FromRelay.{routingResponse}
+use Rattle.packet_laws.specs.FromClient.{relayRead}
+use Rattle.packet_laws.specs.FromRelay.{routingResponse}
 use Rattle.rules.specs.Room.{Key, holds, seatAt, firstNumber}
 use Rattle.rules.specs.Call.{Answer}
-use Rattle.relay.specs.Calls.{Leaves}
+use Rattle.relay_laws.specs.Calls.{Leaves}
 use Rattle.rules.specs.Outcome.{Outcome, routeGiven, to, tellBoth, peer}
 use Rattle.records.specs.Output.{Appends}
-use Rattle.room.specs.Store.{store}
-use Rattle.room.specs.View.{viewRoom, seatHeld}
+use Rattle.room_laws.specs.Store.{store}
+use Rattle.room_laws.specs.View.{viewRoom, seatHeld}
 
 -- the client `key` sits in seat i
 abbrev pub Sits : ℕ → ℕ → List ℕ → ℕ → Key → Type 0

@@ -1,11 +1,11 @@
-// The public calls: each tests the lent output and the lent room in full, and then takes the step. Document 01's sizes, 40 seats and 32 numbers, are
-// fixed here and in `play`, and nowhere below.
-ghost use Rattle.relay.specs.Calls.{answerOf, Arrives, Departs, Sends};
+// The public calls: each tests the lent output and the lent room in full, and then takes the step. Document 01's sizes, 40 seats and 32 numbers,
+// which `Room` names, are put in here and in `play`; the steps have them as parameters.
+ghost use Rattle.relay_laws.specs.Calls.{answerOf, Arrives, Departs, Sends};
 use crate::arrive;
 use crate::leave;
 use crate::packet_call;
 use key::Key;
-use records::answer::Answer;
+use records::Answer;
 use refusal::Refusal;
 use room::Room;
 use room::whole;

@@ -11,4 +11,4 @@ mod packet_call;
 pub mod play;
 mod request;
 
-pub use records::answer::Answer;
+pub use records::Answer;

@@ -7,9 +7,9 @@ use native.Mathlib.Omega.{arith}
 use lib.ListN.{length, drop, length-append}
 use Rattle.rules.specs.Call.{Call, Answer}
 use Rattle.rules.specs.Outcome.{sentBytes}
-use Rattle.relay.specs.Calls.{Leaves, withOutput, written}
-use Rattle.relay.proofs.CallsLaws.{call-made}
-use Rattle.relay.proofs.OutcomeLeaves.{made-written}
+use Rattle.relay_laws.specs.Calls.{Leaves, withOutput, written}
+use Rattle.relay_laws.proofs.CallsLaws.{call-made}
+use Rattle.relay_laws.proofs.OutcomeLeaves.{made-written}
 use Rattle.stored.specs.declared.StoredCall.{StoredCall}
 use Rattle.stored.specs.declared.StoredRead.{StoredRead}
 use Rattle.stored.specs.declared.StoredRead.the-variants as code

@@ -1,8 +1,7 @@
 // One call, played with the relay's single calls: who asks what, what is answered, and who is handed what.
 ghost use Prim.Native.Nat.{_≤_};
 ghost use lib.ListN.{length};
-ghost use Rattle.relay.specs.Calls.{answerOf, written};
-use crate::asked;
+ghost use Rattle.relay_laws.specs.Calls.{answerOf, written};
 use crate::handed;
 use crate::who;
 use key::Key;
@@ -11,6 +10,7 @@ use relay::Answer;
 use relay::calls;
 use seat::Seat;
 use stored::StoredCall;
+use telling::asked;
 use telling::refused;
 use telling::say;
 

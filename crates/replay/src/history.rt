@@ -2,9 +2,9 @@
 ghost use Prim.Native.Nat.{_≤_};
 ghost use lib.ListN.{length};
 use crate::call;
-use crate::fault;
 use room::Room;
 use stored::StoredRead;
+use telling::fault;
 use telling::say;
 
 // How many calls were played, and the place behind the last of them.

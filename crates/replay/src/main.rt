@@ -3,9 +3,7 @@
 ghost use mathlib.Core.Path.{_≡_};
 ghost use lib.ListN.{length};
 
-mod asked;
 mod call;
-mod fault;
 mod handed;
 mod history;
 mod who;

@@ -6,12 +6,12 @@ use Prim.Native.Nat.{ℕ, _-_, _≤_, _<_}
 use lib.Dec.{ltb}
 use lib.ListN.{replicate}
 use borrow.Author.Tests.{lt-ltb, le-ltb, ltb-true}
-use Rattle.table.specs.Table.{fitsTable, found, keyOfPlace, keyAt, recordAt, isUsed, lowestFree}
-use Rattle.table.proofs.KeyOrder.{both}
+use Rattle.table_laws.specs.Table.{fitsTable, found, keyOfPlace, keyAt, recordAt, isUsed, lowestFree}
+use Rattle.table_laws.proofs.KeyOrder.{both}
 use Rattle.rules.specs.Room.{Key, free, wants, none, at, firstNumber}
-use Rattle.room.specs.Layout.{keyBytes, seatBytes, fitsRoom, seatTable, routesTable}
-use Rattle.room.specs.View.{routeIn}
-use Rattle.room.specs.Lookup.{placeIn, seatHolding, lowestEmpty, hasSeat, taken, keyIn, routeWanting, lowestRoute, routeOfPlace, routeAtPlace}
+use Rattle.room_laws.specs.Layout.{keyBytes, seatBytes, fitsRoom, seatTable, routesTable}
+use Rattle.room_laws.specs.View.{routeIn}
+use Rattle.room_laws.specs.Lookup.{placeIn, seatHolding, lowestEmpty, hasSeat, taken, keyIn, routeWanting, lowestRoute, routeOfPlace, routeAtPlace}
 use Rattle.room.specs.Numbers.{routeNumbered}
 
 module _ (p i : ℕ) where

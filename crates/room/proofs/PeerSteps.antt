@@ -4,7 +4,7 @@ use mathlib.Core.List.{List}
 use Prim.Native.Nat.{ℕ}
 use native.Mathlib.Omega.{arith}
 use borrow.Author.Tests.{eq-eqb, ne-eqb}
-use Rattle.packet.specs.declared.parts.ConnectionNumber.{ConnectionNumber}
+use Rattle.packet.specs.declared.ConnectionNumber.{ConnectionNumber}
 use Rattle.seat.specs.declared.Seat.{Seat}
 use Rattle.rules.specs.Room.{numberOfPlace, Key, Found, none, at, alone}
 use Rattle.rules.specs.Outcome.{joinedBy}
@@ -12,7 +12,7 @@ use Rattle.room.specs.declared.lookup.FoundSeat.the-variants as seat
 use Rattle.room.specs.declared.lookup.FoundNumber.{FoundNumber}
 use Rattle.room.specs.declared.lookup.FoundNumber.the-variants as number
 use Rattle.room.specs.declared.peer.Peer as code
-use Rattle.room.specs.Lookup.{routeWanting, peerInSeat}
+use Rattle.room_laws.specs.Lookup.{routeWanting, peerInSeat}
 use Rattle.room.specs.Numbers.{seatFound, numberFound, peerFound}
 
 place-found : (j : ℕ) (other : Seat) → seatFound (at j) ≡ seat.At other → j ≡ other .0

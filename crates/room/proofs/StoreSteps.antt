@@ -6,13 +6,13 @@ use Prim.Native.Nat.{ℕ, _-_, _≤_, _<_}
 use native.Mathlib.Nat.{not-suc-le-zero, le-of-suc-le-suc}
 use lib.ListN.{length, set}
 use borrow.Author.Tests.{lt-ltb, le-ltb}
-use Rattle.table.specs.Bytes.{splice}
-use Rattle.table.specs.Table.{putIn, freedIn}
+use Rattle.table_laws.specs.Bytes.{splice}
+use Rattle.table_laws.specs.Table.{putIn, freedIn}
 use Rattle.rules.specs.Room.{Key, firstNumber}
 use Rattle.rules.specs.Outcome.{seatTaken, seatEmptied}
-use Rattle.room.specs.Layout.{keyBytes, routesBytes, seatBytes, seatsBytes, roomHeader, fitsRoom, seatTable, routesStart, routesTable}
-use Rattle.room.specs.Store.{emptied, newSeat, withSeats, withRoutes, store, MakesEmpty}
-use Rattle.room.specs.Lookup.{hasSeat}
+use Rattle.room_laws.specs.Layout.{keyBytes, routesBytes, seatBytes, seatsBytes, roomHeader, fitsRoom, seatTable, routesStart, routesTable}
+use Rattle.room_laws.specs.Store.{emptied, newSeat, withSeats, withRoutes, store, MakesEmpty}
+use Rattle.room_laws.specs.Lookup.{hasSeat}
 use Rattle.room.specs.Numbers.{givenNumber, freedNumber}
 
 module _ (s n : ℕ) (b : List ℕ) where

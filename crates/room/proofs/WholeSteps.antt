@@ -9,12 +9,12 @@ use lib.Dec.{eqb}
 use lib.ListN.{length, drop, getD, drop-of-length-le}
 use lib.Seq.{drop-cons}
 use borrow.Author.Tests.{eq-eqb, ne-eqb, lt-ltb}
-use Rattle.table.specs.Table.{listed, usedPlaces, keyAt, tableWhole}
-use Rattle.table.proofs.KeyOrder.{rising-at}
-use Rattle.table.proofs.Listed.{whole-rising}
-use Rattle.room.specs.Layout.{keyBytes, seatBytes, fitsRoom, seatTable, routesTable}
-use Rattle.room.specs.Whole.{headerRight, routesWhole, roomWhole}
-use Rattle.room.proofs.LayoutLaws.{length-seats}
+use Rattle.table_laws.specs.Table.{listed, usedPlaces, keyAt, tableWhole}
+use Rattle.table_laws.proofs.KeyOrder.{rising-at}
+use Rattle.table_laws.proofs.Listed.{whole-rising}
+use Rattle.room_laws.specs.Layout.{keyBytes, seatBytes, fitsRoom, seatTable, routesTable}
+use Rattle.room_laws.specs.Whole.{headerRight, routesWhole, roomWhole}
+use Rattle.room_laws.proofs.LayoutLaws.{length-seats}
 
 module _ (s n : ℕ) (b : List ℕ) where
   pub header-is : getD b 0 0 ≡ s → headerRight s n b ≡ eqb (getD b 1 0) n

@@ -1,7 +1,2 @@
--- What a reader must believe of this crate, in the order to read it.
-pub mod Layout
-pub mod View
-pub mod Whole
-pub mod Store
-pub mod Lookup
+-- What a reader must believe of the functions of a room, beside the bytes of a room (`room_laws`).
 pub mod Numbers

@@ -13,9 +13,9 @@ use Rattle.room.specs.declared.lookup.FoundNumber.{FoundNumber}
 use Rattle.room.specs.declared.lookup.FoundNumber.the-variants as number
 use Rattle.room.specs.declared.lookup.Wanted.{Wanted}
 use Rattle.room.specs.declared.peer.Peer as code
-use Rattle.room.specs.Layout.{keyBytes}
-use Rattle.room.specs.Store.{store}
-use Rattle.room.specs.Lookup.{routeAtPlace}
+use Rattle.room_laws.specs.Layout.{keyBytes}
+use Rattle.room_laws.specs.Store.{store}
+use Rattle.room_laws.specs.Lookup.{routeAtPlace}
 
 unfoldable pub seatFound : Found → FoundSeat
 seatFound (at i) = seat.At (record { 0 = i })

@@ -2,7 +2,7 @@
 // whole room.
 ghost use mathlib.Core.Path.{_≡_};
 ghost use Rattle.rules.specs.Outcome.{seatTaken, seatEmptied};
-ghost use Rattle.room.specs.Store.{store};
+ghost use Rattle.room_laws.specs.Store.{store};
 ghost use Rattle.room.specs.Numbers.{givenNumber, freedNumber};
 use crate::empty::Room;
 use crate::layout;

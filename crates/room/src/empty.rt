@@ -1,5 +1,5 @@
 // The room's sizes, and the empty room.
-ghost use Rattle.room.specs.Store.{MakesEmpty};
+ghost use Rattle.room_laws.specs.Store.{MakesEmpty};
 use crate::layout;
 use packet::ConnectionNumber;
 

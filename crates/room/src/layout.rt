@@ -6,9 +6,9 @@
 ghost use mathlib.Core.Path.{_≡_};
 ghost use mathlib.Core.Bool.{true};
 ghost use Prim.Native.Nat.{_<_, _≤_};
-ghost use Rattle.room.specs.Layout.{routesBytes, seatBytes, roomBytes, sizesRight, fitsRoom, seatTable, routesStart, routesEnd, routesTable};
-ghost use Rattle.room.specs.Whole.{headerRight};
-ghost use Rattle.room.specs.Store.{emptied, newSeat};
+ghost use Rattle.room_laws.specs.Layout.{routesBytes, seatBytes, roomBytes, sizesRight, fitsRoom, seatTable, routesStart, routesEnd, routesTable};
+ghost use Rattle.room_laws.specs.Whole.{headerRight};
+ghost use Rattle.room_laws.specs.Store.{emptied, newSeat};
 use key::Key;
 
 // A seat is one byte of an order; connection numbers are 16 to 255 at most.

@@ -3,9 +3,9 @@
 ghost use mathlib.Core.Path.{_≡_};
 ghost use mathlib.Core.Bool.{true};
 ghost use Prim.Native.Nat.{_≤_};
-ghost use Rattle.table.specs.Table.{fitsTable};
+ghost use Rattle.table_laws.specs.Table.{fitsTable};
 ghost use Rattle.rules.specs.Room.{free};
-ghost use Rattle.room.specs.Lookup.{placeIn, seatHolding, lowestEmpty, hasSeat, taken, keyIn, routeWanting, lowestRoute, routeOfPlace};
+ghost use Rattle.room_laws.specs.Lookup.{placeIn, seatHolding, lowestEmpty, hasSeat, taken, keyIn, routeWanting, lowestRoute, routeOfPlace};
 ghost use Rattle.room.specs.Numbers.{seatFound, numberFound, routeNumbered, wantedOf};
 use crate::empty::Room;
 use crate::layout;

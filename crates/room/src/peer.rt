@@ -2,7 +2,7 @@
 // a route naming the other's key."
 ghost use mathlib.Core.Path.{_≡_};
 ghost use Rattle.rules.specs.Outcome.{joinedBy};
-ghost use Rattle.room.specs.Lookup.{routeWanting, peerWanting};
+ghost use Rattle.room_laws.specs.Lookup.{routeWanting, peerWanting};
 ghost use Rattle.room.specs.Numbers.{peerFound};
 use crate::lookup;
 use crate::lookup::FoundNumber;

@@ -2,9 +2,9 @@
 ghost use mathlib.Core.Path.{_≡_};
 ghost use mathlib.Core.Bool.{true};
 ghost use Prim.Native.Nat.{_<_};
-ghost use Rattle.table.specs.Table.{listed, tableWhole};
-ghost use Rattle.room.specs.Layout.{seatBytes, fitsRoom, seatTable, routesTable};
-ghost use Rattle.room.specs.Whole.{routesWhole, roomWhole};
+ghost use Rattle.table_laws.specs.Table.{listed, tableWhole};
+ghost use Rattle.room_laws.specs.Layout.{seatBytes, fitsRoom, seatTable, routesTable};
+ghost use Rattle.room_laws.specs.Whole.{routesWhole, roomWhole};
 use crate::layout;
 use key::Key;
 

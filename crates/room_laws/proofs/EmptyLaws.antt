@@ -7,17 +7,17 @@ use native.Mathlib.Omega.{arith}
 use lib.ListN.{length, drop, length-drop}
 use lib.Seq.{getD-take}
 use borrow.Author.Tests.{eq-eqb}
-use Rattle.table.specs.Bytes.{member}
-use Rattle.table.specs.Table.{count, listed, tableWhole}
-use Rattle.table.proofs.KeyOrder.{no}
-use Rattle.table.proofs.Listed.{whole-none}
-use Rattle.table.proofs.NoneListed.{listed-none, view-none}
+use Rattle.table_laws.specs.Bytes.{member}
+use Rattle.table_laws.specs.Table.{count, listed, tableWhole}
+use Rattle.table_laws.proofs.KeyOrder.{no}
+use Rattle.table_laws.proofs.Listed.{whole-none}
+use Rattle.table_laws.proofs.NoneListed.{listed-none, view-none}
 use Rattle.rules.specs.Room.{vacant, setSeats, emptyRoom, sizesOf}
-use Rattle.room.specs.Layout.{keyBytes, seatBytes, seatsBytes, fitsRoom, seatTable, routesTable}
-use Rattle.room.specs.View.{seatIn, viewRoom}
-use Rattle.room.specs.Whole.{headerRight, roomWhole}
-use Rattle.room.specs.Store.{emptied}
-use Rattle.room.proofs.LayoutLaws.{room-long}
+use Rattle.room_laws.specs.Layout.{keyBytes, seatBytes, seatsBytes, fitsRoom, seatTable, routesTable}
+use Rattle.room_laws.specs.View.{seatIn, viewRoom}
+use Rattle.room_laws.specs.Whole.{headerRight, roomWhole}
+use Rattle.room_laws.specs.Store.{emptied}
+use Rattle.room_laws.proofs.LayoutLaws.{room-long}
 use Rattle.room_laws.proofs.TablesLaws.{fits-same}
 use Rattle.room_laws.proofs.WholeLaws.{make-whole}
 

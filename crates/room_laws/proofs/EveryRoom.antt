@@ -13,9 +13,9 @@ use Rattle.key.specs.Keys.{IsKey}
 use Rattle.rules.specs.Room.{Key, Room, emptyRoom, sizesOf}
 use Rattle.rules.specs.Outcome.{Change, seatTaken, seatEmptied, routeGiven, routeFreed, apply}
 use Rattle.rules.specs.Whole.{Whole}
-use Rattle.room.specs.Layout.{roomBytes, sizesRight, fitsRoom}
-use Rattle.room.specs.Store.{emptied, store}
-use Rattle.room.proofs.LayoutLaws.{sizes-facts}
+use Rattle.room_laws.specs.Layout.{roomBytes, sizesRight, fitsRoom}
+use Rattle.room_laws.specs.Store.{emptied, store}
+use Rattle.room_laws.proofs.LayoutLaws.{sizes-facts}
 use Rattle.room_laws.specs.Fits.{Fit}
 use Rattle.room_laws.specs.Memory.{KeysAre, HasBytes, HasMemory}
 use Rattle.room_laws.proofs.EmptyLaws.{empty-length, empty-whole, empty-view}

@@ -1,4 +1,6 @@
--- The laws of a room kept in bytes, in the order in which they rest on each other.
+-- The laws of a room kept in bytes, in the order in which they rest on each other. `ASmallRoom` has one room computed, with each lookup and each change.
+pub mod ASmallRoom
+pub mod LayoutLaws
 pub mod TablesLaws
 pub mod ViewLaws
 pub mod WholeLaws
@@ -13,5 +15,3 @@ pub mod OutcomeLaws
 pub mod BuiltUp
 pub mod StoreBytes
 pub mod EveryRoom
-pub mod AnswerLaws
-pub mod PeersFound

@@ -10,19 +10,19 @@ use lib.Dec.{eqb, ltb}
 use lib.ListN.{length, take, drop, getD}
 use borrow.Author.Tests.{ltb-true, ltb-false, lt-ltb}
 use Rattle.key.specs.Keys.{sameKey}
-use Rattle.table.specs.Bytes.{member}
-use Rattle.table.specs.Table.{listed, recordAt, keyAt}
-use Rattle.table.proofs.KeyOrder.{both}
-use Rattle.table.proofs.FitsLaws.{used-in}
-use Rattle.table.proofs.TableLaws.{key-record}
+use Rattle.table_laws.specs.Bytes.{member}
+use Rattle.table_laws.specs.Table.{listed, recordAt, keyAt}
+use Rattle.table_laws.proofs.KeyOrder.{both}
+use Rattle.table_laws.proofs.FitsLaws.{used-in}
+use Rattle.table_laws.proofs.TableLaws.{key-record}
 use Rattle.rules.specs.Room.{Key, Route, free, vacant, holds, setRoutes, find, seatOf, isVacant, routeTo, isFree, routesOf, seatAt, Seat, Found, none, at, alone}
 use Rattle.rules.proofs.FindLaws.{vacant-no-key, free-not-to, find-hit}
 use Rattle.rules.specs.Outcome.{joinedBy, peer, peerIn, peerAt}
-use Rattle.room.specs.Layout.{seatBytes, fitsRoom, seatTable, seatStart, routesTable}
-use Rattle.room.specs.View.{routeIn, viewRoutes, seatIn, viewRoom, seatHeld}
-use Rattle.room.specs.Whole.{roomWhole}
-use Rattle.room.specs.Lookup.{seatHolding, lowestEmpty, taken, routeWanting, lowestRoute, routeAtPlace, routeOfPlace, hasSeat, peerInSeat, peerWanting}
-use Rattle.room.proofs.LayoutLaws.{length-seats, length-routes}
+use Rattle.room_laws.specs.Layout.{seatBytes, fitsRoom, seatTable, seatStart, routesTable}
+use Rattle.room_laws.specs.View.{routeIn, viewRoutes, seatIn, viewRoom, seatHeld}
+use Rattle.room_laws.specs.Whole.{roomWhole}
+use Rattle.room_laws.specs.Lookup.{seatHolding, lowestEmpty, taken, routeWanting, lowestRoute, routeAtPlace, routeOfPlace, hasSeat, peerInSeat, peerWanting}
+use Rattle.room_laws.proofs.LayoutLaws.{length-seats, length-routes}
 use Rattle.room_laws.proofs.TablesLaws.{seat-key-stands, routes-in-record}
 use Rattle.room_laws.proofs.ViewLaws.{route-at, route-past, seat-at, seat-past}
 use Rattle.room_laws.proofs.WholeLaws.{whole-fits, whole-seats, whole-seat-table, whole-routes, whole-routes-table}

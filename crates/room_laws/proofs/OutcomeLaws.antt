@@ -7,21 +7,21 @@ use mathlib.Core.List.{List}
 use Prim.Native.Nat.{ℕ, _≤_, _<_}
 use native.Mathlib.Omega.{arith}
 use lib.ListN.{length, getD, length-take}
-use Rattle.packet.specs.Read.{Read}
-use Rattle.packet.specs.Read as read
-use Rattle.packet.specs.FromClient as client
-use Rattle.packet.proofs.ReadBounds.{request-key-long}
+use Rattle.packet_laws.specs.Read.{Read}
+use Rattle.packet_laws.specs.Read as read
+use Rattle.packet_laws.specs.FromClient as client
+use Rattle.packet_laws.proofs.ReadBounds.{request-key-long}
 use Rattle.rules.specs.Room.{Key, Route, free, wants, Held, Seat, vacant, holds, Room, Found, none, at, find, seatOf, isVacant, routeTo, isFree, seatAt, routeAt, Peer, alone, joined, sizesOf}
 use Rattle.rules.specs.Whole.{Whole, ShortKeys}
 use Rattle.rules.specs.Call.{Call, arrive, leave, packetCall, KeyOf32, needed}
 use Rattle.rules.specs.Outcome.{refuse, accept, sentBytes, roomAfter, peer, arriveAt, leaveFrom, requestAt, dropAt, oobTo, carryTo, dataAt, act, actOn, packetFrom, outcome}
 use Rattle.rules.proofs.FindLaws.{find-hit, find-within, wanted-place}
 use Rattle.rules.proofs.WithinOutput.{sent-within}
-use Rattle.table.specs.Table.{recordAt}
-use Rattle.room.specs.Layout.{keyBytes, seatBytes, seatTable}
-use Rattle.room.specs.View.{viewRoom}
-use Rattle.room.specs.Whole.{roomWhole}
-use Rattle.room.specs.Store.{storeAll}
+use Rattle.table_laws.specs.Table.{recordAt}
+use Rattle.room_laws.specs.Layout.{keyBytes, seatBytes, seatTable}
+use Rattle.room_laws.specs.View.{viewRoom}
+use Rattle.room_laws.specs.Whole.{roomWhole}
+use Rattle.room_laws.specs.Store.{storeAll}
 use Rattle.room_laws.specs.Fits.{takes, empties, gives, frees, FitAll}
 use Rattle.room_laws.proofs.ViewLaws.{seat-holds}
 use Rattle.room_laws.proofs.WholeLaws.{whole-few, whole-view}

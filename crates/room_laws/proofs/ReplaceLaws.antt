@@ -9,19 +9,19 @@ use lib.ListN.{length, take, drop, getD, set, length-drop, drop-of-length-le, Li
 use lib.Seq.{length-take-le, take-at, drop-at, take-take, take-append-le, getD-take}
 use lib.Dec.{eqb}
 use borrow.Author.Tests.{eqb-true, eqb-false}
-use Rattle.table.specs.Bytes.{splice, member}
-use Rattle.table.specs.Table.{Table, listed, recordAt, tableWhole, view}
-use Rattle.table.proofs.Listed.{row-fits}
-use Rattle.table.proofs.Stores.{length-splice}
-use Rattle.table.proofs.Places.{splice-inner}
-use Rattle.table.proofs.TableLaws.{length-record}
-use Rattle.table.proofs.RecordLaws.{refilled, refilled-length, refilled-listed, refilled-other, refilled-same, view-refilled, refilled-whole}
+use Rattle.table_laws.specs.Bytes.{splice, member}
+use Rattle.table_laws.specs.Table.{Table, listed, recordAt, tableWhole, view}
+use Rattle.table_laws.proofs.Listed.{row-fits}
+use Rattle.table_laws.proofs.Stores.{length-splice}
+use Rattle.table_laws.proofs.Places.{splice-inner}
+use Rattle.table_laws.proofs.TableLaws.{length-record}
+use Rattle.table_laws.proofs.RecordLaws.{refilled, refilled-length, refilled-listed, refilled-other, refilled-same, view-refilled, refilled-whole}
 use Rattle.rules.specs.Room.{Key, Route, Held, Seat, holds, setKey, setRoutes, setSeats, setSeat, seatAt}
-use Rattle.room.specs.Layout.{roomHeader, keyBytes, routesBytes, routesInSeat, seatBytes, seatsBytes, fitsRoom, seatTable, routesStart, routesTable}
-use Rattle.room.specs.View.{seatIn, viewRoutes, viewRoom}
-use Rattle.room.specs.Whole.{headerRight, roomWhole}
-use Rattle.room.specs.Store.{withSeats, withRoutes}
-use Rattle.room.proofs.LayoutLaws.{room-long}
+use Rattle.room_laws.specs.Layout.{roomHeader, keyBytes, routesBytes, routesInSeat, seatBytes, seatsBytes, fitsRoom, seatTable, routesStart, routesTable}
+use Rattle.room_laws.specs.View.{seatIn, viewRoutes, viewRoom}
+use Rattle.room_laws.specs.Whole.{headerRight, roomWhole}
+use Rattle.room_laws.specs.Store.{withSeats, withRoutes}
+use Rattle.room_laws.proofs.LayoutLaws.{room-long}
 use Rattle.room_laws.proofs.TablesLaws.{fits-same, routes-in-record}
 use Rattle.room_laws.proofs.ViewLaws.{view-is, seat-holds}
 use Rattle.room_laws.proofs.WholeLaws.{make-whole, whole-fits, whole-header, whole-seats, whole-seat-table, listed-below, whole-record-routes}

@@ -7,18 +7,18 @@ use native.Mathlib.Omega.{arith}
 use lib.ListN.{length, take, drop, getD, set, drop-of-length-le}
 use lib.Seq.{take-all}
 use Rattle.key.proofs.Same.{same-refl}
-use Rattle.table.specs.Bytes.{member}
-use Rattle.table.specs.Table.{Table, count, listed, recordAt, keyAt, tableWhole, put, putIn, freedIn}
-use Rattle.table.proofs.KeyOrder.{rising-below}
-use Rattle.table.proofs.Listed.{whole-count, whole-rising}
-use Rattle.table.proofs.TableLaws.{length-record, key-record, view-put, whole-put, length-put, view-freed, whole-freed, length-freed}
-use Rattle.table.proofs.FitsLaws.{freed-in}
-use Rattle.table.proofs.Distinct.{unlisted-leaves-room}
-use Rattle.table.proofs.PutLaws.{put-in-is-put}
+use Rattle.table_laws.specs.Bytes.{member}
+use Rattle.table_laws.specs.Table.{Table, count, listed, recordAt, keyAt, tableWhole, put, putIn, freedIn}
+use Rattle.table_laws.proofs.KeyOrder.{rising-below}
+use Rattle.table_laws.proofs.Listed.{whole-count, whole-rising}
+use Rattle.table_laws.proofs.TableLaws.{length-record, key-record, view-put, whole-put, length-put, view-freed, whole-freed, length-freed}
+use Rattle.table_laws.proofs.FitsLaws.{freed-in}
+use Rattle.table_laws.proofs.Distinct.{unlisted-leaves-room}
+use Rattle.table_laws.proofs.PutLaws.{put-in-is-put}
 use Rattle.rules.specs.Room.{Key, Route, free, wants, none, find, routeTo}
 use Rattle.rules.proofs.FindLaws.{find-miss}
-use Rattle.room.specs.Layout.{keyBytes}
-use Rattle.room.specs.View.{routeIn, viewRoutes}
+use Rattle.room_laws.specs.Layout.{keyBytes}
+use Rattle.room_laws.specs.View.{routeIn, viewRoutes}
 use Rattle.room_laws.proofs.ViewLaws.{route-at, route-free, route-wants}
 
 -- a route that wants a key passes the test for it

@@ -9,21 +9,21 @@ use lib.Seq.{take-at, drop-at, drop-drop}
 use lib.Dec.{eqb}
 use borrow.Author.Tests.{eqb-true, eqb-false}
 use Rattle.key.proofs.Same.{same-refl}
-use Rattle.table.specs.Bytes.{member, indexOf}
-use Rattle.table.specs.Table.{Table, count, listed, recordAt, keyAt, tableWhole, placeOf, put, putIn, freed, freedIn}
-use Rattle.table.proofs.Listed.{whole-count, whole-none}
-use Rattle.table.proofs.Places.{member-in}
-use Rattle.table.proofs.TableLaws.{key-record, put-listed, put-other, put-same, length-put, view-put, whole-put, freed-listed, freed-record, length-freed, view-freed, whole-freed}
-use Rattle.table.proofs.Distinct.{member-less, unlisted-leaves-room}
-use Rattle.table.proofs.FitsLaws.{freed-in}
-use Rattle.table.proofs.PutLaws.{put-in-is-put}
-use Rattle.table.proofs.NoneListed.{view-none}
+use Rattle.table_laws.specs.Bytes.{member, indexOf}
+use Rattle.table_laws.specs.Table.{Table, count, listed, recordAt, keyAt, tableWhole, placeOf, put, putIn, freed, freedIn}
+use Rattle.table_laws.proofs.Listed.{whole-count, whole-none}
+use Rattle.table_laws.proofs.Places.{member-in}
+use Rattle.table_laws.proofs.TableLaws.{key-record, put-listed, put-other, put-same, length-put, view-put, whole-put, freed-listed, freed-record, length-freed, view-freed, whole-freed}
+use Rattle.table_laws.proofs.Distinct.{member-less, unlisted-leaves-room}
+use Rattle.table_laws.proofs.FitsLaws.{freed-in}
+use Rattle.table_laws.proofs.PutLaws.{put-in-is-put}
+use Rattle.table_laws.proofs.NoneListed.{view-none}
 use Rattle.rules.specs.Room.{sizesOf, Key, Route, free, Held, Seat, vacant, holds, newcomer, setRoutes, setSeats, setSeat, none, find, seatOf, seatAt}
 use Rattle.rules.proofs.FindLaws.{find-miss}
-use Rattle.room.specs.Layout.{keyBytes, routesInSeat, seatBytes, seatsBytes, fitsRoom, seatTable}
-use Rattle.room.specs.View.{routeIn, viewRoutes, seatIn, viewRoom}
-use Rattle.room.specs.Whole.{roomWhole}
-use Rattle.room.specs.Store.{newSeat, withSeats}
+use Rattle.room_laws.specs.Layout.{keyBytes, routesInSeat, seatBytes, seatsBytes, fitsRoom, seatTable}
+use Rattle.room_laws.specs.View.{routeIn, viewRoutes, seatIn, viewRoom}
+use Rattle.room_laws.specs.Whole.{roomWhole}
+use Rattle.room_laws.specs.Store.{newSeat, withSeats}
 use Rattle.room_laws.proofs.ViewLaws.{view-is, seat-at, seat-vacant, seat-holds}
 use Rattle.room_laws.proofs.WholeLaws.{whole-fits, whole-header, whole-seats, whole-seat-table, listed-below, whole-record-routes}
 use Rattle.room_laws.proofs.ReplaceLaws.{seats-view, seats-length, seats-whole}

@@ -7,12 +7,12 @@ use lib.Dec.{ltb}
 use lib.ListN.{drop, replicate}
 use Rattle.wire.specs.Numbers.{Bytes}
 use Rattle.wire.proofs.Numbers.{bytes-append, bytes-take, bytes-drop}
-use Rattle.table.specs.Table.{putIn, freedIn}
-use Rattle.table.proofs.BytesKept.{bytes-splice, put-in-bytes, freed-in-bytes}
+use Rattle.table_laws.specs.Table.{putIn, freedIn}
+use Rattle.table_laws.proofs.BytesKept.{bytes-splice, put-in-bytes, freed-in-bytes}
 use Rattle.rules.specs.Room.{Key}
 use Rattle.rules.specs.Outcome.{Change, seatTaken, seatEmptied, routeGiven, routeFreed}
-use Rattle.room.specs.Layout.{keyBytes, seatHeader, routesBytes, seatBytes, seatsBytes, roomHeader, fitsRoom, seatTable, routesStart, routesTable}
-use Rattle.room.specs.Store.{emptied, newSeat, withSeats, withRoutes, store}
+use Rattle.room_laws.specs.Layout.{keyBytes, seatHeader, routesBytes, seatBytes, seatsBytes, roomHeader, fitsRoom, seatTable, routesStart, routesTable}
+use Rattle.room_laws.specs.Store.{emptied, newSeat, withSeats, withRoutes, store}
 use Rattle.room_laws.proofs.BuiltUp.{Brings}
 
 pub bytes-replicate : (n x : ℕ) → x < 256 → Bytes (replicate n x)

@@ -8,14 +8,14 @@ use Prim.Native.Nat.{ℕ, _<_}
 use lib.ListN.{length, getD, set}
 use lib.Dec.{ltb}
 use borrow.Author.Tests.{lt-ltb}
-use Rattle.table.specs.Table.{Table, tableWhole, putIn, freedIn}
+use Rattle.table_laws.specs.Table.{Table, tableWhole, putIn, freedIn}
 use Rattle.rules.specs.Room.{Route, free, wants, Held, Seat, holds, Room, setRoutes, setSeat, find, routeTo, seatAt, sizesOf}
 use Rattle.rules.specs.Outcome.{Change, seatTaken, seatEmptied, routeGiven, routeFreed, withRoute, apply, applyAll}
-use Rattle.room.specs.Layout.{keyBytes, routesBytes, fitsRoom, routesTable}
-use Rattle.room.specs.View.{viewRoutes, viewRoom}
-use Rattle.room.specs.Whole.{roomWhole}
-use Rattle.room.specs.Store.{withRoutes, store, storeAll}
-use Rattle.room.proofs.LayoutLaws.{length-routes}
+use Rattle.room_laws.specs.Layout.{keyBytes, routesBytes, fitsRoom, routesTable}
+use Rattle.room_laws.specs.View.{viewRoutes, viewRoom}
+use Rattle.room_laws.specs.Whole.{roomWhole}
+use Rattle.room_laws.specs.Store.{withRoutes, store, storeAll}
+use Rattle.room_laws.proofs.LayoutLaws.{length-routes}
 use Rattle.room_laws.specs.Fits.{Fit, takes, empties, gives, frees, FitAll}
 use Rattle.room_laws.proofs.ViewLaws.{seat-holds}
 use Rattle.room_laws.proofs.WholeLaws.{whole-fits, whole-routes-table, held-routes}

@@ -6,10 +6,10 @@ use Prim.Native.Nat.{ℕ, zero, suc, _+_, _*_, _≤_, _<_}
 use native.Mathlib.Omega.{arith}
 use lib.ListN.{length, take, drop}
 use lib.Seq.{take-nil, take-take, drop-drop}
-use Rattle.table.specs.Table.{tableBytes, recordAt}
-use Rattle.table.proofs.Listed.{row-fits, key-drop}
-use Rattle.table.proofs.TableLaws.{key-record}
-use Rattle.room.specs.Layout.{roomHeader, keyBytes, routesBytes, routesInSeat, seatBytes, seatsBytes, fitsRoom, seatTable, seatStart, routesTable}
+use Rattle.table_laws.specs.Table.{tableBytes, recordAt}
+use Rattle.table_laws.proofs.Listed.{row-fits, key-drop}
+use Rattle.table_laws.proofs.TableLaws.{key-record}
+use Rattle.room_laws.specs.Layout.{roomHeader, keyBytes, routesBytes, routesInSeat, seatBytes, seatsBytes, fitsRoom, seatTable, seatStart, routesTable}
 
 -- whether bytes fit a room is a matter of their length
 pub fits-same : (s n : ℕ) (c b : List ℕ) → length c ≡ length b → fitsRoom s n c ≡ fitsRoom s n b

@@ -10,15 +10,15 @@ use lib.ListN.{length, getD}
 use borrow.Author.Tests.{ltb-true, ltb-false}
 use Rattle.key.specs.Keys.{sameKey}
 use Rattle.key.proofs.Same.{same-refl, same-sound}
-use Rattle.table.specs.Bytes.{member}
-use Rattle.table.specs.Table.{Table, listed, recordAt, keyAt, rising, tableWhole, findKey, found, lowest, lowestFree, view}
-use Rattle.table.proofs.KeyOrder.{clash, rising-apart, rising-below}
-use Rattle.table.proofs.Listed.{whole-rising}
-use Rattle.table.proofs.FitsLaws.{table-fits, found-fits, lowest-in}
-use Rattle.table.proofs.TableLaws.{view-at, length-view}
-use Rattle.table.proofs.FoundLaws.{found-has-key, missed-has-not, lowest-unlisted, below-lowest}
+use Rattle.table_laws.specs.Bytes.{member}
+use Rattle.table_laws.specs.Table.{Table, listed, recordAt, keyAt, rising, tableWhole, findKey, found, lowest, lowestFree, view}
+use Rattle.table_laws.proofs.KeyOrder.{clash, rising-apart, rising-below}
+use Rattle.table_laws.proofs.Listed.{whole-rising}
+use Rattle.table_laws.proofs.FitsLaws.{table-fits, found-fits, lowest-in}
+use Rattle.table_laws.proofs.TableLaws.{view-at, length-view}
+use Rattle.table_laws.proofs.FoundLaws.{found-has-key, missed-has-not, lowest-unlisted, below-lowest}
 use Rattle.rules.specs.Room.{none, at, orLater, find}
-use Rattle.room.specs.Lookup.{placeIn}
+use Rattle.room_laws.specs.Lookup.{placeIn}
 
 -- ---- the lowest place of a list that passes a test
 

@@ -7,13 +7,13 @@ use Prim.Native.Nat.{ℕ, _≤_, _<_}
 use lib.ListN.{length, getD}
 use lib.Dec.{ltb}
 use borrow.Author.Tests.{ltb-true, ltb-false}
-use Rattle.table.specs.Bytes.{member}
-use Rattle.table.specs.Table.{listed, recordAt, view}
-use Rattle.table.proofs.TableLaws.{view-at, length-view, view-past}
+use Rattle.table_laws.specs.Bytes.{member}
+use Rattle.table_laws.specs.Table.{listed, recordAt, view}
+use Rattle.table_laws.proofs.TableLaws.{view-at, length-view, view-past}
 use Rattle.rules.specs.Room.{Key, free, wants, Held, vacant, holds, seatAt}
 use Rattle.rules.proofs.FindLaws.{clash}
-use Rattle.room.specs.Layout.{keyBytes, seatBytes, seatTable}
-use Rattle.room.specs.View.{routeIn, viewRoutes, heldIn, seatIn, viewRoom}
+use Rattle.room_laws.specs.Layout.{keyBytes, seatBytes, seatTable}
+use Rattle.room_laws.specs.View.{routeIn, viewRoutes, heldIn, seatIn, viewRoom}
 
 -- ---- one route and one seat, by whether it is listed
 

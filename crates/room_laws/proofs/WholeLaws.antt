@@ -8,18 +8,18 @@ use native.Mathlib.Omega.{arith}
 use lib.ListN.{length, take, drop, getD}
 use lib.Dec.{eqb}
 use borrow.Author.Tests.{eq-eqb, eqb-true}
-use Rattle.table.specs.Bytes.{member}
-use Rattle.table.specs.Table.{Table, listed, recordAt, keyAt, tableWhole}
-use Rattle.table.proofs.KeyOrder.{no, both, rising-below}
-use Rattle.table.proofs.Listed.{whole-rising}
-use Rattle.table.proofs.TableLaws.{keys-apart}
+use Rattle.table_laws.specs.Bytes.{member}
+use Rattle.table_laws.specs.Table.{Table, listed, recordAt, keyAt, tableWhole}
+use Rattle.table_laws.proofs.KeyOrder.{no, both, rising-below}
+use Rattle.table_laws.proofs.Listed.{whole-rising}
+use Rattle.table_laws.proofs.TableLaws.{keys-apart}
 use Rattle.rules.specs.Room.{Key, Route, free, wants, Held, holds, seatAt, firstNumber, sizesOf}
 use Rattle.rules.specs.Whole.{Whole}
 use Rattle.rules.proofs.FindLaws.{wanted-high, wanted-place}
-use Rattle.room.specs.Layout.{keyBytes, routesInSeat, seatBytes, fitsRoom, seatTable, routesTable}
-use Rattle.room.specs.View.{viewRoutes, viewRoom}
-use Rattle.room.specs.Whole.{headerRight, routesWhole, roomWhole}
-use Rattle.room.proofs.LayoutLaws.{few-numbers, seats-table, routes-table}
+use Rattle.room_laws.specs.Layout.{keyBytes, routesInSeat, seatBytes, fitsRoom, seatTable, routesTable}
+use Rattle.room_laws.specs.View.{viewRoutes, viewRoom}
+use Rattle.room_laws.specs.Whole.{headerRight, routesWhole, roomWhole}
+use Rattle.room_laws.proofs.LayoutLaws.{few-numbers, seats-table, routes-table}
 use Rattle.room_laws.proofs.TablesLaws.{routes-in-record}
 use Rattle.room_laws.proofs.ViewLaws.{view-routes-length, route-wants, view-room-length, seat-holds}
 

@@ -6,9 +6,9 @@ use Prim.Native.Nat.{ℕ}
 use lib.ListN.{length, getD}
 use Rattle.wire.specs.Numbers.{Bytes}
 use Rattle.rules.specs.Room.{Key, free, wants, Held, holds, Room, seatAt}
-use Rattle.room.specs.Layout.{roomBytes}
-use Rattle.room.specs.View.{viewRoom}
-use Rattle.room.specs.Whole.{roomWhole}
+use Rattle.room_laws.specs.Layout.{roomBytes}
+use Rattle.room_laws.specs.View.{viewRoom}
+use Rattle.room_laws.specs.Whole.{roomWhole}
 
 -- what each key of a room, seated or wanted, is
 pub record KeysAre (K : Key → Type 0) (room : Room) : Type 0 where

@@ -1,5 +1,5 @@
 -- What a client reads of the answer to its request: the number that the relay put into it. A request that the relay took names a key of 32
--- bytes (`packet`, `ReadBounds.antt`), so the answer is a packet that the client's reader takes. Assumes nothing.
+-- bytes (`packet_laws`, `ReadBounds.antt`), so the answer is a packet that the client's reader takes. Assumes nothing.
 use mathlib.Core.Path.{_≡_, refl, ap}
 use mathlib.Core.Bool.{true}
 use mathlib.Core.List.{List, _∷_}
@@ -7,10 +7,10 @@ use Prim.Native.Nat.{ℕ, _+_}
 use native.Mathlib.Omega.{arith}
 use lib.ListN.{length}
 use borrow.Author.Tests.{ne-eqb, le-leb}
-use Rattle.packet.specs.Table.{numberRight}
-use Rattle.packet.specs.FromRelay as relay
-use Rattle.packet.specs.Written.{relayJudged}
-use Rattle.packet.proofs.Judged.{relay-response-judged}
+use Rattle.packet_laws.specs.Table.{numberRight}
+use Rattle.packet_laws.specs.FromRelay as relay
+use Rattle.packet_laws.specs.Judged.{relayJudged}
+use Rattle.packet_laws.proofs.Judged.{relay-response-judged}
 use Rattle.rules.specs.Room.{Key, numberOfPlace}
 use Rattle.rules.specs.Call.{Sent}
 use Rattle.rules.specs.Outcome.{to}

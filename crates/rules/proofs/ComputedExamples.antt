@@ -15,7 +15,6 @@ use Rattle.rules.specs.Outcome.{sentBytes}
 use Rattle.rules.specs.History.{Event, happens}
 use Rattle.rules.specs.Transcript.{fromEmpty, stands}
 use Rattle.rules.specs.After.{pastAfter}
-use Rattle.rules.specs.Record.{packetsFor}
 use Rattle.rules.proofs.Computed.{ka, kb, kc, opened}
 
 -- a call's answer, the refusal by its number, and its output's bytes
@@ -190,10 +189,6 @@ takenOver = arrive ka ∷ arrive kb ∷ ask 0 kb ∷ ask 1 ka ∷ leave 0 ∷ ar
 no-link-to-seat : drop 5 (shows takenOver) ≡ took 0 ∷ gets 9 ∷ []
 unfolding opened shows showAll show took gets ask data10 takenOver
 no-link-to-seat = refl
-
-nothing-for-kc : packetsFor fromEmpty [] kc (happens baseSizes takenOver) ≡ []
-unfolding opened ask data10 takenOver
-nothing-for-kc = refl
 
 -- ---- "Clearing the peer's request at a disconnect: when the other asks again, both must be told connected."
 

@@ -4,9 +4,9 @@ use mathlib.Core.Path.{_≡_, refl, _∙_}
 use mathlib.Core.List.{List}
 use mathlib.Core.Logic.{_≢_}
 use Prim.Native.Nat.{ℕ, _-_}
-use Rattle.packet.specs.Read.{Read}
-use Rattle.packet.specs.Read as read
-use Rattle.packet.specs.FromClient as client
+use Rattle.packet_laws.specs.Read.{Read}
+use Rattle.packet_laws.specs.Read as read
+use Rattle.packet_laws.specs.FromClient as client
 use Rattle.rules.specs.Room.{Sizes, Key, Route, free, wants, Held, Seat, vacant, holds, Room, Found, none, at, find, seatOf, isVacant, routeTo, isFree, seatAt, routeAt, firstNumber, Peer, alone, joined}
 use Rattle.rules.specs.Call.{arrive, leave, packetCall, accepted}
 use Rattle.rules.specs.Outcome.{withRoute, apply, applyAll, Outcome, refuse, accept, roomAfter, peer, arriveAt, leaveFrom, requestAt, dropAt, oobTo, carryTo, dataAt, act, actOn, packetFrom, outcome}

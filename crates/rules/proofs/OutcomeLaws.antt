@@ -1,6 +1,7 @@
 -- One outcome after another, as one call (`andThen`): it is accepted exactly where both are. Then the room after it is the room after the second from the
 -- room after the first, and what is sent is what the first sends and then what the second sends, with the bytes of both counted. Otherwise it is refused,
--- with the refusal of the first that is refused, the room is as before and nothing is sent. Which two of three are put together first makes no difference, and a whole room stays whole. Assumes nothing.
+-- with the refusal of the first that is refused, the room is as before and nothing is sent. Which two of three are put together first makes no difference,
+-- and a whole room stays whole. Assumes nothing.
 use mathlib.Core.Path.{_≡_, refl, ap, ap₂, _∙_}
 use mathlib.Core.Bool.{true, false, _&&_, true≢false, false≢true}
 use mathlib.Core.List.{List, [], _∷_, _++_, append-assoc}

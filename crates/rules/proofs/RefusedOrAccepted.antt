@@ -5,9 +5,9 @@ use mathlib.Core.Bool.{false, true≢false}
 use mathlib.Core.List.{List, [], _∷_}
 use Prim.Native.Nat.{ℕ}
 use Rattle.refusal.specs.declared.Refusal.the-variants.{RoomFull, AlreadySeated, NotSeated, NoSuchRoute, NotConnected}
-use Rattle.packet.specs.Read.{Read}
-use Rattle.packet.specs.Read as read
-use Rattle.packet.specs.FromClient as client
+use Rattle.packet_laws.specs.Read.{Read}
+use Rattle.packet_laws.specs.Read as read
+use Rattle.packet_laws.specs.FromClient as client
 use Rattle.rules.specs.Room.{Sizes, Key, Route, free, wants, Held, Seat, vacant, holds, Room, Found, none, at, find, seatOf, isVacant, routeTo, isFree, seatAt, routeAt, Peer, alone, joined}
 use Rattle.rules.specs.Call.{Call, arrive, leave, packetCall}
 use Rattle.rules.specs.Outcome.{seatTaken, applyAll, Outcome, refuse, accept, roomAfter, peer, arriveAt, leaveFrom, requestAt, dropAt, oobTo, carryTo, dataAt, act, actOn, packetFrom, outcome}

@@ -7,9 +7,9 @@ use mathlib.Core.Logic.{_↔_, _≢_}
 use Prim.Native.Nat.{ℕ, _-_}
 use native.Mathlib.Omega.{arith}
 use lib.ListN.{getD, length, length-set, length-replicate}
-use Rattle.packet.specs.Read.{Read}
-use Rattle.packet.specs.Read as read
-use Rattle.packet.specs.FromClient as client
+use Rattle.packet_laws.specs.Read.{Read}
+use Rattle.packet_laws.specs.Read as read
+use Rattle.packet_laws.specs.FromClient as client
 use Rattle.key.proofs.Same.{same-refl, same-sound}
 use Rattle.rules.specs.Room.{Sizes, Key, Route, free, wants, Held, Seat, vacant, holds, Room, newcomer, setRoute, setSeat, emptyRoom, Found, none, at, find, seatOf, isVacant, routeTo, isFree, seatAt, routeAt, firstNumber, numberOfPlace, Peer, alone, joined}
 use Rattle.rules.specs.Whole.{Whole}

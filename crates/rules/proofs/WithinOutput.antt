@@ -1,7 +1,7 @@
--- No call writes more than the output that it needs: document 01's bound for lent output, "under 2,048 for packet and leave". In a whole room of at most 240 numbers, whose
--- seated keys have 32 bytes at most, a leave writes 5 bytes for each connected peer, a request 37, and 10 more where it connects, a drop 5, a ping 12, an
--- out-of-band send 1,060 at most, data 2,035 at most, and an arrival nothing. So output that document 01 asks for is never too short. And the seated keys stay
--- so over every call, where one who arrives has such a key. Assumes nothing.
+-- No call writes more than the output that it needs: document 01's bound for lent output, "under 2,048 for packet and leave". In a whole room of at most 240
+-- numbers, whose seated keys have 32 bytes at most, a leave writes 5 bytes for each connected peer, a request 37, and 10 more where it connects, a drop 5, a
+-- ping 12, an out-of-band send 1,060 at most, data 2,035 at most, and an arrival nothing. So output that document 01 asks for is never too short. And the
+-- seated keys stay so over every call, where one who arrives has such a key. Assumes nothing.
 use mathlib.Core.Path.{_≡_, refl, ap, subst, _∙_}
 use mathlib.Core.Bool.{Bool, true, false, _&&_, cond}
 use mathlib.Core.List.{List, [], _∷_}
@@ -10,12 +10,12 @@ use native.Mathlib.Omega.{arith}
 use lib.Dec.{eqb}
 use lib.ListN.{length, length-append}
 use Rattle.wire.proofs.Numbers.{length-bytesOf}
-use Rattle.packet.specs.Read.{Read}
-use Rattle.packet.specs.Read as read
-use Rattle.packet.specs.FromClient as client
-use Rattle.packet.specs.FromClient.{Within}
-use Rattle.packet.specs.FromRelay as relay
-use Rattle.packet.proofs.ReadBounds.{read-within}
+use Rattle.packet_laws.specs.Read.{Read}
+use Rattle.packet_laws.specs.Read as read
+use Rattle.packet_laws.specs.FromClient as client
+use Rattle.packet_laws.specs.FromClient.{Within}
+use Rattle.packet_laws.specs.FromRelay as relay
+use Rattle.packet_laws.proofs.ReadBounds.{read-within}
 use Rattle.rules.specs.Room.{Sizes, Key, Route, free, wants, Seat, vacant, holds, Room, Found, none, at, find, seatOf, routeTo, isFree, seatAt, routeAt, numberOfPlace, Peer, alone, joined, Held}
 use Rattle.rules.specs.Whole.{Whole, ShortKeys}
 use Rattle.rules.specs.Call.{Call, arrive, leave, packetCall, needed, mostNeeded, Answer, accepted, refused, Sent}

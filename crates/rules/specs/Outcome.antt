@@ -8,10 +8,10 @@ use lib.ListN.{length}
 use Rattle.refusal.specs.declared.Refusal.{Refusal}
 use Rattle.refusal.specs.declared.Refusal.the-variants.{RoomFull, AlreadySeated, NotSeated, NoSuchRoute, NotConnected}
 use Rattle.wire.specs.Numbers.{bytesOf}
-use Rattle.packet.specs.Read.{Read}
-use Rattle.packet.specs.Read as read
-use Rattle.packet.specs.FromClient as client
-use Rattle.packet.specs.FromRelay as relay
+use Rattle.packet_laws.specs.Read.{Read}
+use Rattle.packet_laws.specs.Read as read
+use Rattle.packet_laws.specs.FromClient as client
+use Rattle.packet_laws.specs.FromRelay as relay
 use Rattle.rules.specs.Room.{Sizes, Key, Route, free, wants, Held, Seat, vacant, holds, Room, newcomer, setRoute, setSeat, Found, none, at, find, seatOf, isVacant, routeTo, isFree, routesOf, seatAt, routeAt, firstNumber, numberOfPlace, Peer, alone, joined}
 use Rattle.rules.specs.Call.{Call, arrive, leave, packetCall, Answer, accepted, refused, Sent}
 
@@ -89,7 +89,7 @@ peerAt true room key seat = alone
 peerAt false room key seat = joinedBy seat (find (routeTo key) (routesOf (seatAt room seat)))
 
 -- where the client at `seat`, whose key is `key`, has a route naming `wanted`, or is being given one: its peer, if they are connected. Asked of the other
--- side alone, so the room before the new route serves; that what it finds is who is connected is `proofs/PeerConnected.antt`
+-- side alone, so the room before the new route serves; that what it finds is who is connected is shown in `after_calls`, `PeerConnected.antt`
 unfoldable pub peerIn : Found → Room → ℕ → Key → Peer
 peerIn none room seat key = alone
 peerIn (at other) room seat key = peerAt (eqb seat other) room key other

@@ -7,7 +7,7 @@ use Prim.Native.Nat.{ℕ, suc, _+_, _-_}
 use lib.Dec.{ltb}
 use lib.ListN.{getD, set, replicate}
 use Rattle.key.specs.Keys.{sameKey}
-pub use Rattle.packet.specs.Table.{firstNumber}
+pub use Rattle.packet_laws.specs.Table.{firstNumber}
 
 pub record Sizes : Type 0 where
   pub seats : ℕ
@@ -41,7 +41,7 @@ pub data Seat : Type 0 where
 pub record Room : Type 0 where
   pub seats : List Seat
 
--- The constructors of these two records stand here and where a room is read from bytes (`room`, `View.antt`), and nowhere else: laws and the rest of the
+-- The constructors of these two records stand here and where a room is read from bytes (`room_laws`, `View.antt`), and nowhere else: laws and the rest of the
 -- definitions go through the fields and through these functions, so that a field more changes nothing where it is not read.
 
 -- a key that has just arrived: every route is free

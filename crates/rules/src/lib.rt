@@ -1,2 +1,2 @@
-// The relay as mathematics: what a room is, what each call does, and what a client learns. No code lives here; `specs/` has document 01's
-// sections "The room" and "The record for a client" as definitions, and `proofs/` what follows from them for every history of calls.
+// The relay as mathematics: what a room is, and what each call does. No code lives here; `specs/` has document 01's section "The room" as definitions, and
+// `proofs/` what follows from them for every history of calls. Demand 2's theorems stand in `after_calls`, demand 3's in `isolation`.

@@ -1,16 +1,2 @@
--- The laws of a table kept in bytes, in the order in which they rest on each other; the proofs of the functions cite them.
-pub mod KeyOrder
-pub mod FitsLaws
-pub mod Listed
-pub mod SearchLaws
-pub mod Stores
-pub mod Places
-pub mod Distinct
-pub mod TableLaws
+-- Laws of the marks that the search for the lowest free place makes. What the bytes of a table mean stands in the crate `table_laws`.
 pub mod LowestLaws
-pub mod RecordLaws
-pub mod OverwriteLaws
-pub mod NoneListed
-pub mod PutLaws
-pub mod FoundLaws
-pub mod BytesKept

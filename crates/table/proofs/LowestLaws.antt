@@ -11,7 +11,7 @@ use lib.Dec.{eqb}
 use borrow.Author.Tests.{eqb-true, eqb-false}
 use Rattle.lists.specs.Find.{member}
 use Rattle.lists.proofs.Members.{member-last}
-use Rattle.table.specs.Table.{lowest}
+use Rattle.table_laws.specs.Table.{lowest}
 use Rattle.table.specs.Marks.{Marked}
 
 pub mark-none : Marked (replicate 256 0) []

@@ -1,4 +1,2 @@
--- What a reader must believe of this crate, in the order to read it. `Marks` is cited by private functions alone.
-pub mod Bytes
-pub mod Table
+-- What private functions alone cite. The contracts of the public ones cite `table_laws`.
 pub mod Marks

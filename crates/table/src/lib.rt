@@ -5,7 +5,7 @@
 // A place is used exactly when the order lists it; what is not listed is never read. So neighbours decide that all keys differ, one pass tests a
 // table, and there is no mark that could disagree with it. A room is a table of seats, and each seat has a table of routes.
 ghost use mathlib.Core.Path.{_≡_};
-ghost use Rattle.table.specs.Table.{fitsTable, isTable, found, keyOfPlace, isUsed, usedPlaces, lowestFree, mayPut, putIn, freedIn, mayOverwrite, overwrittenIn};
+ghost use Rattle.table_laws.specs.Table.{fitsTable, isTable, found, keyOfPlace, isUsed, usedPlaces, lowestFree, mayPut, putIn, freedIn, mayOverwrite, overwrittenIn};
 
 mod order;
 mod records;

@@ -4,7 +4,7 @@ ghost use Prim.Native.Nat.{_<_, _≤_};
 ghost use lib.ListN.{length};
 ghost use Rattle.lists.specs.Find.{indexOf, member};
 ghost use mathlib.Core.List.{[]};
-ghost use Rattle.table.specs.Table.{count, listed, lowest, entered, closed, freed};
+ghost use Rattle.table_laws.specs.Table.{count, listed, lowest, entered, closed, freed};
 ghost use Rattle.table.specs.Marks.{Marked};
 
 // How many places are listed.

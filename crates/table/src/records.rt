@@ -3,8 +3,8 @@ ghost use mathlib.Core.Path.{_≡_};
 ghost use Prim.Native.Nat.{_+_, _<_, _≤_};
 ghost use lib.ListN.{length};
 ghost use Rattle.key.specs.Keys.{sameKey};
-ghost use Rattle.table.specs.Bytes.{keyBefore};
-ghost use Rattle.table.specs.Table.{Table, Spot, count, listed, keyAt, tableWhole, findKey, position, put, refilled};
+ghost use Rattle.table_laws.specs.Bytes.{keyBefore};
+ghost use Rattle.table_laws.specs.Table.{Table, Spot, count, listed, keyAt, tableWhole, findKey, position, put, refilled};
 use crate::order;
 use key::Key;
 

@@ -1,9 +1,9 @@
--- `begin` meets its contract: each way out is a case of `CallLaws`. Assumes nothing.
+-- `begin` meets its contract: each way out is a case of `CallLaws` of `lent_list_laws`. Assumes nothing.
 use borrow.Author.Needs.{needs}
 use native.Mathlib.Omega.{arith}
 use Rattle.key.specs.Keys.{IsKey}
 use Rattle.key.proofs.Owned.{is-key}
-use Rattle.lent_list.proofs.CallLaws.{begins-refused, begins-short, begins-done}
+use Rattle.lent_list_laws.proofs.CallLaws.{begins-refused, begins-short, begins-done}
 use Rattle.lent_list.proofs.begin.Statement.{statement}
 use Rattle.lent_list.proofs.begin.Tie as tie
 

@@ -1,9 +1,9 @@
--- `held_at` meets its contract: each way out is a case of `CallLaws`. Assumes nothing.
+-- `held_at` meets its contract: each way out is a case of `HeldLaws`. Assumes nothing.
 use borrow.Author.Needs.{needs}
 use mathlib.Core.Path.{_∙_, sym}
 use native.Mathlib.Omega.{arith}
-use Rattle.lent_list.proofs.StoreLaws.{loaded-whole}
-use Rattle.lent_list.proofs.CallLaws.{held-short, held-refused, held-nothing, within, held-node}
+use Rattle.lent_list_laws.proofs.StoreLaws.{loaded-whole}
+use Rattle.lent_list.proofs.HeldLaws.{held-short, held-refused, held-nothing, within, held-node}
 use Rattle.lent_list.proofs.held_at.Statement.{statement}
 use Rattle.lent_list.proofs.held_at.Tie as tie
 

@@ -1,4 +1,4 @@
--- `offer` meets its contract: each way out is a case of `CallLaws`. Assumes nothing.
+-- `offer` meets its contract: each way out is a case of `CallLaws` of `lent_list_laws`. Assumes nothing.
 use borrow.Author.Needs.{needs}
 use mathlib.Core.Path.{_∙_, ap}
 use native.Mathlib.Omega.{arith}
@@ -6,9 +6,9 @@ use Rattle.wire.proofs.Numbers.{bytes-each}
 use Rattle.node.proofs.Owned.{is-node}
 use Rattle.nearest.specs.declared.NearestList.{NearestList}
 use Rattle.nearest.specs.Calls.{offered}
-use Rattle.lent_list.specs.Layout.{Fits}
-use Rattle.lent_list.proofs.StoreLaws.{loaded-whole}
-use Rattle.lent_list.proofs.CallLaws.{offers-short, offers-refused, offers-taken}
+use Rattle.lent_list_laws.specs.Layout.{Fits}
+use Rattle.lent_list_laws.proofs.StoreLaws.{loaded-whole}
+use Rattle.lent_list_laws.proofs.CallLaws.{offers-short, offers-refused, offers-taken}
 use Rattle.lent_list.proofs.offer.Statement.{statement}
 use Rattle.lent_list.proofs.offer.Tie as tie
 

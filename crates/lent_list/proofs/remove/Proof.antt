@@ -1,12 +1,12 @@
--- `remove` meets its contract: each way out is a case of `CallLaws`. Assumes nothing.
+-- `remove` meets its contract: each way out is a case of `CallLaws` of `lent_list_laws`. Assumes nothing.
 use borrow.Author.Needs.{needs}
 use mathlib.Core.Path.{_∙_, ap}
 use native.Mathlib.Omega.{arith}
 use Rattle.wire.proofs.Numbers.{bytes-each}
 use Rattle.nearest.specs.declared.NearestList.{NearestList}
 use Rattle.nearest.specs.Calls.{removed}
-use Rattle.lent_list.proofs.StoreLaws.{loaded-whole}
-use Rattle.lent_list.proofs.CallLaws.{removes-short, removes-refused, removes-done}
+use Rattle.lent_list_laws.proofs.StoreLaws.{loaded-whole}
+use Rattle.lent_list_laws.proofs.CallLaws.{removes-short, removes-refused, removes-done}
 use Rattle.lent_list.proofs.remove.Statement.{statement}
 use Rattle.lent_list.proofs.remove.Tie as tie
 

@@ -3,7 +3,7 @@ use borrow.Author.Needs.{needs}
 use borrow.Author.Tests.{not-true, not-false}
 use mathlib.Core.Path.{_∙_, sym}
 use native.Mathlib.Omega.{arith}
-use Rattle.lent_list.proofs.CallLaws.{short-none, short-no-size, short-size}
+use Rattle.lent_list_laws.proofs.CallLaws.{short-none, short-no-size, short-size}
 use Rattle.lent_list.proofs.too_short.Statement.{statement}
 use Rattle.lent_list.proofs.too_short.Tie as tie
 

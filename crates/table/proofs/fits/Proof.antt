@@ -2,7 +2,7 @@
 use borrow.Author.Needs.{needs}
 use mathlib.Core.Path.{sym}
 use native.Mathlib.Omega.{arith}
-use Rattle.table.proofs.FitsLaws.{fits-is, too-many, too-thin, too-wide, area}
+use Rattle.table_laws.proofs.FitsLaws.{fits-is, too-many, too-thin, too-wide, area}
 use Rattle.table.proofs.fits.Statement.{statement}
 use Rattle.table.proofs.fits.Tie as tie
 

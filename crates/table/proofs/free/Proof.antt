@@ -2,7 +2,7 @@
 use borrow.Author.Needs.{needs}
 use mathlib.Core.Path.{sym, _∙_}
 use native.Mathlib.Omega.{arith}
-use Rattle.table.proofs.FitsLaws.{freed-in, freed-short, freed-many}
+use Rattle.table_laws.proofs.FitsLaws.{freed-in, freed-short, freed-many}
 use Rattle.table.proofs.free.Statement.{statement}
 use Rattle.table.proofs.free.Tie as tie
 

@@ -1,7 +1,7 @@
 -- `table::is_used` meets its contract: the order lists the place. Assumes nothing.
 use borrow.Author.Needs.{needs}
 use mathlib.Core.Path.{sym, _∙_}
-use Rattle.table.proofs.FitsLaws.{used-in, used-short}
+use Rattle.table_laws.proofs.FitsLaws.{used-in, used-short}
 use Rattle.table.proofs.is_used.Statement.{statement}
 use Rattle.table.proofs.is_used.Tie as tie
 

@@ -2,7 +2,7 @@
 use borrow.Author.Needs.{needs}
 use borrow.Author.Tests.{not-true, not-false}
 use mathlib.Core.Path.{sym, _∙_}
-use Rattle.table.proofs.FitsLaws.{fits-table, whole-fits, whole-unfit}
+use Rattle.table_laws.proofs.FitsLaws.{fits-table, whole-fits, whole-unfit}
 use Rattle.table.proofs.is_whole.Statement.{statement}
 use Rattle.table.proofs.is_whole.Tie as tie
 

@@ -2,7 +2,7 @@
 use borrow.Author.Needs.{needs}
 use borrow.Author.Tests.{not-true, not-false}
 use mathlib.Core.Path.{sym, _∙_}
-use Rattle.table.proofs.FitsLaws.{fits-table, key-place, key-unfit, key-no-place}
+use Rattle.table_laws.proofs.FitsLaws.{fits-table, key-place, key-unfit, key-no-place}
 use Rattle.table.proofs.key_at.Statement.{statement}
 use Rattle.table.proofs.key_at.Tie as tie
 

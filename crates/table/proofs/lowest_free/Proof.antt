@@ -1,7 +1,7 @@
 -- `table::lowest_free` meets its contract. Assumes nothing.
 use borrow.Author.Needs.{needs}
 use mathlib.Core.Path.{sym, _∙_}
-use Rattle.table.proofs.FitsLaws.{lowest-in, lowest-many, lowest-short}
+use Rattle.table_laws.proofs.FitsLaws.{lowest-in, lowest-many, lowest-short}
 use Rattle.table.proofs.lowest_free.Statement.{statement}
 use Rattle.table.proofs.lowest_free.Tie as tie
 

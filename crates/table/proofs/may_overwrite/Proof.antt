@@ -5,7 +5,7 @@ use mathlib.Core.Path.{sym, _∙_}
 use Prim.Native.Nat.{_+_, _≤_}
 use native.Mathlib.Omega.{arith}
 use lib.ListN.{length}
-use Rattle.table.proofs.FitsLaws.{fits-table, overwrite-unfit, overwrite-none, overwrite-key, overwrite-past, overwrite-is}
+use Rattle.table_laws.proofs.FitsLaws.{fits-table, overwrite-unfit, overwrite-none, overwrite-key, overwrite-past, overwrite-is}
 use Rattle.table.proofs.may_overwrite.Statement.{statement}
 use Rattle.table.proofs.may_overwrite.Tie as tie
 

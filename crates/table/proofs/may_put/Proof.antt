@@ -3,7 +3,7 @@ use borrow.Author.Needs.{needs}
 use borrow.Author.Tests.{not-true, not-false}
 use mathlib.Core.Path.{sym, _∙_}
 use native.Mathlib.Omega.{arith}
-use Rattle.table.proofs.FitsLaws.{fits-table, may-unfit, may-full, may-none, may-short, may-is}
+use Rattle.table_laws.proofs.FitsLaws.{fits-table, may-unfit, may-full, may-none, may-short, may-is}
 use Rattle.table.proofs.may_put.Statement.{statement}
 use Rattle.table.proofs.may_put.Tie as tie
 

@@ -1,6 +1,6 @@
 -- `table::overwrite` meets its contract: nothing where the part may not be overwritten, else it is. Assumes nothing.
 use borrow.Author.Needs.{needs}
-use Rattle.table.proofs.FitsLaws.{overwrite-facts, overwrite-allowed, overwrite-done, overwrite-refused}
+use Rattle.table_laws.proofs.FitsLaws.{overwrite-facts, overwrite-allowed, overwrite-done, overwrite-refused}
 use Rattle.table.proofs.overwrite.Statement.{statement}
 use Rattle.table.proofs.overwrite.Tie as tie
 

@@ -1,6 +1,6 @@
 -- `table::put` meets its contract: nothing where the place may not be put in use, else it is entered. Assumes nothing.
 use borrow.Author.Needs.{needs}
-use Rattle.table.proofs.FitsLaws.{may-facts, put-allowed, put-entered, put-refused}
+use Rattle.table_laws.proofs.FitsLaws.{may-facts, put-allowed, put-entered, put-refused}
 use Rattle.table.proofs.put.Statement.{statement}
 use Rattle.table.proofs.put.Tie as tie
 

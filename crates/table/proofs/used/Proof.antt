@@ -10,8 +10,8 @@ use native.Mathlib.Omega.{arith}
 use lib.Dec.{leb}
 use lib.ListN.{length, take, drop}
 use lib.Seq.{take-take, take-all}
-use Rattle.table.specs.Table.{count, order, listed, usedPlaces}
-use Rattle.table.proofs.Listed.{length-order, length-listed, length-all, listed-few}
+use Rattle.table_laws.specs.Table.{count, order, listed, usedPlaces}
+use Rattle.table_laws.proofs.Listed.{length-order, length-listed, length-all, listed-few}
 use Rattle.table.proofs.used.Statement.{statement}
 use Rattle.table.proofs.used.Tie as tie
 

@@ -3,11 +3,10 @@ use borrow.Author.Needs.{needs}
 use mathlib.Core.Path.{_∙_, sym}
 use mir.Syntax.{w32}
 use mir.ValLaws.{toZ-ofZ, toZ-pos}
-use Rattle.packet.specs.FromRelay.{clientRead}
+use Rattle.packet_laws.specs.FromRelay.{clientRead, clientKey}
 use native.Mathlib.Omega.{arith}
-use Rattle.packet.specs.ClientReads.{clientKey}
 use Rattle.packet.proofs.ClientLaws.{client-key}
-use Rattle.banavoge.specs.Fields.{relayFields}
+use Rattle.fields.specs.Fields.{relayFields}
 use Rattle.banavoge.proofs.Reading.{client-found, client-turned, tells-key, refuses-key}
 use Rattle.banavoge.proofs.readers.banavoge_client_key.Statement.{statement}
 use Rattle.banavoge.proofs.readers.banavoge_client_key.Tie as tie

@@ -3,11 +3,10 @@ use borrow.Author.Needs.{needs}
 use mathlib.Core.Path.{_∙_, sym}
 use mir.Syntax.{w32}
 use mir.ValLaws.{toZ-ofZ, toZ-pos}
-use Rattle.packet.specs.FromClient.{relayRead}
+use Rattle.packet_laws.specs.FromClient.{relayRead, relayKey}
 use native.Mathlib.Omega.{arith}
-use Rattle.packet.specs.RelayReads.{relayKey}
 use Rattle.packet.proofs.RelayLaws.{relay-key}
-use Rattle.banavoge.specs.Fields.{clientFields}
+use Rattle.fields.specs.Fields.{clientFields}
 use Rattle.banavoge.proofs.Reading.{relay-found, relay-turned, tells-key, refuses-key}
 use Rattle.banavoge.proofs.readers.banavoge_relay_key.Statement.{statement}
 use Rattle.banavoge.proofs.readers.banavoge_relay_key.Tie as tie

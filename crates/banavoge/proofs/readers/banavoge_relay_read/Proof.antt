@@ -4,8 +4,8 @@ use mathlib.Core.Path.{_∙_}
 use mir.Syntax.{w32}
 use mir.ValLaws.{toZ-ofZ}
 use Rattle.wire.proofs.Numbers.{bytes-each}
-use Rattle.packet.specs.FromClient.{relayRead}
-use Rattle.banavoge.specs.Fields.{clientFields}
+use Rattle.packet_laws.specs.FromClient.{relayRead}
+use Rattle.fields.specs.Fields.{clientFields}
 use Rattle.banavoge.proofs.Reading.{relay-found, relay-turned, tells, refuses}
 use Rattle.banavoge.proofs.readers.banavoge_relay_read.Statement.{statement}
 use Rattle.banavoge.proofs.readers.banavoge_relay_read.Tie as tie

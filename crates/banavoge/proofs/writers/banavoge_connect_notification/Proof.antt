@@ -1,9 +1,9 @@
--- `banavoge_connect_notification` meets its contract: what the writer of `packet` promises, with its answer as one number. Assumes nothing.
+-- `banavoge_connect_notification` meets its contract: what the writer of `packet_write` promises, with its answer as one number. Assumes nothing.
 use borrow.Author.Needs.{needs}
 use mathlib.Core.Path.{_∙_}
 use mir.Syntax.{w32}
 use mir.ValLaws.{toZ-ofZ}
-use Rattle.packet.specs.FromRelay.{connectNotice}
+use Rattle.packet_laws.specs.FromRelay.{connectNotice}
 use Rattle.banavoge.proofs.Writing.{relay-counted}
 use Rattle.banavoge.proofs.writers.banavoge_connect_notification.Statement.{statement}
 use Rattle.banavoge.proofs.writers.banavoge_connect_notification.Tie as tie

@@ -1,9 +1,9 @@
--- `banavoge_oob_send` meets its contract: what the writer of `packet` promises, with its answer as one number. Assumes nothing.
+-- `banavoge_oob_send` meets its contract: what the writer of `packet_write` promises, with its answer as one number. Assumes nothing.
 use borrow.Author.Needs.{needs}
 use mathlib.Core.Path.{_∙_}
 use mir.Syntax.{w32}
 use mir.ValLaws.{toZ-ofZ}
-use Rattle.packet.specs.FromClient.{oobSend}
+use Rattle.packet_laws.specs.FromClient.{oobSend}
 use Rattle.banavoge.proofs.Writing.{client-counted}
 use Rattle.banavoge.proofs.writers.banavoge_oob_send.Statement.{statement}
 use Rattle.banavoge.proofs.writers.banavoge_oob_send.Tie as tie

@@ -1,9 +1,9 @@
--- `banavoge_ping` meets its contract: what the writer of `packet` promises of both ends, with its answer as one number. Assumes nothing.
+-- `banavoge_ping` meets its contract: what the writer of `packet_write` promises of both ends, with its answer as one number. Assumes nothing.
 use borrow.Author.Needs.{needs}
 use mathlib.Core.Path.{_∙_}
 use mir.Syntax.{w32}
 use mir.ValLaws.{toZ-ofZ}
-use Rattle.packet.specs.FromClient as client
+use Rattle.packet_laws.specs.FromClient as client
 use Rattle.banavoge.proofs.Writing.{client-counted}
 use Rattle.banavoge.proofs.writers.banavoge_ping.Statement.{statement}
 use Rattle.banavoge.proofs.writers.banavoge_ping.Tie as tie

@@ -1,9 +1,9 @@
--- `banavoge_routing_request` meets its contract: what the writer of `packet` promises, with its answer as one number. Assumes nothing.
+-- `banavoge_routing_request` meets its contract: what the writer of `packet_write` promises, with its answer as one number. Assumes nothing.
 use borrow.Author.Needs.{needs}
 use mathlib.Core.Path.{_∙_}
 use mir.Syntax.{w32}
 use mir.ValLaws.{toZ-ofZ}
-use Rattle.packet.specs.FromClient.{routingRequest}
+use Rattle.packet_laws.specs.FromClient.{routingRequest}
 use Rattle.banavoge.proofs.Writing.{client-counted}
 use Rattle.banavoge.proofs.writers.banavoge_routing_request.Statement.{statement}
 use Rattle.banavoge.proofs.writers.banavoge_routing_request.Tie as tie

@@ -1,9 +1,9 @@
--- `banavoge_routing_response` meets its contract: what the writer of `packet` promises, with its answer as one number. Assumes nothing.
+-- `banavoge_routing_response` meets its contract: what the writer of `packet_write` promises, with its answer as one number. Assumes nothing.
 use borrow.Author.Needs.{needs}
 use mathlib.Core.Path.{_∙_}
 use mir.Syntax.{w32}
 use mir.ValLaws.{toZ-ofZ}
-use Rattle.packet.specs.FromRelay.{routingResponse}
+use Rattle.packet_laws.specs.FromRelay.{routingResponse}
 use Rattle.banavoge.proofs.Writing.{relay-counted}
 use Rattle.banavoge.proofs.writers.banavoge_routing_response.Statement.{statement}
 use Rattle.banavoge.proofs.writers.banavoge_routing_response.Tie as tie

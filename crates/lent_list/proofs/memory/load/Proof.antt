@@ -4,8 +4,8 @@ use borrow.Author.Tests.{lt-leb}
 use mathlib.Core.Path.{_∙_, sym}
 use native.Mathlib.Omega.{arith}
 use lib.ListN.{length}
-use Rattle.lent_list.specs.Layout.{loaded}
-use Rattle.lent_list.proofs.StoreLaws.{loaded-whole, list-read}
+use Rattle.lent_list_laws.specs.Layout.{loaded}
+use Rattle.lent_list_laws.proofs.StoreLaws.{loaded-whole, list-read}
 use Rattle.lent_list.proofs.memory.load.Statement.{statement}
 use Rattle.lent_list.proofs.memory.load.Tie as tie
 

@@ -4,8 +4,8 @@ use mathlib.Core.Path.{_≡_, _∙_, sym}
 use Prim.Native.Nat.{_%_}
 use native.Mathlib.Omega.{arith}
 use lib.ListN.{length, length-set, length-map}
-use Rattle.lent_list.specs.Layout.{slotsBytes}
-use Rattle.lent_list.proofs.StoreLaws.{stored-short, length-targeted, put-slots, list-written}
+use Rattle.lent_list_laws.specs.Layout.{slotsBytes}
+use Rattle.lent_list_laws.proofs.StoreLaws.{stored-short, length-targeted, put-slots, list-written}
 use Rattle.lent_list.proofs.memory.store.Statement.{statement}
 use Rattle.lent_list.proofs.memory.store.Tie as tie
 

@@ -6,8 +6,8 @@ use Rattle.wire.specs.Numbers.{numberOf}
 use Rattle.wire.proofs.Numbers.{bytes-each}
 use Rattle.node.proofs.NodeLaws.{same-value}
 use lib.ListN.{getD}
-use Rattle.lent_list.specs.Layout.{slotAt}
-use Rattle.lent_list.proofs.SlotLaws.{port-part, port-small, key-part}
+use Rattle.lent_list_laws.specs.Layout.{slotAt}
+use Rattle.lent_list_laws.proofs.SlotLaws.{port-part, port-small, key-part}
 use Rattle.lent_list.proofs.slot.read.Statement.{statement}
 use Rattle.lent_list.proofs.slot.read.Tie as tie
 

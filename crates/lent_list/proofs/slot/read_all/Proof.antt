@@ -9,8 +9,8 @@ use lib.Seq.{take-all}
 use Rattle.node.specs.declared.Node.{Node}
 use Rattle.node.specs.Values.{blankNode}
 use Rattle.lists.proofs.Shift.{slot-stored}
-use Rattle.lent_list.specs.Layout.{slotAt, slotsAt}
-use Rattle.lent_list.proofs.SlotLaws.{slot-lent, slots-at, slots-number}
+use Rattle.lent_list_laws.specs.Layout.{slotAt, slotsAt}
+use Rattle.lent_list_laws.proofs.SlotLaws.{slot-lent, slots-at, slots-number}
 use Rattle.lent_list.proofs.slot.read_all.Statement.{statement}
 use Rattle.lent_list.proofs.slot.read_all.Tie as tie
 

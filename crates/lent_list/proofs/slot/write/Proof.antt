@@ -11,7 +11,7 @@ use Rattle.wire.specs.Numbers.{bytesOf}
 use Rattle.node.specs.Values.{IsNode}
 use Rattle.node.proofs.Owned.{is-node}
 use Rattle.node.proofs.WriteLaws.{Fitting, lent-address, parts-fill, length-address, length-port, put-key}
-use Rattle.lent_list.specs.Layout.{slotBytes}
+use Rattle.lent_list_laws.specs.Layout.{slotBytes}
 use Rattle.lent_list.proofs.slot.write.Statement.{statement}
 use Rattle.lent_list.proofs.slot.write.Tie as tie
 

@@ -9,8 +9,8 @@ use lib.Seq.{take-all}
 use Rattle.wire.proofs.Copy.{written-part}
 use Rattle.node.specs.declared.Node.{Node}
 use Rattle.nearest.proofs.Front.{noNode}
-use Rattle.lent_list.specs.Layout.{slotBytes, slotsBytes}
-use Rattle.lent_list.proofs.SlotLaws.{slot-lent, slots-more}
+use Rattle.lent_list_laws.specs.Layout.{slotBytes, slotsBytes}
+use Rattle.lent_list_laws.proofs.SlotLaws.{slot-lent, slots-more}
 use Rattle.lent_list.proofs.slot.write_all.Statement.{statement}
 use Rattle.lent_list.proofs.slot.write_all.Tie as tie
 

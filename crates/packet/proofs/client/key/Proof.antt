@@ -8,7 +8,8 @@ use types.Run.{OneOf, miss}
 use denote.Enum.Declared.{tagOf}
 use Rattle.packet.specs.declared.client.RelayPacket.{RelayPacket}
 use Rattle.packet.specs.declared.client.RelayPacket.the-variants.{RoutingResponse, ConnectNotification, DisconnectNotification, Ping, Pong, OobReceived, Data}
-use Rattle.packet.specs.ClientReads.{relayPacketOf, keyFromRelay}
+use Rattle.packet.specs.ClientReads.{relayPacketOf}
+use Rattle.packet_laws.specs.FromRelay.{keyFromRelay}
 use Rattle.packet.proofs.client.RelayPacket as enum
 use Rattle.packet.proofs.client.key.Statement.{statement}
 use Rattle.packet.proofs.client.key.Tie as tie

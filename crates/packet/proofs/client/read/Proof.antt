@@ -8,12 +8,13 @@ use native.Mathlib.Omega.{arith}
 use lib.ListN.{length, getD, drop, length-drop}
 use lib.Seq.{take-all}
 use Rattle.refusal.specs.declared.Refusal.the-variants.{PacketSize, UnexpectedKind, WrongLength, ZeroPing, NoSuchRoute}
-use Rattle.packet.specs.Read.{packet, check}
-use Rattle.packet.specs.Table.{kindOf, bodyOf, sizeRight, clientTakes, lengthRight, pingRight, numberRight}
-use Rattle.packet.specs.FromRelay.{fromRelay, clientRead}
-use Rattle.packet.proofs.KindLaws.{size-bounds, length-two}
-use Rattle.packet.proofs.CheckLaws.{Passes, fails-size, fails-kind, fails-length, fails-ping}
-use Rattle.packet.proofs.ClientLaws.{client-reads-refused, client-reads-packet, client-fails-number}
+use Rattle.packet_laws.specs.Read.{packet, check}
+use Rattle.packet_laws.specs.Table.{kindOf, bodyOf, sizeRight, clientTakes, lengthRight, pingRight, numberRight}
+use Rattle.packet_laws.specs.FromRelay.{fromRelay, clientRead}
+use Rattle.packet_laws.proofs.KindLaws.{size-bounds, length-two}
+use Rattle.packet_laws.proofs.CheckLaws.{Passes, fails-size, fails-kind, fails-length, fails-ping}
+use Rattle.packet.proofs.ClientLaws.{client-reads-refused, client-reads-packet}
+use Rattle.packet_laws.proofs.ClientKinds.{client-fails-number}
 use Rattle.packet.proofs.client.read.Statement.{statement}
 use Rattle.packet.proofs.client.read.Tie as tie
 

@@ -9,9 +9,9 @@ use lib.ListN.{length, take, drop, length-drop}
 use lib.Seq.{take-all, getD-drop}
 use Rattle.wire.specs.Numbers.{numberOf}
 use Rattle.packet.specs.declared.client.RelayPacket.the-variants.{RoutingResponse, ConnectNotification, DisconnectNotification, Ping, Pong, OobReceived, Data}
-use Rattle.packet.specs.FromRelay.{fromRelay}
+use Rattle.packet_laws.specs.FromRelay.{fromRelay}
 use Rattle.packet.specs.ClientReads.{shownRelay}
-use Rattle.packet.proofs.KindLaws.{length-two, length-oob-received, from-relay-other}
+use Rattle.packet_laws.proofs.KindLaws.{length-two, length-oob-received, from-relay-other}
 use Rattle.packet.proofs.client.shown.Statement.{statement}
 use Rattle.packet.proofs.client.shown.Tie as tie
 

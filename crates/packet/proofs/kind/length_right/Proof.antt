@@ -5,8 +5,8 @@ use Prim.Native.Nat.{ℕ}
 use native.Mathlib.Omega.{arith}
 use lib.Dec.{eqb, leb}
 use borrow.Author.Tests.{le-leb, lt-leb}
-use Rattle.packet.specs.Table.{lengthRight}
-use Rattle.packet.proofs.KindLaws.{in-range, length-data}
+use Rattle.packet_laws.specs.Table.{lengthRight}
+use Rattle.packet_laws.proofs.KindLaws.{in-range, length-data}
 use Rattle.packet.proofs.kind.length_right.Statement.{statement}
 use Rattle.packet.proofs.kind.length_right.Tie as tie
 

@@ -4,8 +4,8 @@ use Prim.Native.Nat.{ℕ}
 use native.Mathlib.Omega.{arith}
 use lib.Dec.{leb}
 use borrow.Author.Tests.{ne-eqb}
-use Rattle.packet.specs.Table.{numberRight}
-use Rattle.packet.proofs.KindLaws.{in-range, number-other}
+use Rattle.packet_laws.specs.Table.{numberRight}
+use Rattle.packet_laws.proofs.KindLaws.{in-range, number-other}
 use Rattle.packet.proofs.kind.number_right.Statement.{statement}
 use Rattle.packet.proofs.kind.number_right.Tie as tie
 

@@ -7,8 +7,8 @@ use native.Mathlib.Omega.{arith}
 use lib.Dec.{eqb}
 use lib.ListN.{take}
 use Rattle.wire.specs.Numbers.{numberOf}
-use Rattle.packet.specs.Table.{pingRight}
-use Rattle.packet.proofs.KindLaws.{in-range, ping-other}
+use Rattle.packet_laws.specs.Table.{pingRight}
+use Rattle.packet_laws.proofs.KindLaws.{in-range, ping-other}
 use Rattle.packet.proofs.kind.ping_right.Statement.{statement}
 use Rattle.packet.proofs.kind.ping_right.Tie as tie
 

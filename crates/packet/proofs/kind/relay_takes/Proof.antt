@@ -4,8 +4,8 @@ use mathlib.Core.Bool.{true}
 use Prim.Native.Nat.{ℕ}
 use native.Mathlib.Omega.{arith}
 use borrow.Author.Tests.{ne-eqb, lt-leb}
-use Rattle.packet.specs.Table.{relayTakes}
-use Rattle.packet.proofs.KindLaws.{in-range, relay-takes-data}
+use Rattle.packet_laws.specs.Table.{relayTakes}
+use Rattle.packet_laws.proofs.KindLaws.{in-range, relay-takes-data}
 use Rattle.packet.proofs.kind.relay_takes.Statement.{statement}
 use Rattle.packet.proofs.kind.relay_takes.Tie as tie
 

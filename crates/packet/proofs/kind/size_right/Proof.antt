@@ -2,7 +2,7 @@
 use mathlib.Core.Path.{sym, ap}
 use native.Mathlib.Omega.{arith}
 use borrow.Author.Tests.{le-leb}
-use Rattle.packet.specs.Table.{sizeRight}
+use Rattle.packet_laws.specs.Table.{sizeRight}
 use Rattle.packet.proofs.kind.size_right.Statement.{statement}
 use Rattle.packet.proofs.kind.size_right.Tie as tie
 

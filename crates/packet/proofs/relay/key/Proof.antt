@@ -8,7 +8,8 @@ use types.Run.{OneOf, miss}
 use denote.Enum.Declared.{tagOf}
 use Rattle.packet.specs.declared.relay.ClientPacket.{ClientPacket}
 use Rattle.packet.specs.declared.relay.ClientPacket.the-variants.{RoutingRequest, DropRoute, Ping, Pong, OobSend, Data}
-use Rattle.packet.specs.RelayReads.{clientPacketOf, keyFromClient}
+use Rattle.packet.specs.RelayReads.{clientPacketOf}
+use Rattle.packet_laws.specs.FromClient.{keyFromClient}
 use Rattle.packet.proofs.relay.ClientPacket as enum
 use Rattle.packet.proofs.relay.key.Statement.{statement}
 use Rattle.packet.proofs.relay.key.Tie as tie

@@ -8,11 +8,11 @@ use native.Mathlib.Omega.{arith}
 use lib.ListN.{length, getD, drop, length-drop}
 use lib.Seq.{take-all}
 use Rattle.refusal.specs.declared.Refusal.the-variants.{PacketSize, UnexpectedKind, WrongLength, ZeroPing}
-use Rattle.packet.specs.Read.{packet}
-use Rattle.packet.specs.Table.{kindOf, bodyOf, sizeRight, relayTakes, lengthRight, pingRight}
-use Rattle.packet.specs.FromClient.{fromClient, relayRead}
-use Rattle.packet.proofs.KindLaws.{size-bounds}
-use Rattle.packet.proofs.CheckLaws.{Passes, fails-size, fails-kind, fails-length, fails-ping}
+use Rattle.packet_laws.specs.Read.{packet}
+use Rattle.packet_laws.specs.Table.{kindOf, bodyOf, sizeRight, relayTakes, lengthRight, pingRight}
+use Rattle.packet_laws.specs.FromClient.{fromClient, relayRead}
+use Rattle.packet_laws.proofs.KindLaws.{size-bounds}
+use Rattle.packet_laws.proofs.CheckLaws.{Passes, fails-size, fails-kind, fails-length, fails-ping}
 use Rattle.packet.proofs.RelayLaws.{relay-reads-refused, relay-reads-packet}
 use Rattle.packet.proofs.relay.read.Statement.{statement}
 use Rattle.packet.proofs.relay.read.Tie as tie

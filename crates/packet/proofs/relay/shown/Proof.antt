@@ -9,9 +9,9 @@ use lib.ListN.{length, take, drop, length-drop}
 use lib.Seq.{take-all, getD-drop}
 use Rattle.wire.specs.Numbers.{numberOf}
 use Rattle.packet.specs.declared.relay.ClientPacket.the-variants.{DropRoute, Ping, Pong, OobSend, Data}
-use Rattle.packet.specs.FromClient.{fromClient}
+use Rattle.packet_laws.specs.FromClient.{fromClient}
 use Rattle.packet.specs.RelayReads.{shownClient}
-use Rattle.packet.proofs.KindLaws.{length-two, length-oob-send, from-client-other}
+use Rattle.packet_laws.proofs.KindLaws.{length-two, length-oob-send, from-client-other}
 use Rattle.packet.proofs.relay.shown.Statement.{statement}
 use Rattle.packet.proofs.relay.shown.Tie as tie
 

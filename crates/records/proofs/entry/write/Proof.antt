@@ -4,7 +4,7 @@ use mathlib.Core.Path.{sym, subst}
 use mathlib.Core.List.{_∷_}
 use Prim.Native.Nat.{ℕ}
 use Rattle.wire.specs.Numbers.{bytesOf}
-use Rattle.records.specs.declared.answer.Answer.{Answer}
+use Rattle.records.specs.declared.Answer.{Answer}
 use Rattle.records.specs.Entry.{answerOf, written, entryHead, WritesHead, WritesEntry}
 use Rattle.records.proofs.entry.write.Statement.{statement}
 use Rattle.records.proofs.entry.write.Tie as tie

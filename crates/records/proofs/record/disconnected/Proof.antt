@@ -3,7 +3,7 @@ use borrow.Author.Needs.{needs}
 use borrow.Rule.Slice.PartMut.{same-len-mid}
 use Prim.Native.Nat.{ℕ, _-_}
 use lib.ListN.{length}
-use Rattle.packet.specs.FromRelay.{disconnectNotice}
+use Rattle.packet_laws.specs.FromRelay.{disconnectNotice}
 use Rattle.records.proofs.WriteLaws.{behind-le, head-asked, record-written}
 use Rattle.records.proofs.record.disconnected.Statement.{statement}
 use Rattle.records.proofs.record.disconnected.Tie as tie

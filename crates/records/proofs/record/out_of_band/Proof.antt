@@ -3,7 +3,7 @@ use borrow.Author.Needs.{needs}
 use borrow.Rule.Slice.PartMut.{same-len-mid}
 use Prim.Native.Nat.{ℕ, _-_}
 use lib.ListN.{length}
-use Rattle.packet.specs.FromRelay.{oobReceived}
+use Rattle.packet_laws.specs.FromRelay.{oobReceived}
 use Rattle.records.proofs.WriteLaws.{behind-le, head-asked, record-written}
 use Rattle.records.proofs.record.out_of_band.Statement.{statement}
 use Rattle.records.proofs.record.out_of_band.Tie as tie

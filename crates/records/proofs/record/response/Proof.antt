@@ -3,7 +3,7 @@ use borrow.Author.Needs.{needs}
 use borrow.Rule.Slice.PartMut.{same-len-mid}
 use Prim.Native.Nat.{ℕ, _-_}
 use lib.ListN.{length}
-use Rattle.packet.specs.FromRelay.{routingResponse}
+use Rattle.packet_laws.specs.FromRelay.{routingResponse}
 use Rattle.records.proofs.WriteLaws.{behind-le, head-asked, record-written}
 use Rattle.records.proofs.record.response.Statement.{statement}
 use Rattle.records.proofs.record.response.Tie as tie

@@ -1,11 +1,11 @@
 -- `arrive::step` meets its contract: the two lookups decide as the rules do. Assumes nothing.
 use borrow.Author.Needs.{needs}
 use mathlib.Core.Path.{sym, _∙_}
-use Rattle.room.specs.View.{viewRoom}
-use Rattle.room.specs.Lookup.{seatHolding, lowestEmpty}
+use Rattle.room_laws.specs.View.{viewRoom}
+use Rattle.room_laws.specs.Lookup.{seatHolding, lowestEmpty}
 use Rattle.room_laws.proofs.LookupLaws.{seat-holding-finds, lowest-empty-finds}
-use Rattle.room_laws.proofs.AnswerLaws.{seat-found, seat-not-found}
-use Rattle.relay.specs.Calls.{answerOf}
+use Rattle.room.proofs.AnswerLaws.{seat-found, seat-not-found}
+use Rattle.relay_laws.specs.Calls.{answerOf}
 use Rattle.relay.proofs.ArriveCases.{arrive-seated, arrive-full, arrive-seat}
 use Rattle.relay.proofs.arrive.step.Statement.{statement}
 use Rattle.relay.proofs.arrive.step.Tie as tie

@@ -6,8 +6,8 @@ use mathlib.Core.List.{[]}
 use native.Mathlib.Omega.{arith}
 use lib.ListN.{length, length-map}
 use Rattle.rules.specs.Call.{arrive}
-use Rattle.relay.specs.Calls.{answerOf}
-use Rattle.relay.proofs.CallsLaws.{not-whole, is-tested, long-enough}
+use Rattle.relay_laws.specs.Calls.{answerOf}
+use Rattle.relay_laws.proofs.CallsLaws.{not-whole, is-tested, long-enough}
 use Rattle.relay.proofs.calls.arrive.Statement.{statement}
 use Rattle.relay.proofs.calls.arrive.Tie as tie
 

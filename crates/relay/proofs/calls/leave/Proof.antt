@@ -3,8 +3,8 @@ use borrow.Author.Needs.{needs}
 use borrow.Author.Tests.{not-true, not-false}
 use mathlib.Core.Path.{sym, _∙_}
 use Rattle.rules.specs.Call.{leave}
-use Rattle.relay.specs.Calls.{answerOf}
-use Rattle.relay.proofs.CallsLaws.{not-whole, is-tested, too-short, long-enough}
+use Rattle.relay_laws.specs.Calls.{answerOf}
+use Rattle.relay_laws.proofs.CallsLaws.{not-whole, is-tested, too-short, long-enough}
 use Rattle.relay.proofs.calls.leave.Statement.{statement}
 use Rattle.relay.proofs.calls.leave.Tie as tie
 

@@ -3,12 +3,12 @@ use borrow.Author.Needs.{needs}
 use borrow.Author.Tests.{not-true, not-false}
 use mathlib.Core.Path.{sym, _∙_}
 use Rattle.rules.specs.Outcome.{peer}
-use Rattle.room.specs.View.{viewRoom, seatHeld}
+use Rattle.room_laws.specs.View.{viewRoom, seatHeld}
 use Rattle.room.specs.Numbers.{routeNumbered, peerOf}
-use Rattle.room.specs.Lookup.{peerWanting}
-use Rattle.relay.specs.Calls.{answerOf}
+use Rattle.room_laws.specs.Lookup.{peerWanting}
+use Rattle.relay_laws.specs.Calls.{answerOf}
 use Rattle.relay.proofs.SeatedClient.{sits-numbered, wanted-free, wanted-wants, peer-is}
-use Rattle.room_laws.proofs.PeersFound.{found-back, found-right}
+use Rattle.room.proofs.PeersFound.{found-back, found-right}
 use Rattle.relay.proofs.CarryCases.{data-free, data-carried}
 use Rattle.relay.proofs.carry.data.Statement.{statement}
 use Rattle.relay.proofs.carry.data.Tie as tie

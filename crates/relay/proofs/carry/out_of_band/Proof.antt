@@ -1,13 +1,13 @@
 -- `carry::out_of_band` meets its contract: the seat that holds the key decides. Assumes nothing.
 use borrow.Author.Needs.{needs}
 use mathlib.Core.Path.{sym, _∙_}
-use Rattle.room.specs.View.{viewRoom, seatHeld}
+use Rattle.room_laws.specs.View.{viewRoom, seatHeld}
 use native.Mathlib.Omega.{arith}
-use Rattle.room.specs.Lookup.{seatHolding}
+use Rattle.room_laws.specs.Lookup.{seatHolding}
 use Rattle.room_laws.proofs.LookupLaws.{seat-holding-finds}
-use Rattle.room_laws.proofs.AnswerLaws.{seat-found, seat-not-found}
+use Rattle.room.proofs.AnswerLaws.{seat-found, seat-not-found}
 use Rattle.records.proofs.Fits.{out-of-band-fits}
-use Rattle.relay.specs.Calls.{answerOf}
+use Rattle.relay_laws.specs.Calls.{answerOf}
 use Rattle.relay.proofs.CarryCases.{oob-nobody, oob-seat}
 use Rattle.relay.proofs.carry.out_of_band.Statement.{statement}
 use Rattle.relay.proofs.carry.out_of_band.Tie as tie

@@ -3,7 +3,7 @@ use borrow.Author.Needs.{needs}
 use mathlib.Core.Path.{subst}
 use native.Mathlib.Omega.{arith}
 use Rattle.records.proofs.Fits.{data-fits}
-use Rattle.relay.specs.Calls.{answerOf}
+use Rattle.relay_laws.specs.Calls.{answerOf}
 use Rattle.room.specs.Numbers.{PeerRight}
 use Rattle.relay.proofs.CarryCases.{carried-alone, carried-joined}
 use Rattle.relay.proofs.carry.to_peer.Statement.{statement}

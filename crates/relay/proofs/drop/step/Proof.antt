@@ -2,7 +2,7 @@
 use borrow.Author.Needs.{needs}
 use native.Mathlib.Omega.{arith}
 use borrow.Author.Tests.{not-true, not-false}
-use Rattle.relay.specs.Calls.{answerOf}
+use Rattle.relay_laws.specs.Calls.{answerOf}
 use Rattle.relay.proofs.DropCases.{drop-none, drop-high, drop-route}
 use Rattle.relay.proofs.drop.step.Statement.{statement}
 use Rattle.relay.proofs.drop.step.Tie as tie

@@ -2,7 +2,7 @@
 use borrow.Author.Needs.{needs}
 use borrow.Author.Tests.{not-true, not-false}
 use mathlib.Core.Path.{sym, _∙_}
-use Rattle.relay.specs.Calls.{answerOf}
+use Rattle.relay_laws.specs.Calls.{answerOf}
 use Rattle.relay.proofs.LeaveCases.{leave-none, leave-sits, leave-seat}
 use Rattle.relay.proofs.leave.step.Statement.{statement}
 use Rattle.relay.proofs.leave.step.Tie as tie

@@ -1,8 +1,8 @@
 -- `leave::tell_peer` meets its contract: a record where the number's route has a connected peer, none where not. Assumes nothing.
 use borrow.Author.Needs.{needs}
 use borrow.Author.Tests.{not-true, not-false}
-use Rattle.room.specs.Lookup.{peerWanting}
-use Rattle.room_laws.proofs.PeersFound.{found-joined}
+use Rattle.room_laws.specs.Lookup.{peerWanting}
+use Rattle.room.proofs.PeersFound.{found-joined}
 use Rattle.records.proofs.Fits.{disconnected-fits}
 use Rattle.relay.proofs.LeaveCases.{tell-none, tell-alone, tell-joined}
 use Rattle.relay.proofs.SeatedClient.{peer-is}

@@ -6,8 +6,8 @@ use native.Mathlib.Omega.{arith}
 use lib.ListN.{length, take, getD}
 use Rattle.rules.specs.Room.{free}
 use Rattle.rules.specs.Outcome.{tellPeer, tellPeers}
-use Rattle.room.specs.Layout.{routesTable}
-use Rattle.room.specs.View.{viewRoom, viewRoutes}
+use Rattle.room_laws.specs.Layout.{routesTable}
+use Rattle.room_laws.specs.View.{viewRoom, viewRoutes}
 use Rattle.room_laws.proofs.ViewLaws.{view-routes-length}
 use Rattle.room_laws.proofs.WholeLaws.{whole-few}
 use Rattle.records.specs.Output.{Appends}

@@ -2,15 +2,15 @@
 use borrow.Author.Needs.{needs}
 use native.Mathlib.Omega.{arith}
 use mathlib.Core.List.{_∷_, []}
-use Rattle.packet.specs.FromClient.{relayRead, Within}
-use Rattle.packet.specs.FromRelay as relay
+use Rattle.packet_laws.specs.FromClient.{relayRead, Within}
+use Rattle.packet_laws.specs.FromRelay as relay
 use Rattle.packet.specs.RelayReads.{clientPacketOf, clientPart}
-use Rattle.packet.proofs.ReadBounds.{read-within}
+use Rattle.packet_laws.proofs.ReadBounds.{read-within}
 use Rattle.rules.specs.Outcome.{act, to}
-use Rattle.room.specs.View.{viewRoom, seatHeld}
+use Rattle.room_laws.specs.View.{viewRoom, seatHeld}
 use Rattle.records.proofs.Fits.{answered-fits}
-use Rattle.relay.specs.Calls.{answerOf}
-use Rattle.relay.proofs.OutcomeLeaves.{leaves-none, leaves-sent}
+use Rattle.relay_laws.specs.Calls.{answerOf}
+use Rattle.relay_laws.proofs.OutcomeLeaves.{leaves-none, leaves-sent}
 use Rattle.relay.proofs.PacketCases.{acted, shows-as, shows-request, shows-oob, shows-data}
 use Rattle.relay.proofs.packet_call.act.Statement.{statement}
 use Rattle.relay.proofs.packet_call.act.Tie as tie

@@ -2,10 +2,10 @@
 use borrow.Author.Needs.{needs}
 use borrow.Author.Tests.{not-true, not-false}
 use mathlib.Core.Path.{sym, _∙_}
-use Rattle.packet.specs.FromClient.{relayRead}
+use Rattle.packet_laws.specs.FromClient.{relayRead}
 use Rattle.packet.proofs.RelayLaws.{refusal-taken}
-use Rattle.room.specs.View.{viewRoom, seatHeld}
-use Rattle.relay.specs.Calls.{answerOf}
+use Rattle.room_laws.specs.View.{viewRoom, seatHeld}
+use Rattle.relay_laws.specs.Calls.{answerOf}
 use Rattle.relay.proofs.LeaveCases.{leave-sits}
 use Rattle.relay.proofs.PacketCases.{from-seat, from-empty, turned-down, shows-refused}
 use Rattle.relay.proofs.packet_call.step.Statement.{statement}

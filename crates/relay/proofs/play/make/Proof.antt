@@ -7,7 +7,7 @@ use native.Mathlib.Nat.{add-sub-cancel-left}
 use native.Mathlib.Omega.{arith}
 use lib.ListN.{take, drop}
 use Rattle.rules.specs.Call.{arrive, leave, packetCall}
-use Rattle.room.specs.View.{viewRoom}
+use Rattle.room_laws.specs.View.{viewRoom}
 use Rattle.stored.specs.Stored.{call}
 use Rattle.relay.specs.PlaySteps.{Reads}
 use Rattle.relay.proofs.MakeCases.{arrive-read, leave-read, packet-read, makes, quiet-arrival, key-read}

@@ -2,7 +2,7 @@
 use borrow.Author.Needs.{needs}
 use borrow.Author.Tests.{not-true, not-false}
 use mathlib.Core.Path.{sym, _∙_}
-use Rattle.relay.proofs.CallsLaws.{play-not-whole, play-tested}
+use Rattle.relay.proofs.PlayTested.{play-not-whole, play-tested}
 use Rattle.relay.proofs.play.play.Statement.{statement}
 use Rattle.relay.proofs.play.play.Tie as tie
 

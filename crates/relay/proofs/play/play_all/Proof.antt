@@ -6,7 +6,7 @@ use mathlib.Core.Bool.{true}
 use Prim.Native.Nat.{ℕ, _-_, _≤_}
 use native.Mathlib.Omega.{arith}
 use lib.ListN.{length}
-use Rattle.room.specs.Whole.{roomWhole}
+use Rattle.room_laws.specs.Whole.{roomWhole}
 use Rattle.relay.proofs.RunCases.{rests-all}
 use Rattle.relay.proofs.TurnCases.{Leads, leads-begun, turn-last, turn-more}
 use Rattle.relay.proofs.play.play_all.Statement.{statement}

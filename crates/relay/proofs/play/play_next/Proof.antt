@@ -5,11 +5,11 @@ use Prim.Native.Nat.{_≤_}
 use native.Mathlib.Omega.{arith}
 use lib.ListN.{length}
 use Rattle.rules.specs.History.{event}
-use Rattle.room.specs.View.{viewRoom}
+use Rattle.room_laws.specs.View.{viewRoom}
 use Rattle.records.proofs.EntryLaws.{entry-within}
 use Rattle.relay.specs.declared.play.Next.the-variants.{Played}
 use Rattle.relay.specs.declared.play.Stop.the-variants.{End, NoCall, Allowance, Output}
-use Rattle.relay.specs.Calls.{answerOf}
+use Rattle.relay_laws.specs.Calls.{answerOf}
 use Rattle.relay.specs.Play.{entryBytes}
 use Rattle.relay.specs.PlaySteps.{stopped, played}
 use Rattle.relay.proofs.PlayLaws.{least-space, next-end, next-allowance, next-no-call, next-output, next-plays}

@@ -3,12 +3,12 @@ use borrow.Author.Needs.{needs}
 use mathlib.Core.Path.{_≡_, sym, _∙_}
 use native.Mathlib.Omega.{arith}
 use lib.ListN.{length, length-map}
-use Rattle.room.specs.Lookup.{peerWanting}
+use Rattle.room_laws.specs.Lookup.{peerWanting}
 use Rattle.records.specs.Output.{given}
 use Rattle.records.proofs.Fits.{response-fits}
 use Rattle.relay.proofs.RequestCases.{response-next, gives}
 use Rattle.relay.proofs.SeatedClient.{peer-is}
-use Rattle.room_laws.proofs.PeersFound.{found-right}
+use Rattle.room.proofs.PeersFound.{found-right}
 use Rattle.relay.proofs.request.give.Statement.{statement}
 use Rattle.relay.proofs.request.give.Tie as tie
 

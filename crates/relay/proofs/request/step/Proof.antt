@@ -1,10 +1,10 @@
 -- `request::step` meets its contract: the two lookups decide as the rules do. Assumes nothing.
 use borrow.Author.Needs.{needs}
 use native.Mathlib.Omega.{arith}
-use Rattle.room.specs.Lookup.{routeWanting, lowestRoute}
+use Rattle.room_laws.specs.Lookup.{routeWanting, lowestRoute}
 use Rattle.records.specs.Output.{none, given}
 use Rattle.records.proofs.Fits.{response-fits}
-use Rattle.relay.specs.Calls.{answerOf}
+use Rattle.relay_laws.specs.Calls.{answerOf}
 use Rattle.relay.proofs.RequestCases.{request-old, request-full, request-given, number-right}
 use Rattle.relay.proofs.request.step.Statement.{statement}
 use Rattle.relay.proofs.request.step.Tie as tie

@@ -4,7 +4,7 @@ use native.Mathlib.Omega.{arith}
 use Rattle.records.proofs.AppendLaws.{appends-length}
 use Rattle.records.proofs.Fits.{connected-fits}
 use Rattle.relay.proofs.RequestCases.{connected-next, tells-nobody, tells-both}
-use Rattle.room_laws.proofs.PeersFound.{joined-right}
+use Rattle.room.proofs.PeersFound.{joined-right}
 use Rattle.relay.proofs.request.tell_both.Statement.{statement}
 use Rattle.relay.proofs.request.tell_both.Tie as tie
 

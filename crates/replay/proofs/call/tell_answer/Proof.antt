@@ -3,8 +3,8 @@ use borrow.Author.Needs.{needs}
 use mathlib.Core.Path.{subst}
 use Prim.Native.Nat.{_≤_}
 use lib.ListN.{length}
-use Rattle.relay.specs.Calls.{answerOf, written}
-use Rattle.records.specs.declared.answer.Answer.{Answer}
+use Rattle.relay_laws.specs.Calls.{answerOf, written}
+use Rattle.records.specs.declared.Answer.{Answer}
 use Rattle.replay.proofs.call.tell_answer.Statement.{statement}
 use Rattle.replay.proofs.call.tell_answer.Tie as tie
 

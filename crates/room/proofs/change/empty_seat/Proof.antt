@@ -5,11 +5,11 @@ use mathlib.Core.Path.{_≡_, sym, ap, ap₂, _∙_}
 use mathlib.Core.List.{List}
 use Prim.Native.Nat.{ℕ, _-_}
 use lib.ListN.{take, drop}
-use Rattle.table.specs.Bytes.{splice}
-use Rattle.table.specs.Table.{freedIn}
-use Rattle.room.specs.Layout.{seatsBytes}
+use Rattle.table_laws.specs.Bytes.{splice}
+use Rattle.table_laws.specs.Table.{freedIn}
+use Rattle.room_laws.specs.Layout.{seatsBytes}
 use Rattle.room.proofs.StoreSteps.{store-emptied, store-emptied-not}
-use Rattle.room.proofs.LayoutLaws.{fits-facts, room-long, seats-lent, seats-cut}
+use Rattle.room_laws.proofs.LayoutLaws.{fits-facts, room-long, seats-lent, seats-cut}
 use Rattle.room.proofs.change.empty_seat.Statement.{statement}
 use Rattle.room.proofs.change.empty_seat.Tie as tie
 

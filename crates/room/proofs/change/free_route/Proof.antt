@@ -6,11 +6,11 @@ use mathlib.Core.List.{List}
 use Prim.Native.Nat.{ℕ, _-_}
 use lib.ListN.{take, drop}
 use native.Mathlib.Nat.{add-sub-cancel-left}
-use Rattle.table.specs.Table.{freedIn}
-use Rattle.room.specs.Layout.{routesBytes, routesStart}
+use Rattle.table_laws.specs.Table.{freedIn}
+use Rattle.room_laws.specs.Layout.{routesBytes, routesStart}
 use Rattle.room.proofs.StoreSteps.{number-low-freed, freed-not, freed-in, replaced}
 use Rattle.room.proofs.LookupSteps.{has-seat-facts}
-use Rattle.room.proofs.LayoutLaws.{fits-facts, routes-end, routes-lent}
+use Rattle.room_laws.proofs.LayoutLaws.{fits-facts, routes-end, routes-lent}
 use Rattle.room.proofs.change.free_route.Statement.{statement}
 use Rattle.room.proofs.change.free_route.Tie as tie
 

@@ -4,9 +4,9 @@ use borrow.Author.Tests.{not-true, not-false}
 use mathlib.Core.Path.{refl, sym, ap, _∙_}
 use Prim.Native.Nat.{ℕ, _-_}
 use lib.ListN.{take, drop}
-use Rattle.table.specs.Table.{putIn}
+use Rattle.table_laws.specs.Table.{putIn}
 use Rattle.room.proofs.StoreSteps.{store-taken, store-taken-not, replaced, put-same}
-use Rattle.room.proofs.LayoutLaws.{fits-facts, few-numbers, room-long, seats-lent, seats-cut}
+use Rattle.room_laws.proofs.LayoutLaws.{fits-facts, few-numbers, room-long, seats-lent, seats-cut}
 use Rattle.room.proofs.change.take_seat.Statement.{statement}
 use Rattle.room.proofs.change.take_seat.Tie as tie
 

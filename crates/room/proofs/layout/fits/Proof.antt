@@ -5,7 +5,7 @@ use mathlib.Core.Path.{sym, ap, _∙_}
 use Prim.Native.Nat.{ℕ}
 use lib.ListN.{length}
 use lib.Dec.{leb}
-use Rattle.room.proofs.LayoutLaws.{sizes-facts, fits-is, fits-not}
+use Rattle.room_laws.proofs.LayoutLaws.{sizes-facts, fits-is, fits-not}
 use Rattle.room.proofs.layout.fits.Statement.{statement}
 use Rattle.room.proofs.layout.fits.Tie as tie
 

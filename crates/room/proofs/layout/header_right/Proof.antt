@@ -1,7 +1,7 @@
 -- `layout::header_right` meets its contract. Assumes nothing.
 use mathlib.Core.Path.{sym}
 use native.Mathlib.Omega.{arith}
-use Rattle.room.proofs.LayoutLaws.{room-long}
+use Rattle.room_laws.proofs.LayoutLaws.{room-long}
 use Rattle.room.proofs.WholeSteps.{header-is, header-not}
 use Rattle.room.proofs.layout.header_right.Statement.{statement}
 use Rattle.room.proofs.layout.header_right.Tie as tie

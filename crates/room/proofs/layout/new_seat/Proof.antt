@@ -4,7 +4,7 @@ use mathlib.Core.Path.{refl, ap, _∙_}
 use mathlib.Core.List.{List, _++_}
 use Prim.Native.Nat.{ℕ, _+_, _-_}
 use lib.ListN.{replicate}
-use Rattle.room.specs.Store.{newSeat}
+use Rattle.room_laws.specs.Store.{newSeat}
 use Rattle.key.proofs.Lent.{with-key-whole}
 use Rattle.room.proofs.layout.new_seat.Statement.{statement}
 use Rattle.room.proofs.layout.new_seat.Tie as tie

@@ -3,7 +3,7 @@ use borrow.Author.Needs.{needs}
 use mathlib.Core.Path.{ap}
 use native.Mathlib.Omega.{arith}
 use Prim.Native.Nat.{ℕ, _+_, _*_}
-use Rattle.room.proofs.LayoutLaws.{seats-area}
+use Rattle.room_laws.proofs.LayoutLaws.{seats-area}
 use Rattle.room.proofs.layout.room_bytes.Statement.{statement}
 use Rattle.room.proofs.layout.room_bytes.Tie as tie
 

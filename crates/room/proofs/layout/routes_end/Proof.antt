@@ -3,9 +3,9 @@ use borrow.Author.Needs.{needs}
 use mathlib.Core.Path.{ap₂}
 use native.Mathlib.Omega.{arith}
 use Prim.Native.Nat.{ℕ, _+_}
-use Rattle.table.proofs.Listed.{row-fits}
-use Rattle.room.specs.Layout.{seatBytes}
-use Rattle.room.proofs.LayoutLaws.{seats-area}
+use Rattle.table_laws.proofs.Listed.{row-fits}
+use Rattle.room_laws.specs.Layout.{seatBytes}
+use Rattle.room_laws.proofs.LayoutLaws.{seats-area}
 use Rattle.room.proofs.layout.routes_end.Statement.{statement}
 use Rattle.room.proofs.layout.routes_end.Tie as tie
 

@@ -3,7 +3,7 @@ use borrow.Author.Needs.{needs}
 use mathlib.Core.Path.{ap₂, _∙_}
 use Prim.Native.Nat.{ℕ, _-_}
 use lib.ListN.{take, drop}
-use Rattle.room.proofs.LayoutLaws.{fits-facts, routes-end, routes-lent}
+use Rattle.room_laws.proofs.LayoutLaws.{fits-facts, routes-end, routes-lent}
 use Rattle.room.proofs.layout.routes_table.Statement.{statement}
 use Rattle.room.proofs.layout.routes_table.Tie as tie
 

@@ -3,7 +3,7 @@ use borrow.Author.Needs.{needs}
 use mathlib.Core.Path.{ap, _∙_}
 use Prim.Native.Nat.{ℕ, _-_}
 use lib.ListN.{take, drop}
-use Rattle.room.proofs.LayoutLaws.{fits-facts, seats-lent}
+use Rattle.room_laws.proofs.LayoutLaws.{fits-facts, seats-lent}
 use Rattle.room.proofs.layout.seat_table.Statement.{statement}
 use Rattle.room.proofs.layout.seat_table.Tie as tie
 

@@ -1,6 +1,6 @@
 -- `layout::sizes_right` meets its contract. Assumes nothing.
 use mathlib.Core.Path.{sym}
-use Rattle.room.proofs.LayoutLaws.{sizes-is, sizes-many}
+use Rattle.room_laws.proofs.LayoutLaws.{sizes-is, sizes-many}
 use Rattle.room.proofs.layout.sizes_right.Statement.{statement}
 use Rattle.room.proofs.layout.sizes_right.Tie as tie
 

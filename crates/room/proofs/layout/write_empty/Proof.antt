@@ -2,7 +2,7 @@
 use borrow.Author.Needs.{needs}
 use native.Mathlib.Omega.{arith}
 use lib.ListN.{length-set}
-use Rattle.room.proofs.LayoutLaws.{few-seats, few-numbers, room-long}
+use Rattle.room_laws.proofs.LayoutLaws.{few-seats, few-numbers, room-long}
 use Rattle.room.proofs.StoreSteps.{empty-written}
 use Rattle.room.proofs.layout.write_empty.Statement.{statement}
 use Rattle.room.proofs.layout.write_empty.Tie as tie

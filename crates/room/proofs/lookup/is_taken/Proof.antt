@@ -4,7 +4,7 @@ use borrow.Author.Tests.{not-true, not-false}
 use mathlib.Core.Path.{sym, ap, _∙_}
 use mathlib.Core.List.{List}
 use Prim.Native.Nat.{ℕ, _-_}
-use Rattle.table.specs.Table.{isUsed}
+use Rattle.table_laws.specs.Table.{isUsed}
 use Rattle.room.proofs.LookupSteps.{has-seat-facts, taken-in, taken-not}
 use Rattle.room.proofs.lookup.is_taken.Statement.{statement}
 use Rattle.room.proofs.lookup.is_taken.Tie as tie

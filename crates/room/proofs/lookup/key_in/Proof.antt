@@ -4,9 +4,9 @@ use borrow.Author.Tests.{not-true, not-false}
 use mathlib.Core.Path.{sym, ap₂, _∙_}
 use mathlib.Core.List.{List}
 use Prim.Native.Nat.{ℕ, _-_}
-use Rattle.table.specs.Table.{keyOfPlace}
+use Rattle.table_laws.specs.Table.{keyOfPlace}
 use Rattle.room.proofs.LookupSteps.{has-seat-facts, key-in-seat, key-in-none}
-use Rattle.room.proofs.LayoutLaws.{few-numbers}
+use Rattle.room_laws.proofs.LayoutLaws.{few-numbers}
 use Rattle.room.proofs.lookup.key_in.Statement.{statement}
 use Rattle.room.proofs.lookup.key_in.Tie as tie
 

@@ -3,11 +3,11 @@ use borrow.Author.Needs.{needs}
 use borrow.Author.Tests.{not-true, not-false}
 use mathlib.Core.Path.{sym, ap, _∙_}
 use Prim.Native.Nat.{_-_}
-use Rattle.room.specs.Lookup.{placeIn}
-use Rattle.table.specs.Table.{lowestFree}
+use Rattle.room_laws.specs.Lookup.{placeIn}
+use Rattle.table_laws.specs.Table.{lowestFree}
 use Rattle.room.specs.Numbers.{seatFound}
 use Rattle.room.proofs.LookupSteps.{lowest-fits, lowest-not}
-use Rattle.room.proofs.LayoutLaws.{few-seats}
+use Rattle.room_laws.proofs.LayoutLaws.{few-seats}
 use Rattle.room.proofs.lookup.lowest_empty.Statement.{statement}
 use Rattle.room.proofs.lookup.lowest_empty.Tie as tie
 

@@ -3,11 +3,11 @@ use borrow.Author.Needs.{needs}
 use borrow.Author.Tests.{not-true, not-false}
 use mathlib.Core.Path.{sym, ap, _∙_}
 use Prim.Native.Nat.{_-_}
-use Rattle.room.specs.Lookup.{placeIn}
-use Rattle.table.specs.Table.{lowestFree}
+use Rattle.room_laws.specs.Lookup.{placeIn}
+use Rattle.table_laws.specs.Table.{lowestFree}
 use Rattle.room.specs.Numbers.{numberFound}
 use Rattle.room.proofs.LookupSteps.{has-seat-facts, lowest-route-in, lowest-route-not}
-use Rattle.room.proofs.LayoutLaws.{few-numbers}
+use Rattle.room_laws.proofs.LayoutLaws.{few-numbers}
 use Rattle.room.proofs.lookup.lowest_free.Statement.{statement}
 use Rattle.room.proofs.lookup.lowest_free.Tie as tie
 

@@ -4,11 +4,11 @@ use borrow.Author.Tests.{not-true, not-false}
 use mathlib.Core.Path.{sym, ap, ap₂, _∙_}
 use mathlib.Core.List.{List}
 use Prim.Native.Nat.{ℕ, _-_}
-use Rattle.room.specs.Lookup.{placeIn}
-use Rattle.table.specs.Table.{found}
+use Rattle.room_laws.specs.Lookup.{placeIn}
+use Rattle.table_laws.specs.Table.{found}
 use Rattle.room.specs.Numbers.{seatFound}
 use Rattle.room.proofs.LookupSteps.{holding-fits, holding-not}
-use Rattle.room.proofs.LayoutLaws.{few-seats, few-numbers}
+use Rattle.room_laws.proofs.LayoutLaws.{few-seats, few-numbers}
 use Rattle.room.proofs.lookup.seat_of.Statement.{statement}
 use Rattle.room.proofs.lookup.seat_of.Tie as tie
 

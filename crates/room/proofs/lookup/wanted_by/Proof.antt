@@ -5,9 +5,9 @@ use mathlib.Core.Path.{sym, ap, _∙_}
 use mathlib.Core.List.{List}
 use Prim.Native.Nat.{ℕ, _-_}
 use Rattle.room.specs.Numbers.{wantedOf}
-use Rattle.room.specs.Lookup.{routeOfPlace}
+use Rattle.room_laws.specs.Lookup.{routeOfPlace}
 use Rattle.room.proofs.LookupSteps.{has-seat-facts, numbered-low, numbered-none, numbered-in}
-use Rattle.room.proofs.LayoutLaws.{routes-fit}
+use Rattle.room_laws.proofs.LayoutLaws.{routes-fit}
 use Rattle.room.proofs.lookup.wanted_by.Statement.{statement}
 use Rattle.room.proofs.lookup.wanted_by.Tie as tie
 

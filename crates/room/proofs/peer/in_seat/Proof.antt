@@ -1,6 +1,6 @@
 -- `peer::in_seat` meets its contract: the number found is that of the seat's route. Assumes nothing.
 use borrow.Author.Needs.{needs}
-use Rattle.room.specs.Lookup.{routeWanting}
+use Rattle.room_laws.specs.Lookup.{routeWanting}
 use Rattle.room.proofs.PeerSteps.{joined-found, alone-found}
 use Rattle.room.proofs.peer.in_seat.Statement.{statement}
 use Rattle.room.proofs.peer.in_seat.Tie as tie

@@ -1,7 +1,7 @@
 -- `peer::of` meets its contract: the seat that holds the wanted key, if another, and its route. Assumes nothing.
 use borrow.Author.Needs.{needs}
 use mathlib.Core.Path.{sym, ap, _∙_}
-use Rattle.room.specs.Lookup.{seatHolding, peerWanting}
+use Rattle.room_laws.specs.Lookup.{seatHolding, peerWanting}
 use Rattle.room.specs.Numbers.{peerFound}
 use Rattle.room.proofs.PeerSteps.{peer-none, peer-own, peer-other}
 use Rattle.room.proofs.peer.of.Statement.{statement}

@@ -5,9 +5,9 @@ use mathlib.Core.Path.{_≡_, refl, sym, ap, _∙_}
 use Prim.Native.Nat.{_-_, _≤_}
 use native.Mathlib.Omega.{arith}
 use lib.ListN.{length, drop}
-use Rattle.table.specs.Table.{listed, usedPlaces}
-use Rattle.room.specs.Layout.{seatTable}
-use Rattle.room.specs.Whole.{routesWhole}
+use Rattle.table_laws.specs.Table.{listed, usedPlaces}
+use Rattle.room_laws.specs.Layout.{seatTable}
+use Rattle.room_laws.specs.Whole.{routesWhole}
 use Rattle.room.proofs.WholeSteps.{seats-used, listed-low, routes-stop, routes-next, routes-end}
 use Rattle.room.proofs.whole.routes_whole.Statement.{statement}
 use Rattle.room.proofs.whole.routes_whole.Tie as tie

@@ -2,10 +2,10 @@
 use borrow.Author.Needs.{needs}
 use mathlib.Core.Path.{ap, _∙_}
 use Prim.Native.Nat.{_-_}
-use Rattle.table.specs.Table.{isTable}
-use Rattle.table.proofs.FitsLaws.{whole-fits}
-use Rattle.room.specs.Layout.{routesTable}
-use Rattle.room.proofs.LayoutLaws.{routes-fit}
+use Rattle.table_laws.specs.Table.{isTable}
+use Rattle.table_laws.proofs.FitsLaws.{whole-fits}
+use Rattle.room_laws.specs.Layout.{routesTable}
+use Rattle.room_laws.proofs.LayoutLaws.{routes-fit}
 use Rattle.room.proofs.whole.seat_whole.Statement.{statement}
 use Rattle.room.proofs.whole.seat_whole.Tie as tie
 

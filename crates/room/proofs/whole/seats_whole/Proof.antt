@@ -3,10 +3,10 @@ use borrow.Author.Needs.{needs}
 use mathlib.Core.Path.{ap₂, _∙_}
 use mathlib.Core.List.{List}
 use Prim.Native.Nat.{ℕ, _-_}
-use Rattle.table.specs.Table.{isTable}
-use Rattle.table.proofs.FitsLaws.{whole-fits}
-use Rattle.room.specs.Layout.{seatBytes, seatTable}
-use Rattle.room.proofs.LayoutLaws.{few-numbers, seats-fit}
+use Rattle.table_laws.specs.Table.{isTable}
+use Rattle.table_laws.proofs.FitsLaws.{whole-fits}
+use Rattle.room_laws.specs.Layout.{seatBytes, seatTable}
+use Rattle.room_laws.proofs.LayoutLaws.{few-numbers, seats-fit}
 use Rattle.room.proofs.whole.seats_whole.Statement.{statement}
 use Rattle.room.proofs.whole.seats_whole.Tie as tie
 

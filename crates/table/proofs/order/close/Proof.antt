@@ -6,7 +6,7 @@ use native.Mathlib.Omega.{arith}
 use lib.ListN.{length, take, drop, getD, set, length-set}
 use Rattle.lists.specs.Insert.{removeAt}
 use Rattle.lists.proofs.Shift.{close-begins, close-next, close-stored}
-use Rattle.table.specs.Table.{closed}
+use Rattle.table_laws.specs.Table.{closed}
 use Rattle.table.proofs.order.close.Statement.{statement}
 use Rattle.table.proofs.order.close.Tie as tie
 

@@ -6,8 +6,8 @@ use native.Mathlib.Omega.{arith}
 use lib.ListN.{length, drop}
 use Rattle.lists.specs.Find.{indexOf}
 use Rattle.lists.proofs.Members.{index-here, index-next, index-end}
-use Rattle.table.specs.Table.{listed}
-use Rattle.table.proofs.Listed.{listed-few, at-listed}
+use Rattle.table_laws.specs.Table.{listed}
+use Rattle.table_laws.proofs.Listed.{listed-few, at-listed}
 use Rattle.table.proofs.order.index_of.Statement.{statement}
 use Rattle.table.proofs.order.index_of.Tie as tie
 

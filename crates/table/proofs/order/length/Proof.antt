@@ -2,7 +2,7 @@
 use borrow.Author.Needs.{needs}
 use mathlib.Core.Path.{sym}
 use native.Mathlib.Omega.{arith}
-use Rattle.table.proofs.Listed.{length-listed, length-all}
+use Rattle.table_laws.proofs.Listed.{length-listed, length-all}
 use Rattle.table.proofs.order.length.Statement.{statement}
 use Rattle.table.proofs.order.length.Tie as tie
 

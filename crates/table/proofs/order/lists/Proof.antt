@@ -8,8 +8,8 @@ use native.Mathlib.Omega.{arith}
 use lib.ListN.{length, drop}
 use Rattle.lists.specs.Find.{member}
 use Rattle.lists.proofs.Members.{member-here, member-next, member-end}
-use Rattle.table.specs.Table.{listed}
-use Rattle.table.proofs.Listed.{listed-few, at-listed}
+use Rattle.table_laws.specs.Table.{listed}
+use Rattle.table_laws.proofs.Listed.{listed-few, at-listed}
 use Rattle.table.proofs.order.lists.Statement.{statement}
 use Rattle.table.proofs.order.lists.Tie as tie
 

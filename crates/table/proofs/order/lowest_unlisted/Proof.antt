@@ -4,7 +4,7 @@ use mathlib.Core.Path.{_≡_, refl, sym, ap, _∙_}
 use Prim.Native.Nat.{ℕ, _-_, _≤_}
 use native.Mathlib.Omega.{arith}
 use lib.ListN.{length}
-use Rattle.table.specs.Table.{listed, lowest}
+use Rattle.table_laws.specs.Table.{listed, lowest}
 use Rattle.table.specs.Marks.{Marked}
 use Rattle.table.proofs.LowestLaws.{mark-none, mark-not, mark-is, lowest-here, lowest-next, lowest-end}
 use Rattle.table.proofs.order.lowest_unlisted.Statement.{statement}

@@ -5,9 +5,9 @@ use Prim.Native.Nat.{ℕ, _+_, _-_, _<_, _≤_}
 use native.Mathlib.Omega.{arith}
 use lib.ListN.{length, take, getD, length-set}
 use lib.Seq.{take-all}
-use Rattle.table.specs.Table.{listed}
+use Rattle.table_laws.specs.Table.{listed}
 use Rattle.table.specs.Marks.{Marked}
-use Rattle.table.proofs.Listed.{listed-few, at-listed}
+use Rattle.table_laws.proofs.Listed.{listed-few, at-listed}
 use Rattle.table.proofs.LowestLaws.{mark-step}
 use Rattle.table.proofs.order.mark_listed.Statement.{statement}
 use Rattle.table.proofs.order.mark_listed.Tie as tie

@@ -7,7 +7,7 @@ use native.Mathlib.Omega.{arith}
 use lib.ListN.{length, take, drop, getD, set, length-set}
 use Rattle.lists.specs.Insert.{insertAt}
 use Rattle.lists.proofs.Shift.{at-in, open-begins, open-stored, open-carried}
-use Rattle.table.specs.Table.{entered}
+use Rattle.table_laws.specs.Table.{entered}
 use Rattle.table.proofs.order.open.Statement.{statement}
 use Rattle.table.proofs.order.open.Tie as tie
 

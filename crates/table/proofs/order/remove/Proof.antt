@@ -5,8 +5,8 @@ use mathlib.Core.Path.{_≡_, refl, ap, _∙_}
 use Prim.Native.Nat.{ℕ, _-_, _+_}
 use native.Mathlib.Omega.{arith}
 use lib.ListN.{take, drop, getD}
-use Rattle.table.specs.Table.{closed}
-use Rattle.table.proofs.Stores.{freed-none, freed-done}
+use Rattle.table_laws.specs.Table.{closed}
+use Rattle.table_laws.proofs.Stores.{freed-none, freed-done}
 use Rattle.table.proofs.order.remove.Statement.{statement}
 use Rattle.table.proofs.order.remove.Tie as tie
 

@@ -6,8 +6,8 @@ use mathlib.Core.Path.{_≡_, refl, sym, _∙_}
 use Prim.Native.Nat.{_≤_, _-_, _<_, _+_}
 use native.Mathlib.Omega.{arith}
 use lib.ListN.{length, drop, getD}
-use Rattle.table.specs.Table.{listed, keyAt, tableWhole, risingAfter}
-use Rattle.table.proofs.Listed.{whole-many, whole-none, whole-first, step-out, step-falls, step-on, step-end}
+use Rattle.table_laws.specs.Table.{listed, keyAt, tableWhole, risingAfter}
+use Rattle.table_laws.proofs.Listed.{whole-many, whole-none, whole-first, step-out, step-falls, step-on, step-end}
 use Rattle.table.proofs.records.all_rise.Statement.{statement}
 use Rattle.table.proofs.records.all_rise.Tie as tie
 

@@ -2,8 +2,8 @@
 use borrow.Author.Needs.{needs}
 use mathlib.Core.Path.{refl, sym}
 use lib.ListN.{getD}
-use Rattle.table.proofs.Listed.{first-key-before}
-use Rattle.table.proofs.SearchLaws.{none-before}
+use Rattle.table_laws.proofs.Listed.{first-key-before}
+use Rattle.table_laws.proofs.SearchLaws.{none-before}
 use Rattle.table.proofs.records.comes_before.Statement.{statement}
 use Rattle.table.proofs.records.comes_before.Tie as tie
 

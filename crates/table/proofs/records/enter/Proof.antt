@@ -8,9 +8,9 @@ use Prim.Native.Nat.{ℕ, _-_, _<_, _+_}
 use native.Mathlib.Omega.{arith}
 use lib.ListN.{length, take, drop, getD, length-set, length-drop}
 use lib.Seq.{length-take-le}
-use Rattle.table.specs.Table.{entered}
-use Rattle.table.proofs.Listed.{place-le}
-use Rattle.table.proofs.Stores.{opened-table, put-done}
+use Rattle.table_laws.specs.Table.{entered}
+use Rattle.table_laws.proofs.Listed.{place-le}
+use Rattle.table_laws.proofs.Stores.{opened-table, put-done}
 use Rattle.table.proofs.records.enter.Statement.{statement}
 use Rattle.table.proofs.records.enter.Tie as tie
 

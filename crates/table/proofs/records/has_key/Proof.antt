@@ -5,8 +5,8 @@ use mathlib.Core.List.{List}
 use Prim.Native.Nat.{ℕ}
 use lib.ListN.{getD}
 use Rattle.key.specs.Keys.{sameKey}
-use Rattle.table.proofs.Listed.{key-lent, length-key}
-use Rattle.table.proofs.SearchLaws.{none-same, first-other}
+use Rattle.table_laws.proofs.Listed.{key-lent, length-key}
+use Rattle.table_laws.proofs.SearchLaws.{none-same, first-other}
 use Rattle.table.proofs.records.has_key.Statement.{statement}
 use Rattle.table.proofs.records.has_key.Tie as tie
 

@@ -3,8 +3,8 @@ use mathlib.Core.Path.{_≡_, refl, sym, _∙_}
 use Prim.Native.Nat.{_≤_, _-_}
 use native.Mathlib.Omega.{arith}
 use lib.ListN.{length, drop}
-use Rattle.table.specs.Bytes.{keyBefore}
-use Rattle.table.proofs.KeyOrder.{key-before-differ, key-before-agree, key-before-end}
+use Rattle.table_laws.specs.Bytes.{keyBefore}
+use Rattle.table_laws.proofs.KeyOrder.{key-before-differ, key-before-agree, key-before-end}
 use Rattle.table.proofs.records.key_before.Statement.{statement}
 use Rattle.table.proofs.records.key_before.Tie as tie
 

@@ -5,8 +5,8 @@ use native.Mathlib.Omega.{arith}
 use lib.Seq.{take-all}
 use Rattle.key.specs.Keys.{keyOf}
 use Rattle.key.proofs.Lent.{key-whole}
-use Rattle.table.specs.Table.{keyAt}
-use Rattle.table.proofs.Listed.{key-lent, length-key}
+use Rattle.table_laws.specs.Table.{keyAt}
+use Rattle.table_laws.proofs.Listed.{key-lent, length-key}
 use Rattle.table.proofs.records.key_of.Statement.{statement}
 use Rattle.table.proofs.records.key_of.Tie as tie
 

@@ -3,8 +3,8 @@ use mathlib.Core.Path.{ap, _∙_}
 use mathlib.Core.List.{List}
 use Prim.Native.Nat.{ℕ, _-_}
 use borrow.Author.Needs.{needs}
-use Rattle.table.specs.Bytes.{keyBefore}
-use Rattle.table.proofs.Listed.{key-lent}
+use Rattle.table_laws.specs.Bytes.{keyBefore}
+use Rattle.table_laws.proofs.Listed.{key-lent}
 use Rattle.table.proofs.records.place_before.Statement.{statement}
 use Rattle.table.proofs.records.place_before.Tie as tie
 

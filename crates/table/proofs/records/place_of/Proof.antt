@@ -4,9 +4,9 @@ use mathlib.Core.Path.{_≡_, sym, _∙_}
 use Prim.Native.Nat.{_≤_, _-_, _<_, _+_}
 use native.Mathlib.Omega.{arith}
 use lib.ListN.{length, drop}
-use Rattle.table.specs.Table.{listed, keyAt, findKey}
-use Rattle.table.proofs.Listed.{listed-few}
-use Rattle.table.proofs.SearchLaws.{find-read, find-on, find-end}
+use Rattle.table_laws.specs.Table.{listed, keyAt, findKey}
+use Rattle.table_laws.proofs.Listed.{listed-few}
+use Rattle.table_laws.proofs.SearchLaws.{find-read, find-on, find-end}
 use Rattle.table.proofs.records.place_of.Statement.{statement}
 use Rattle.table.proofs.records.place_of.Tie as tie
 

@@ -4,9 +4,9 @@ use mathlib.Core.Path.{_≡_}
 use Prim.Native.Nat.{_≤_, _-_, _<_, _+_}
 use native.Mathlib.Omega.{arith}
 use lib.ListN.{length, drop}
-use Rattle.table.specs.Table.{listed, keyAt, position}
-use Rattle.table.proofs.Listed.{listed-few}
-use Rattle.table.proofs.SearchLaws.{position-read, position-on, position-end}
+use Rattle.table_laws.specs.Table.{listed, keyAt, position}
+use Rattle.table_laws.proofs.Listed.{listed-few}
+use Rattle.table_laws.proofs.SearchLaws.{position-read, position-on, position-end}
 use Rattle.table.proofs.records.position_of.Statement.{statement}
 use Rattle.table.proofs.records.position_of.Tie as tie
 

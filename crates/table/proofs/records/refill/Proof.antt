@@ -6,7 +6,7 @@ use native.Mathlib.Nat.{add-sub-cancel-left}
 use native.Mathlib.Omega.{arith}
 use lib.ListN.{length, take, drop}
 use Rattle.wire.proofs.Copy.{copy-whole, length-lent}
-use Rattle.table.proofs.Stores.{refilled-done}
+use Rattle.table_laws.proofs.Stores.{refilled-done}
 use Rattle.table.proofs.records.refill.Statement.{statement}
 use Rattle.table.proofs.records.refill.Tie as tie
 

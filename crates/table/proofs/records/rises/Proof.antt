@@ -2,8 +2,8 @@
 use mathlib.Core.Path.{sym}
 use Prim.Native.Nat.{_-_}
 use borrow.Author.Needs.{needs}
-use Rattle.table.specs.Table.{keyAt}
-use Rattle.table.proofs.Listed.{first-rises, before-lent}
+use Rattle.table_laws.specs.Table.{keyAt}
+use Rattle.table_laws.proofs.Listed.{first-rises, before-lent}
 use Rattle.table.proofs.records.rises.Statement.{statement}
 use Rattle.table.proofs.records.rises.Tie as tie
 

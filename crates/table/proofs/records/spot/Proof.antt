@@ -3,7 +3,7 @@ use mathlib.Core.Path.{refl}
 use Prim.Native.Nat.{_-_}
 use native.Mathlib.Omega.{arith}
 use borrow.Author.Needs.{needs}
-use Rattle.table.proofs.Listed.{row-fits}
+use Rattle.table_laws.proofs.Listed.{row-fits}
 use Rattle.table.proofs.records.spot.Statement.{statement}
 use Rattle.table.proofs.records.spot.Tie as tie
 

@@ -1,0 +1,58 @@
+-- What arrivals, leaves, requests and drops are answered, by what has happened alone: document 01, "The room", with the refusals of "Refusal numbers" exactly
+-- where they are given. The cases of each are all there are.
+use mathlib.Core.Bool.{true, false}
+use mathlib.Core.Logic.{_≢_}
+use mathlib.Core.Path.{_≡_}
+use Prim.Native.Nat.{ℕ, _<_}
+use Rattle.refusal.specs.declared.Refusal.the-variants.{RoomFull, AlreadySeated, NotSeated, NoSuchRoute}
+use Rattle.rules.specs.Room.{Sizes, Key, numberOfPlace}
+use Rattle.rules.specs.Call.{Answer, accepted, refused}
+use Rattle.rules.specs.Transcript.{Past, nobody, clientOf, Start, isAccepted, sitter, stands}
+use Rattle.after_calls.specs.GoesOn.{Names, NoRequest}
+
+-- an arrival of `key`: "takes the lowest empty seat and answers with it", with 2, "arrival of a key already seated", before 1, "arrival with all 40 seats
+-- taken"
+pub data ArriveAnswered (sizes : Sizes) (start : Start) (past : Past) (key : Key) (answer : Answer) : Type 0 where
+  seated : (seat : ℕ) → sitter start past seat ≡ clientOf key → answer ≡ refused AlreadySeated → ArriveAnswered sizes start past key answer
+  full : ((seat : ℕ) → sitter start past seat ≢ clientOf key) → ((seat : ℕ) → seat < sizes .seats → sitter start past seat ≢ nobody)
+      → answer ≡ refused RoomFull → ArriveAnswered sizes start past key answer
+  takes : (seat : ℕ) → ((other : ℕ) → sitter start past other ≢ clientOf key) → seat < sizes .seats → sitter start past seat ≡ nobody
+      → ((lower : ℕ) → lower < seat → sitter start past lower ≢ nobody) → answer ≡ accepted seat 0 → ArriveAnswered sizes start past key answer
+
+-- a leave of `seat`: 3, "seat above 39, or empty", or accepted
+pub data LeaveAnswered (start : Start) (past : Past) (seat : ℕ) (answer : Answer) : Type 0 where
+  empty : sitter start past seat ≡ nobody → answer ≡ refused NotSeated → LeaveAnswered start past seat answer
+  left : (key : Key) → sitter start past seat ≡ clientOf key → isAccepted answer ≡ true → LeaveAnswered start past seat answer
+
+-- some request of the client stands under the number, which is not free: "A request stands from an answer other than 0 until its number is dropped or its
+-- client leaves."
+pub record Taken (start : Start) (past : Past) (key : Key) (number : ℕ) : Type 0 where
+  pub wanted : Key
+  pub asked : stands start past key number wanted ≡ true
+
+-- whether a request of `key` for `wanted` stands: under one number, since "the wanted keys of one seat differ", or under none
+pub data Asked (start : Start) (past : Past) (key wanted : Key) : Type 0 where
+  under : (number : ℕ) → stands start past key number wanted ≡ true → ((n : ℕ) → stands start past key n wanted ≡ true → n ≡ number)
+      → Asked start past key wanted
+  notAsked : ((n : ℕ) → stands start past key n wanted ≡ false) → Asked start past key wanted
+
+-- what a request of `key` for `wanted` is answered with 0 for: none for that key stands, and one stands under every number of the client's table. "A full
+-- table is the only ground for 0;"
+pub record NoneFree (sizes : Sizes) (start : Start) (past : Past) (key wanted : Key) : Type 0 where
+  pub notAsked : (n : ℕ) → stands start past key n wanted ≡ false
+  pub full : (place : ℕ) → place < sizes .numbers → Taken start past key (numberOfPlace place)
+
+-- the number that a request of `key` for `wanted` is answered with: "a key already named by this seat gets its old number again", "Otherwise the lowest free
+-- number is taken, or, with none free, the answer is 0"
+pub data Numbered (sizes : Sizes) (start : Start) (past : Past) (key wanted : Key) (number : ℕ) : Type 0 where
+  oldNumber : stands start past key number wanted ≡ true → Numbered sizes start past key wanted number
+  noneFree : NoneFree sizes start past key wanted → number ≡ 0 → Numbered sizes start past key wanted number
+  lowestFree : (place : ℕ) → ((n : ℕ) → stands start past key n wanted ≡ false) → place < sizes .numbers
+      → ((other : Key) → stands start past key (numberOfPlace place) other ≡ false)
+      → ((lower : ℕ) → lower < place → Taken start past key (numberOfPlace lower)) → number ≡ numberOfPlace place → Numbered sizes start past key wanted number
+
+-- a drop of `number` by the client in `seat`: 3, or 8, "room: number names no route", or accepted
+pub data DropAnswered (start : Start) (past : Past) (seat number : ℕ) (answer : Answer) : Type 0 where
+  empty : sitter start past seat ≡ nobody → answer ≡ refused NotSeated → DropAnswered start past seat number answer
+  noRoute : NoRequest start past seat number → answer ≡ refused NoSuchRoute → DropAnswered start past seat number answer
+  dropped : (key wanted : Key) → Names start past seat number key wanted → isAccepted answer ≡ true → DropAnswered start past seat number answer

@@ -1,0 +1,146 @@
+-- The record for a client, by computation: one history, and what each call adds to the record for KC, which is C. Every kind of entry is there. What adds
+-- nothing: other clients' refused calls, packets that are none, pings and pongs, their requests and out-of-band sends for another key, their drops and data on
+-- a number that does not name C, and calls that are nobody's. Also what C is handed and answered in it, and when a 0 counts. Assumes nothing.
+use mathlib.Core.Path.{_≡_, refl}
+use mathlib.Core.Bool.{true, false}
+use mathlib.Core.List.{List, [], _∷_, _++_, map}
+use Prim.Native.Nat.{ℕ}
+use Rattle.refusal.specs.declared.Refusal.the-variants.{AlreadySeated, PacketSize, NoSuchRoute}
+use Rattle.wire.specs.Numbers.{bytesOf}
+use Rattle.rules.specs.Room.{sizesOf, baseSizes, Key}
+use Rattle.rules.specs.Call.{Call, arrive, leave, packetCall, accepted, refused}
+use Rattle.rules.specs.History.{Event, happens}
+use Rattle.rules.specs.Transcript.{fromEmpty, stands}
+use Rattle.rules.specs.After.{pastAfter}
+use Rattle.isolation.specs.Record.{Entry, arrived, departed, own, toC, droppedC, dataForC, recordFor, packetsFor, answersFor, zeroForC}
+use Rattle.isolation.proofs.Recorded.{recorded}
+use Rattle.rules.proofs.Computed.{ka, kb, kc, opened}
+
+-- a call, and what it adds to the record for C
+pub record Row : Type 0 where
+  pub call : Call
+  pub adds : List Entry
+
+row : Call → List Entry → Row
+row call adds = record { call = call; adds = adds }
+
+callsIn : List Row → List Call
+callsIn rows = map (λ (r : Row). r .call) rows
+
+added : List Row → List Entry
+added [] = []
+added (r ∷ rows) = r .adds ++ added rows
+
+-- the calls of a client in a seat
+ask : ℕ → Key → Call
+ask seat key = packetCall seat (0 ∷ key)
+
+dropping : ℕ → ℕ → Call
+dropping seat number = packetCall seat (3 ∷ number ∷ [])
+
+sending : ℕ → ℕ → ℕ → Call
+sending seat number byte = packetCall seat (number ∷ byte ∷ [])
+
+outOfBand : ℕ → Key → Call
+outOfBand seat key = packetCall seat (6 ∷ (key ++ (0x62 ∷ [])))
+
+ping : ℕ → Call
+ping seat = packetCall seat (4 ∷ bytesOf 8 7)
+
+pong : ℕ → Call
+pong seat = packetCall seat (5 ∷ bytesOf 8 7)
+
+-- C sits in seat 0, KA in seat 1, KB in seat 2; each has one number, 16 (10 hex)
+rows : List Row
+rows =
+    -- "every accepted arrival and every departure, by key"; another client's refused arrival, and C's own refused one
+    row (arrive kc) (arrived kc ∷ own (arrive kc) ∷ [])
+    ∷ row (arrive ka) (arrived ka ∷ [])
+    ∷ row (arrive ka) []
+    ∷ row (arrive kc) (own (arrive kc) ∷ [])
+    -- a request for C, and data on it that is refused while C has none for KA
+    ∷ row (ask 1 kc) (toC ka (ask 1 kc) ∷ [])
+    ∷ row (ask 1 kc) (toC ka (ask 1 kc) ∷ [])
+    ∷ row (sending 1 0x10 0x61) []
+    ∷ row (ask 0 ka) (own (ask 0 ka) ∷ [])
+    -- data and out-of-band bytes for C
+    ∷ row (sending 1 0x10 0x61) (dataForC ka (0x61 ∷ []) ∷ [])
+    ∷ row (outOfBand 1 kc) (toC ka (outOfBand 1 kc) ∷ [])
+    -- a request for another key, answered with 0; ping, pong, out-of-band bytes for another key; a refused drop
+    ∷ row (ask 1 kb) []
+    ∷ row (ping 1) []
+    ∷ row (pong 1) []
+    ∷ row (outOfBand 1 kb) []
+    ∷ row (dropping 1 0x11) []
+    -- C's own: a request for its own key, answered with 0, and a refused drop; data, a ping, and bytes that are no packet, which add nothing where they are KA's
+    ∷ row (ask 0 kc) (own (ask 0 kc) ∷ [])
+    ∷ row (dropping 0 0x11) (own (dropping 0 0x11) ∷ [])
+    ∷ row (sending 0 0x10 0x64) (own (sending 0 0x10 0x64) ∷ [])
+    ∷ row (ping 0) (own (ping 0) ∷ [])
+    ∷ row (packetCall 0 []) (own (packetCall 0 []) ∷ [])
+    ∷ row (packetCall 1 []) []
+    -- a third client drops its 16, which is not KA's
+    ∷ row (arrive kb) (arrived kb ∷ [])
+    ∷ row (ask 2 ka) []
+    ∷ row (dropping 2 0x10) []
+    -- KA drops its 16, which names C
+    ∷ row (dropping 1 0x10) (droppedC ka ∷ [])
+    -- then it names KB: data goes on to KB, and is dropped
+    ∷ row (ask 1 kb) []
+    ∷ row (ask 2 ka) []
+    ∷ row (sending 1 0x10 0x63) []
+    ∷ row (dropping 1 0x10) []
+    -- it names C again; KA leaves, comes back, and has it for KB
+    ∷ row (ask 1 kc) (toC ka (ask 1 kc) ∷ [])
+    ∷ row (leave 1) (departed ka ∷ [])
+    ∷ row (arrive ka) (arrived ka ∷ [])
+    ∷ row (ask 1 kb) []
+    ∷ row (dropping 1 0x10) []
+    -- C leaves; what its seat is then asked for is nobody's
+    ∷ row (leave 0) (departed kc ∷ own (leave 0) ∷ [])
+    ∷ row (ping 0) []
+    ∷ row (leave 0) []
+    ∷ []
+
+-- its events
+seen : List Event
+seen = happens (sizesOf 3 1) (callsIn rows)
+
+the-record : recordFor fromEmpty [] kc seen ≡ added rows
+unfolding opened recorded seen callsIn added rows row ask dropping sending outOfBand ping pong
+the-record = refl
+
+-- "neither history answers another client's request for C with 0": those for another key, and C's own, do not count
+no-zero-for-c : zeroForC fromEmpty [] kc seen ≡ false
+unfolding opened recorded seen callsIn rows row ask dropping sending outOfBand ping pong
+no-zero-for-c = refl
+
+-- this one does: KA has used its number for KB
+zero-for-c : zeroForC fromEmpty [] kc (happens (sizesOf 3 1) (arrive kc ∷ arrive ka ∷ ask 1 kb ∷ ask 1 kc ∷ [])) ≡ true
+unfolding opened recorded ask
+zero-for-c = refl
+
+-- the answer and the connect notification; data; out-of-band bytes; the answer 0; a pong; then disconnect, connect and disconnect notifications
+handed-to-c : packetsFor fromEmpty [] kc seen
+    ≡ (1 ∷ 0x10 ∷ ka) ∷ (2 ∷ 0x10 ∷ []) ∷ (0x10 ∷ 0x61 ∷ []) ∷ (7 ∷ (ka ++ (0x62 ∷ []))) ∷ (1 ∷ 0 ∷ kc)
+    ∷ (5 ∷ bytesOf 8 7) ∷ (3 ∷ 0x10 ∷ []) ∷ (2 ∷ 0x10 ∷ []) ∷ (3 ∷ 0x10 ∷ []) ∷ []
+unfolding opened recorded seen callsIn rows row ask dropping sending outOfBand ping pong
+handed-to-c = refl
+
+-- C's calls alone, in turn
+answered-to-c : answersFor fromEmpty [] kc seen
+    ≡ accepted 0 0 ∷ refused AlreadySeated ∷ accepted 0 47 ∷ accepted 0 37 ∷ refused NoSuchRoute ∷ accepted 0 5 ∷ accepted 0 12 ∷ refused PacketSize
+    ∷ accepted 0 0 ∷ []
+unfolding opened recorded seen callsIn rows row ask dropping sending outOfBand ping pong
+answered-to-c = refl
+
+-- "A request stands from an answer other than 0": the request that was answered with 0 stands under no number
+zero-does-not-stand : stands fromEmpty (pastAfter [] (happens (sizesOf 3 1) (arrive kc ∷ arrive ka ∷ ask 1 kb ∷ ask 1 kc ∷ []))) ka 0 kc ≡ false
+unfolding opened recorded ask
+zero-does-not-stand = refl
+
+-- ---- P9, and the students' error "Keeping a link to a seat after its client left (P9).": C sits where KA sat, KB sends data to KA, and C is handed nothing
+
+nothing-for-kc : packetsFor fromEmpty [] kc (happens baseSizes (arrive ka ∷ arrive kb ∷ ask 0 kb ∷ ask 1 ka ∷ leave 0 ∷ arrive kc ∷ sending 1 0x10 0x61 ∷ [])) ≡ []
+unfolding opened recorded ask sending
+nothing-for-kc = refl

@@ -1,0 +1,493 @@
+-- The law of one call: in a whole room that says what has happened says, observing the entries that a call adds to C's record yields what the
+-- call does: the view of the room after it, the packets it hands to C, and the answer if the call is C's own; unless the call is another client's
+-- request for C that is answered with 0. A list of cases, one for each kind of call, of C and of another client. Assumes nothing.
+use mathlib.Core.Path.{_≡_, refl, sym, ap, _∙_, subst}
+use mathlib.Core.Bool.{Bool, true, false, _&&_, cond, true≢false}
+use mathlib.Core.List.{List, [], _∷_, _++_, map, append-nil}
+use Prim.Native.Nat.{ℕ, _-_}
+use lib.Dec.{eqb}
+use lib.ListN.{getD, set, length}
+use lib.Seq.{set-getD}
+use Rattle.key.specs.Keys.{sameKey}
+use Rattle.key.proofs.Same.{same-refl, same-sound}
+use Rattle.packet_laws.specs.Read.{Read}
+use Rattle.packet_laws.specs.Read as read
+use Rattle.packet_laws.specs.FromClient as client
+use Rattle.packet_laws.specs.FromRelay as relay
+use Rattle.packet_laws.proofs.ReadBounds.{request-key-long}
+use Rattle.rules.specs.Room.{Sizes, Key, Route, free, wants, Seat, vacant, holds, Room, Found, none, at, orLater, find, seatOf, isVacant, routeTo, isFree, seatAt, routeAt, firstNumber, numberOfPlace, Peer, alone, joined, newcomer, setSeat, Held, setKey, setRoute}
+use Rattle.rules.specs.Whole.{Whole}
+use Rattle.rules.specs.Call.{Call, arrive, leave, packetCall, Answer, accepted, refused, Sent}
+use Rattle.rules.specs.Outcome.{withRoute, apply, applyAll, Outcome, refuse, sentBytes, accept, to, roomAfter, peer, toPeer, arriveAt, tellPeer, tellPeers, leaveFrom, tellBoth, requestAt, dropAt, oobTo, carryTo, dataAt, act, actOn, packetFrom, outcome}
+use Rattle.rules.specs.History.{Event, event}
+use Rattle.rules.specs.Transcript.{Past, Start, isAccepted, maker, numberAnswered, stands}
+use Rattle.rules.specs.After.{clientIn, Tied}
+use Rattle.isolation.specs.Record.{Entry, arrived, departed, own, toC, droppedC, dataForC, entryIf, byKey, otherPacket, otherCall, ifAccepted, madeBy, entriesBy, entries, isClient, handedIf, handed, answerIf, asksFor, turnsAway}
+use Rattle.rules.proofs.FindLaws.{Once, find-hit, find-replicate, find-set-same, once-tail, once-first, find-clear, free-not-to, wanted-place}
+use Rattle.rules.proofs.Whole.{wanted-once, key-found}
+use Rattle.rules.proofs.AnswerLaws.{zero-answered}
+use Rattle.rules.proofs.Tied.{tied-here}
+use Rattle.rules.proofs.SentLaws.{count-same}
+use Rattle.isolation.proofs.View.{openSeat, ownSeat, otherSeat, View, isFound, viewSeatIf, viewSeat, project, namesC, placeOf, Observed, observed, packetAt, only, toOne, toBoth, counted, ownArrival, ownLeave, ownRequest, ownDrop, ownOob, ownCarry, ownData, ownAct, ownPacket, ownCall, otherArrived, otherDeparted, otherDropped, otherAsked, otherToC, arrivedIf, departedIf, observe, observedThen, observeAll, SeatView, setView, setViews}
+use Rattle.isolation.proofs.ViewLaws.{map-set, found-later, find-put, held-law, open-law, view-at, held-as, isJoined, connected-law, handedBy, handed-law, handed-append, hand-only, else-seat, not-handed, found-held, packet-law, own-held, peer-else, own-not-handed, own-tells, count-told, count-both, count-tells}
+
+-- what an outcome is to C: the view of the room after it, the packets for C, and the answers that C gets
+abbrev observedOf : Sizes → Key → Room → Outcome → List Answer → Observed
+observedOf sizes c room o answers = observed (project c (roomAfter sizes room o)) (handedBy c room (o .sent)) answers
+
+observed-same : {v v′ : View} {h h′ : List (List ℕ)} {t t′ : List Answer} → v ≡ v′ → h ≡ h′ → t ≡ t′ → observed v h t ≡ observed v′ h′ t′
+observed-same a b d = rw (a, b, d)
+
+counted-same : (seat : ℕ) (a b : List Sent) → length (sentBytes b) ≡ length (sentBytes a) → counted seat a ≡ accepted seat (length (sentBytes b)) ∷ []
+unfolding counted
+counted-same seat a b e = ap (λ (n : ℕ). accepted seat n ∷ []) (sym e)
+
+-- ---- one entry, or two
+
+and-nothing : (s : Observed) → observedThen s (observed (s .view) [] []) ≡ s
+unfolding observedThen observed
+and-nothing s = rw (append-nil (s .packets), append-nil (s .answers))
+
+observe-one : (sizes : Sizes) (c : Key) (v : View) (e : Entry) → observeAll sizes c v (e ∷ []) ≡ observe sizes c v e
+unfolding observeAll
+observe-one sizes c v e = and-nothing (observe sizes c v e)
+
+observe-own : (sizes : Sizes) (c : Key) (v : View) (call : Call) → observeAll sizes c v (own call ∷ []) ≡ ownCall sizes c v call
+unfolding observe
+observe-own sizes c v call = observe-one sizes c v (own call)
+
+-- C's own arrival or departure, and then its call
+observe-arrived : (sizes : Sizes) (c : Key) (v : View) (call : Call) → observeAll sizes c v (arrived c ∷ own call ∷ []) ≡ ownCall sizes c v call
+unfolding observeAll observe arrivedIf observedThen observed
+observe-arrived sizes c v call = rw (same-refl c) (observe-one sizes c v (own call))
+
+observe-departed : (sizes : Sizes) (c : Key) (v : View) (call : Call) → observeAll sizes c v (departed c ∷ own call ∷ []) ≡ ownCall sizes c v call
+unfolding observeAll observe departedIf observedThen observed
+observe-departed sizes c v call = rw (same-refl c) (observe-one sizes c v (own call))
+
+-- ---- C's own calls
+
+view-own : (c : Key) (held : Held) → held .key ≡ c → viewSeat c (holds held) ≡ ownSeat held
+unfolding viewSeat viewSeatIf
+view-own c held mine = rw (mine, same-refl c)
+
+view-other : (c : Key) (held : Held) → sameKey (held .key) c ≡ false → viewSeat c (holds held) ≡ otherSeat (held .key) (isFound (find (routeTo c) (held .routes)))
+unfolding viewSeat viewSeatIf
+view-other c held hk = rw hk
+
+-- the view where a seat becomes another
+project-set : (c : Key) (room : Room) (seat : ℕ) (s : Seat) (v : SeatView) → viewSeat c s ≡ v → project c (setSeat room seat s) ≡ setView (project c room) seat v
+unfolding project
+project-set c room seat s v e = ap (setViews (project c room)) (map-set (viewSeat c) (room .seats) seat s ∙ ap (set (map (viewSeat c) (room .seats)) seat) e)
+
+-- the view where a seat becomes empty
+left-open : (c : Key) (room : Room) (seat : ℕ) → project c (setSeat room seat vacant) ≡ setView (project c room) seat openSeat
+unfolding viewSeat
+left-open c room seat = project-set c room seat vacant openSeat refl
+
+-- its arrival
+own-arrival : (sizes : Sizes) (c : Key) (room : Room) (seated empty : Found) → find (seatOf c) (room .seats) ≡ seated → find isVacant (room .seats) ≡ empty
+    → ownCall sizes c (project c room) (arrive c) ≡ observedOf sizes c room (arriveAt seated empty c) (arriveAt seated empty c .answer ∷ [])
+unfolding ownCall project ownArrival arriveAt refuse accept roomAfter applyAll apply handedBy counted
+own-arrival sizes c room (at seat) empty hf he = rw (held-law c c room, hf)
+own-arrival sizes c room none none hf he = rw (held-law c c room, open-law c room, hf, he)
+own-arrival sizes c room none (at seat) hf he =
+    rw (held-law c c room, open-law c room, hf, he) (observed-same (sym (project-set c room seat _ _ (view-own c (newcomer sizes c) refl))) refl refl)
+
+module _ (sizes : Sizes) (room : Room) (whole : Whole sizes room) (c : Key) (seat : ℕ) (held : Held) (sits : seatAt room seat ≡ holds (setKey held c)) where
+  -- all that its seat holds
+  abbrev all : Held
+  all = setKey held c
+
+  -- the view where one of its (held .routes) becomes another
+  own-route : (place : ℕ) (route : Route)
+      → setView (project c room) seat (ownSeat (setRoute all place route)) ≡ project c (setSeat room seat (withRoute (seatAt room seat) place route))
+  unfolding withRoute
+  own-route place route = rw sits (sym (project-set c room seat _ _ (view-own c (setRoute all place route) refl)))
+
+  own-view : getD (project c room .seats) seat openSeat ≡ ownSeat all
+  unfolding project
+  own-view = view-at c room seat ∙ ap (viewSeat c) sits ∙ view-own c all refl
+
+  here : seatOf c (seatAt room seat) ≡ true
+  here = own-held sizes room whole c seat held sits
+
+  own-both : (wanted : Key) (number : ℕ) (l : Peer) → peer room seat c wanted ≡ l → only (isJoined l) (relay.relayBytes (relay.connectNotice number) ∷ []) ≡ handedBy c room (tellBoth seat number l)
+  unfolding only isJoined handedBy handedIf tellBoth to
+  own-both wanted number alone e = refl
+  own-both wanted number (joined other place) e = rw (here, peer-else sizes room whole c seat held sits wanted other place e)
+
+  own-request : (wanted : Key) (f lowest : Found)
+      → ownRequest f lowest c (project c room) seat all wanted ≡ observedOf sizes c room (requestAt f lowest room seat c wanted) (requestAt f lowest room seat c wanted .answer ∷ [])
+  unfolding ownRequest requestAt accept roomAfter applyAll apply handedBy handedIf to relay.relayBytes
+  own-request wanted (at place) lowest = observed-same refl (rw here) (counted-same seat _ _ (count-same _ _ [] [] refl refl))
+  own-request wanted none none = observed-same refl (rw here) (counted-same seat _ _ (count-same _ _ [] [] refl refl))
+  own-request wanted none (at place) =
+      observed-same (own-route place (wants wanted))
+      (rw (here, connected-law c room seat wanted) (ap (λ (t : List (List ℕ)). (1 ∷ numberOfPlace place ∷ wanted) ∷ t) (own-both wanted (numberOfPlace place) (peer room seat c wanted) refl)))
+      (counted-same seat _ _ (count-same _ _ _ _ refl (count-both seat (numberOfPlace place) (peer room seat c wanted) ∙ ap (λ (t : Bool). length (sentBytes (toBoth t))) (sym (connected-law c room seat wanted)))))
+
+  own-drop : (number : ℕ) (route : Route)
+      → ownDrop route c (project c room) seat all number ≡ observedOf sizes c room (dropAt route room seat c number) (dropAt route room seat c number .answer ∷ [])
+  unfolding ownDrop dropAt refuse accept roomAfter applyAll apply handedBy
+  own-drop number free = refl
+  own-drop number (wants wanted) =
+      observed-same (own-route (number - firstNumber) free) (sym (own-not-handed sizes room whole c seat held sits wanted relay.disconnectNotice))
+      (counted-same seat _ _ (count-told (peer room seat c wanted) ∙ ap (λ (t : Bool). length (sentBytes (toOne relay.disconnectNotice t))) (sym (connected-law c room seat wanted))))
+
+  own-oob : (wanted : Key) (bytes : List ℕ) (f : Found) → find (seatOf wanted) (room .seats) ≡ f
+      → ownOob f c (project c room) seat wanted bytes ≡ observedOf sizes c room (oobTo f seat c bytes) (oobTo f seat c bytes .answer ∷ [])
+  unfolding ownOob oobTo accept roomAfter applyAll handedBy to counted
+  own-oob wanted bytes none e = refl
+  own-oob wanted bytes (at other) e =
+      observed-same refl (rw (held-as c wanted (seatAt room other) (found-held wanted room other e)) (hand-only (sameKey wanted c) _)) (counted-same seat _ _ (count-same _ _ [] [] refl refl))
+
+  own-carry : (wanted : Key) (bytes : List ℕ) (l : Peer) → peer room seat c wanted ≡ l
+      → ownCarry (isJoined l) (project c room) seat bytes ≡ observedOf sizes c room (carryTo l seat bytes) (carryTo l seat bytes .answer ∷ [])
+  unfolding ownCarry isJoined carryTo refuse accept roomAfter applyAll handedBy handedIf to relay.relayBytes
+  own-carry wanted bytes alone e = refl
+  own-carry wanted bytes (joined other place) e =
+      observed-same refl (rw (peer-else sizes room whole c seat held sits wanted other place e)) (counted-same seat _ _ (count-same _ _ [] [] refl refl))
+
+  own-data : (bytes : List ℕ) (route : Route)
+      → ownData route c (project c room) seat bytes ≡ observedOf sizes c room (dataAt route room seat c bytes) (dataAt route room seat c bytes .answer ∷ [])
+  unfolding ownData dataAt refuse roomAfter applyAll handedBy
+  own-data bytes free = refl
+  own-data bytes (wants wanted) = rw (connected-law c room seat wanted) (own-carry wanted bytes (peer room seat c wanted) refl)
+
+  own-act : (r : Read client.FromClient)
+      → ownAct r c (project c room) seat all ≡ observedOf sizes c room (actOn r room seat all) (actOn r room seat all .answer ∷ [])
+  unfolding ownAct actOn act refuse accept roomAfter applyAll handedBy handedIf to counted project
+  own-act (read.packet (client.routingRequest wanted)) = own-request wanted (find (routeTo wanted) (held .routes)) (find isFree (held .routes))
+  own-act (read.packet (client.dropRoute number)) = own-drop number (routeAt (held .routes) number)
+  own-act (read.packet (client.ping n)) = observed-same refl (rw here) (counted-same seat _ _ (count-same _ _ [] [] refl refl))
+  own-act (read.packet (client.pong n)) = refl
+  own-act (read.packet (client.oobSend wanted bytes)) = rw (held-law c wanted room) (own-oob wanted bytes (find (seatOf wanted) (room .seats)) refl)
+  own-act (read.packet (client.routedData number bytes)) = own-data bytes (routeAt (held .routes) number)
+  own-act (read.refused why) = refl
+
+  own-packet : (bytes : List ℕ)
+      → ownCall sizes c (project c room) (packetCall seat bytes)
+      ≡ observedOf sizes c room (actOn (client.relayRead bytes) room seat all) (actOn (client.relayRead bytes) room seat all .answer ∷ [])
+  unfolding ownCall ownPacket
+  own-packet bytes = rw own-view (own-act (client.relayRead bytes))
+
+  own-leave : ownCall sizes c (project c room) (leave seat) ≡ observedOf sizes c room (leaveFrom (holds all) room seat) (leaveFrom (holds all) room seat .answer ∷ [])
+  unfolding ownCall ownLeave leaveFrom accept roomAfter applyAll apply
+  own-leave =
+      rw own-view
+      (observed-same (sym (left-open c room seat)) (sym (own-tells sizes room whole c seat held sits (held .routes))) (counted-same seat _ _ (count-tells c room seat (held .routes))))
+
+-- ---- another client's calls
+
+-- its arrival
+other-arrival : (sizes : Sizes) (c : Key) (room : Room) (key : Key) → sameKey key c ≡ false → (seat : ℕ) → find isVacant (room .seats) ≡ at seat
+    → observe sizes c (project c room) (arrived key) ≡ observedOf sizes c room (arriveAt none (at seat) key) []
+unfolding observe arrivedIf otherArrived project arriveAt accept roomAfter applyAll apply handedBy isFree isFound
+other-arrival sizes c room key hk seat e = rw (hk, open-law c room, e) (observed-same (sym (project-set c room seat _ _ new-other)) refl refl)
+  where
+    new-other : viewSeat c (holds (newcomer sizes key)) ≡ otherSeat key false
+    new-other = view-other c (newcomer sizes key) hk ∙ ap (otherSeat key) (ap isFound (find-replicate (routeTo c) (sizes .numbers) free (free-not-to c free refl)))
+
+-- another client, `key`, sits in `seat`
+module _ (sizes : Sizes) (room : Room) (whole : Whole sizes room) (c : Key) (seat : ℕ) (held : Held) (sits : seatAt room seat ≡ holds held) (hk : sameKey (held .key) c ≡ false) where
+  not-held : seatOf c (seatAt room seat) ≡ false
+  unfolding seatOf
+  not-held = rw sits hk
+
+  other-view : getD (project c room .seats) seat openSeat ≡ otherSeat (held .key) (isFound (find (routeTo c) (held .routes)))
+  unfolding project
+  other-view = view-at c room seat ∙ ap (viewSeat c) sits ∙ view-other c held hk
+
+  names-here : namesC c (getD (project c room .seats) seat openSeat) ≡ isFound (find (routeTo c) (held .routes))
+  unfolding namesC
+  names-here = ap (namesC c) other-view
+
+  once : Once (routeTo c) free (held .routes)
+  once = wanted-once sizes room whole seat held sits c
+
+  -- the view where one of its routes becomes another
+  other-set : (place : ℕ) (route : Route)
+      → project c (setSeat room seat (withRoute (seatAt room seat) place route)) ≡ setView (project c room) seat (otherSeat (held .key) (isFound (find (routeTo c) (set (held .routes) place route))))
+  unfolding withRoute
+  other-set place route = rw sits (project-set c room seat _ _ (view-other c (setRoute held place route) hk))
+
+  -- the view of the seat, put there, changes nothing
+  other-same : (b : Bool) → isFound (find (routeTo c) (held .routes)) ≡ b → setView (project c room) seat (otherSeat (held .key) b) ≡ project c room
+  other-same b e = ap (setView (project c room) seat) (sym (other-view ∙ ap (otherSeat (held .key)) e)) ∙ ap (setViews (project c room)) (set-getD (project c room .seats) seat openSeat)
+
+  -- routes that name C as before leave the view as it was
+  other-kept : (place : ℕ) (route : Route) → find (routeTo c) (set (held .routes) place route) ≡ find (routeTo c) (held .routes)
+      → project c (setSeat room seat (withRoute (seatAt room seat) place route)) ≡ project c room
+  other-kept place route e = other-set place route ∙ other-same _ (ap isFound (sym e))
+
+  handed-packet : (p : ℕ → relay.FromRelay) → packetAt p (placeOf c (project c room) (held .key)) ≡ handedBy c room (toPeer p (peer room seat (held .key) c))
+  handed-packet p = packet-law c room seat (held .key) held sits hk p
+
+  -- of a notice to both, C is handed what goes to the peer
+  other-both : (number : ℕ) (l : Peer) → handedBy c room (tellBoth seat number l) ≡ handedBy c room (toPeer relay.connectNotice l)
+  unfolding handedBy handedIf tellBoth toPeer to
+  other-both number alone = refl
+  other-both number (joined other place) = rw not-held
+
+  -- a request for another key
+  request-else : (wanted : Key) → sameKey wanted c ≡ false → (f lowest : Found) → find isFree (held .routes) ≡ lowest
+      → observed (project c room) [] [] ≡ observedOf sizes c room (requestAt f lowest room seat (held .key) wanted) []
+  unfolding requestAt accept roomAfter applyAll apply handedBy handedIf to routeTo
+  request-else wanted hw (at place) lowest hg = observed-same refl (rw not-held) refl
+  request-else wanted hw none none hg = observed-same refl (rw not-held) refl
+  request-else wanted hw none (at place) hg =
+      observed-same
+      (sym (other-kept place (wants wanted) (find-set-same (routeTo c) free (held .routes) place (wants wanted) (hw ∙ sym (free-not-to c (getD (held .routes) place free) (find-hit isFree free (held .routes) place hg))))))
+      (rw not-held (sym (other-both (numberOfPlace place) (peer room seat (held .key) wanted) ∙ not-handed c room seat (held .key) wanted relay.connectNotice hw)))
+      refl
+
+  -- a request for C
+  request-mine : (bytes : List ℕ) → client.relayRead bytes ≡ read.packet (client.routingRequest c) → (f lowest : Found) → find (routeTo c) (held .routes) ≡ f → find isFree (held .routes) ≡ lowest
+      → eqb (numberAnswered (requestAt f lowest room seat (held .key) c .sent)) 0 ≡ false
+      → otherAsked c (project c room) (held .key) seat (read.packet (client.routingRequest c)) ≡ observedOf sizes c room (requestAt f lowest room seat (held .key) c) []
+  unfolding otherAsked requestAt accept roomAfter applyAll apply handedBy handedIf to isFound only routeTo
+  request-mine bytes e (at place) lowest hf hg z = observed-same (other-same true (ap isFound hf)) (rw (names-here, hf, not-held)) refl
+  request-mine bytes e none none hf hg z = absurd (true≢false (sym (ap (λ (n : ℕ). eqb n 0) (zero-answered seat c (request-key-long bytes c e) [])) ∙ z))
+  request-mine bytes e none (at place) hf hg z =
+      observed-same
+      (sym (other-set place (wants c) ∙ ap (λ (t : Bool). setView (project c room) seat (otherSeat (held .key) t)) (find-put isFree (routeTo c) (held .routes) place (wants c) (same-refl c) hg)))
+      (rw (names-here, hf, not-held) (handed-packet relay.connectNotice ∙ sym (other-both (numberOfPlace place) (peer room seat (held .key) c))))
+      refl
+
+  -- a drop of a number that names another key, or C
+  drop-else : (number : ℕ) (wanted : Key) → routeAt (held .routes) number ≡ wants wanted → sameKey wanted c ≡ false
+      → observed (project c room) [] [] ≡ observedOf sizes c room (dropAt (wants wanted) room seat (held .key) number) []
+  unfolding dropAt accept roomAfter applyAll apply routeTo
+  drop-else number wanted e hw =
+      observed-same
+      (sym (other-kept (number - firstNumber) free (find-set-same (routeTo c) free (held .routes) (number - firstNumber) free (sym (ap (routeTo c) (wanted-place (held .routes) number wanted e) ∙ hw)))))
+      (sym (not-handed c room seat (held .key) wanted relay.disconnectNotice hw)) refl
+
+  drop-mine : (number : ℕ) → routeAt (held .routes) number ≡ wants c
+      → observe sizes c (project c room) (droppedC (held .key)) ≡ observedOf sizes c room (dropAt (wants c) room seat (held .key) number) []
+  unfolding observe otherDropped project dropAt accept roomAfter applyAll apply routeTo isFound
+  drop-mine number e =
+      rw (held-law c (held .key) room, key-found sizes room whole seat held sits)
+      (observed-same (sym (other-set (number - firstNumber) free ∙ ap (λ (f : Found). setView (project c room) seat (otherSeat (held .key) (isFound f))) cleared)) (handed-packet relay.disconnectNotice) refl)
+    where
+      cleared : find (routeTo c) (set (held .routes) (number - firstNumber) free) ≡ none
+      cleared = find-clear (routeTo c) free (held .routes) (number - firstNumber) free once (ap (routeTo c) (wanted-place (held .routes) number c e) ∙ same-refl c) refl
+
+  -- data on a number that names another key, or C
+  data-else : (bytes : List ℕ) (wanted : Key) → sameKey wanted c ≡ false → (l : Peer) → peer room seat (held .key) wanted ≡ l
+      → observed (project c room) [] [] ≡ observedOf sizes c room (carryTo l seat bytes) []
+  unfolding carryTo refuse accept roomAfter applyAll handedBy handedIf to
+  data-else bytes wanted hw alone e = refl
+  data-else bytes wanted hw (joined other place) e = observed-same refl (rw (else-seat c room seat (held .key) wanted hw other place e)) refl
+
+  data-mine : (bytes : List ℕ) (l : Peer) → peer room seat (held .key) c ≡ l
+      → observeAll sizes c (project c room) (ifAccepted (carryTo l seat bytes .answer) (dataForC (held .key) bytes ∷ [])) ≡ observedOf sizes c room (carryTo l seat bytes) []
+  unfolding carryTo refuse accept ifAccepted observeAll roomAfter applyAll handedBy observe toPeer
+  data-mine bytes alone e = refl
+  data-mine bytes (joined other place) e =
+      observe-one sizes c (project c room) (dataForC (held .key) bytes)
+      ∙ observed-same refl (handed-packet (λ n. relay.routedData n bytes) ∙ ap (λ (l : Peer). handedBy c room (toPeer (λ n. relay.routedData n bytes) l)) e) refl
+
+  -- out of band to another key, or to C
+  oob-else : (bytes : List ℕ) (wanted : Key) → sameKey wanted c ≡ false → (f : Found) → find (seatOf wanted) (room .seats) ≡ f
+      → observed (project c room) [] [] ≡ observedOf sizes c room (oobTo f seat (held .key) bytes) []
+  unfolding oobTo accept roomAfter applyAll handedBy handedIf to
+  oob-else bytes wanted hw none e = refl
+  oob-else bytes wanted hw (at other) e = observed-same refl (rw (held-as c wanted (seatAt room other) (found-held wanted room other e), hw)) refl
+
+  oob-mine : (bytes : List ℕ) (f : Found) → find (seatOf c) (room .seats) ≡ f
+      → otherAsked c (project c room) (held .key) seat (read.packet (client.oobSend c bytes)) ≡ observedOf sizes c room (oobTo f seat (held .key) bytes) []
+  unfolding otherAsked project oobTo accept roomAfter applyAll handedBy handedIf to isFound only
+  oob-mine bytes none e = rw (held-law c c room, e)
+  oob-mine bytes (at other) e = observed-same refl (rw (held-law c c room, e, found-held c room other e)) refl
+
+  -- ---- the entries that it adds
+
+  module _ (bytes : List ℕ) (names : ℕ → Bool) (names-is : (number : ℕ) → names number ≡ routeTo c (routeAt (held .routes) number)) where
+    -- what observing them yields
+    abbrev Noted : Read client.FromClient → Outcome → Observed
+    Noted r o = observeAll sizes c (project c room) (ifAccepted (o .answer) (otherPacket c (held .key) (packetCall seat bytes) names r))
+
+    request-noted : (wanted : Key) (f lowest : Found) (es : List Entry) → ifAccepted (requestAt f lowest room seat (held .key) wanted .answer) es ≡ es
+    unfolding requestAt accept ifAccepted
+    request-noted wanted (at place) lowest es = refl
+    request-noted wanted none none es = refl
+    request-noted wanted none (at place) es = refl
+
+    oob-noted : (payload : List ℕ) (f : Found) (es : List Entry) → ifAccepted (oobTo f seat (held .key) payload .answer) es ≡ es
+    unfolding oobTo accept ifAccepted
+    oob-noted payload none es = refl
+    oob-noted payload (at other) es = refl
+
+    request-accepted : (wanted : Key) (f lowest : Found) → isAccepted (requestAt f lowest room seat (held .key) wanted .answer) ≡ true
+    unfolding requestAt accept isAccepted
+    request-accepted wanted (at place) lowest = refl
+    request-accepted wanted none none = refl
+    request-accepted wanted none (at place) = refl
+
+    -- the entry of a call to C
+    observe-call : (r : Read client.FromClient) → client.relayRead bytes ≡ r → observeAll sizes c (project c room) (toC (held .key) (packetCall seat bytes) ∷ []) ≡ otherAsked c (project c room) (held .key) seat r
+    unfolding observe otherToC
+    observe-call r e = observe-one sizes c (project c room) (toC (held .key) (packetCall seat bytes)) ∙ ap (otherAsked c (project c room) (held .key) seat) e
+
+    note-request : (wanted : Key) → client.relayRead bytes ≡ read.packet (client.routingRequest wanted) → (t : Bool) → sameKey wanted c ≡ t
+        → (f lowest : Found) → find (routeTo wanted) (held .routes) ≡ f → find isFree (held .routes) ≡ lowest
+        → (t && eqb (numberAnswered (requestAt f lowest room seat (held .key) wanted .sent)) 0) ≡ false
+        → observeAll sizes c (project c room) (entryIf t (toC (held .key) (packetCall seat bytes)))
+        ≡ observedOf sizes c room (requestAt f lowest room seat (held .key) wanted) []
+    unfolding entryIf observeAll
+    note-request wanted e true hw f lowest hf hg z =
+        let q = same-sound wanted c hw in
+        observe-call _ (e ∙ ap (λ (k : Key). read.packet (client.routingRequest k)) q)
+        ∙ subst (λ (k : Key). otherAsked c (project c room) (held .key) seat (read.packet (client.routingRequest c)) ≡ observedOf sizes c room (requestAt f lowest room seat (held .key) k) []) (sym q)
+        (request-mine bytes (rw q at e) f lowest (rw q at hf) hg (rw q at z))
+    note-request wanted e false hw f lowest hf hg z = request-else wanted hw f lowest hg
+
+    note-drop : (number : ℕ) (route : Route) → routeAt (held .routes) number ≡ route → Noted (read.packet (client.dropRoute number)) (dropAt route room seat (held .key) number) ≡ observedOf sizes c room (dropAt route room seat (held .key) number) []
+    unfolding otherPacket dropAt refuse accept ifAccepted observeAll roomAfter applyAll handedBy entryIf routeTo
+    note-drop number free e = refl
+    note-drop number (wants wanted) e = rw (names-is number, e) (go (sameKey wanted c) refl)
+      where
+        go : (t : Bool) → sameKey wanted c ≡ t
+            → observeAll sizes c (project c room) (entryIf t (droppedC (held .key))) ≡ observedOf sizes c room (dropAt (wants wanted) room seat (held .key) number) []
+        go true hw = rw (same-sound wanted c hw) (observe-one sizes c (project c room) (droppedC (held .key)) ∙ drop-mine number (rw (same-sound wanted c hw) at e))
+        go false hw = drop-else number wanted e hw
+
+    note-data : (number : ℕ) (payload : List ℕ) (route : Route) → routeAt (held .routes) number ≡ route
+        → Noted (read.packet (client.routedData number payload)) (dataAt route room seat (held .key) payload) ≡ observedOf sizes c room (dataAt route room seat (held .key) payload) []
+    unfolding otherPacket dataAt refuse ifAccepted observeAll roomAfter applyAll handedBy entryIf routeTo
+    note-data number payload free e = refl
+    note-data number payload (wants wanted) e = rw (names-is number, e) (go (sameKey wanted c) refl)
+      where
+        quiet : (a : Answer) → observeAll sizes c (project c room) (ifAccepted a []) ≡ observed (project c room) [] []
+        quiet (accepted s n) = refl
+        quiet (refused why) = refl
+
+        go : (t : Bool) → sameKey wanted c ≡ t
+            → observeAll sizes c (project c room) (ifAccepted (carryTo (peer room seat (held .key) wanted) seat payload .answer) (entryIf t (dataForC (held .key) payload)))
+            ≡ observedOf sizes c room (carryTo (peer room seat (held .key) wanted) seat payload) []
+        go true hw = rw (same-sound wanted c hw) (data-mine payload (peer room seat (held .key) c) refl)
+        go false hw = quiet (carryTo (peer room seat (held .key) wanted) seat payload .answer) ∙ data-else payload wanted hw (peer room seat (held .key) wanted) refl
+
+    note-oob : (wanted : Key) (payload : List ℕ) → client.relayRead bytes ≡ read.packet (client.oobSend wanted payload) → (t : Bool) → sameKey wanted c ≡ t
+        → observeAll sizes c (project c room) (entryIf t (toC (held .key) (packetCall seat bytes)))
+        ≡ observedOf sizes c room (oobTo (find (seatOf wanted) (room .seats)) seat (held .key) payload) []
+    unfolding entryIf observeAll
+    note-oob wanted payload e true hw =
+        let q = same-sound wanted c hw in
+        observe-call _ (e ∙ ap (λ (k : Key). read.packet (client.oobSend k payload)) q) ∙ rw q (oob-mine payload (find (seatOf c) (room .seats)) refl)
+    note-oob wanted payload e false hw = oob-else payload wanted hw (find (seatOf wanted) (room .seats)) refl
+
+    note-act : (r : Read client.FromClient) → client.relayRead bytes ≡ r
+        → ((isAccepted (actOn r room seat held .answer) && asksFor c r) && eqb (numberAnswered (actOn r room seat held .sent)) 0) ≡ false
+        → Noted r (actOn r room seat held) ≡ observedOf sizes c room (actOn r room seat held) []
+    unfolding actOn act otherPacket refuse accept ifAccepted observeAll roomAfter applyAll handedBy handedIf to asksFor
+    note-act (read.packet (client.routingRequest wanted)) e z =
+        rw (request-noted wanted (find (routeTo wanted) (held .routes)) (find isFree (held .routes)))
+        (note-request wanted e (sameKey wanted c) refl (find (routeTo wanted) (held .routes)) (find isFree (held .routes)) refl refl (rw (request-accepted wanted (find (routeTo wanted) (held .routes)) (find isFree (held .routes))) at z))
+    note-act (read.packet (client.dropRoute number)) e z = note-drop number (routeAt (held .routes) number) refl
+    note-act (read.packet (client.ping n)) e z = observed-same refl (rw not-held) refl
+    note-act (read.packet (client.pong n)) e z = refl
+    note-act (read.packet (client.oobSend wanted payload)) e z = rw (oob-noted payload (find (seatOf wanted) (room .seats))) (note-oob wanted payload e (sameKey wanted c) refl)
+    note-act (read.packet (client.routedData number payload)) e z = note-data number payload (routeAt (held .routes) number) refl
+    note-act (read.refused why) e z = refl
+
+  -- its departure: C is handed one notice, and only where it was named
+  other-tells : (t : List Route) → Once (routeTo c) free t
+      → handedBy c room (tellPeers room seat (held .key) t) ≡ only (isFound (find (routeTo c) t)) (handedBy c room (toPeer relay.disconnectNotice (peer room seat (held .key) c)))
+  unfolding tellPeers tellPeer handedBy find isFound only routeTo orLater
+  other-tells [] o = refl
+  other-tells (free ∷ t) o = other-tells t (once-tail (routeTo c) free free t o) ∙ ap (λ b. only b (handedBy c room (toPeer relay.disconnectNotice (peer room seat (held .key) c)))) (sym (found-later (find (routeTo c) t)))
+  other-tells (wants wanted ∷ t) o =
+      handed-append c room (toPeer relay.disconnectNotice (peer room seat (held .key) wanted)) (tellPeers room seat (held .key) t) ∙ go (sameKey wanted c) refl (other-tells t (once-tail (routeTo c) free (wants wanted) t o))
+    where
+      mine : List (List ℕ)
+      mine = handedBy c room (toPeer relay.disconnectNotice (peer room seat (held .key) c))
+
+      go : (b : Bool) → sameKey wanted c ≡ b → handedBy c room (tellPeers room seat (held .key) t) ≡ only (isFound (find (routeTo c) t)) mine
+          → (handedBy c room (toPeer relay.disconnectNotice (peer room seat (held .key) wanted)) ++ handedBy c room (tellPeers room seat (held .key) t)) ≡ only (isFound (orLater b (find (routeTo c) t))) mine
+      go true hw ih = rw (ih, once-first (routeTo c) free (wants wanted) t o hw, same-sound wanted c hw) (append-nil mine)
+      go false hw ih = rw (not-handed c room seat (held .key) wanted relay.disconnectNotice hw, found-later (find (routeTo c) t)) ih
+
+  other-leave : observe sizes c (project c room) (departed (held .key)) ≡ observedOf sizes c room (leaveFrom (holds held) room seat) []
+  unfolding observe departedIf otherDeparted project leaveFrom accept roomAfter applyAll apply
+  other-leave =
+      rw (hk, held-law c (held .key) room, key-found sizes room whole seat held sits)
+      (observed-same (sym (left-open c room seat)) (rw (names-here, handed-packet relay.disconnectNotice) (sym (other-tells (held .routes) once))) refl)
+
+-- ---- all calls
+
+-- a call with its outcome
+abbrev made : Call → Outcome → Event
+made call o = record { call = call; answer = o .answer; sent = o .sent }
+
+module _ (sizes : Sizes) (start : Start) (past : Past) (room : Room) (whole : Whole sizes room) (tie : Tied start past room) (c : Key) where
+  -- the law for a call that a client made
+  abbrev Law : Bool → Key → Call → Outcome → Type 0
+  Law t key call o =
+      observeAll sizes c (project c room) (madeBy t c key (made call o) (λ number. stands start past key number c)) ≡ observedOf sizes c room o (answerIf t (o .answer))
+
+  arrive-by : (key : Key) (t : Bool) → sameKey key c ≡ t → (seated empty : Found) → find (seatOf key) (room .seats) ≡ seated → find isVacant (room .seats) ≡ empty
+      → Law t key (arrive key) (arriveAt seated empty key)
+  unfolding madeBy byKey entryIf isAccepted answerIf arriveAt refuse accept ifAccepted otherCall observeAll roomAfter applyAll handedBy
+  arrive-by key true h (at seat) empty hf he =
+      let q = same-sound key c h in
+      rw q (observe-own sizes c (project c room) (arrive c) ∙ own-arrival sizes c room (at seat) empty (rw q at hf) he)
+  arrive-by key true h none none hf he =
+      let q = same-sound key c h in
+      rw q (observe-own sizes c (project c room) (arrive c) ∙ own-arrival sizes c room none none (rw q at hf) he)
+  arrive-by key true h none (at seat) hf he =
+      let q = same-sound key c h in
+      rw q (observe-arrived sizes c (project c room) (arrive c) ∙ own-arrival sizes c room none (at seat) (rw q at hf) he)
+  arrive-by key false h (at seat) empty hf he = refl
+  arrive-by key false h none none hf he = refl
+  arrive-by key false h none (at seat) hf he = observe-one sizes c (project c room) (arrived key) ∙ other-arrival sizes c room key h seat he
+
+  leave-by : (seat : ℕ) (key : Key) (held : Held) → seatAt room seat ≡ holds (setKey held key) → (t : Bool) → sameKey key c ≡ t
+      → Law t key (leave seat) (leaveFrom (holds (setKey held key)) room seat)
+  unfolding madeBy byKey entryIf isAccepted answerIf leaveFrom accept ifAccepted otherCall
+  leave-by seat key held e true h =
+      let q = same-sound key c h in
+      rw q (observe-departed sizes c (project c room) (leave seat) ∙ own-leave sizes room whole c seat held (rw q at e))
+  leave-by seat key held e false h = observe-one sizes c (project c room) (departed key) ∙ other-leave sizes room whole c seat (setKey held key) e h
+
+  packet-by : (seat : ℕ) (bytes : List ℕ) (key : Key) (held : Held) → seatAt room seat ≡ holds (setKey held key) → (t : Bool) → sameKey key c ≡ t
+      → cond t false
+      ((isAccepted (actOn (client.relayRead bytes) room seat (setKey held key) .answer) && asksFor c (client.relayRead bytes))
+      && eqb (numberAnswered (actOn (client.relayRead bytes) room seat (setKey held key) .sent)) 0)
+      ≡ false
+      → Law t key (packetCall seat bytes) (actOn (client.relayRead bytes) room seat (setKey held key))
+  unfolding madeBy byKey answerIf otherCall
+  packet-by seat bytes key held e true h z =
+      let q = same-sound key c h in
+      rw q (observe-own sizes c (project c room) (packetCall seat bytes) ∙ own-packet sizes room whole c seat held (rw q at e) bytes)
+  packet-by seat bytes key held e false h z =
+      note-act sizes room whole c seat (setKey held key) e h bytes (λ number. stands start past key number c)
+      (λ number. tied-here sizes start past room whole tie seat (setKey held key) e number c) (client.relayRead bytes) refl z
+
+  leave-from : (seat : ℕ) (s : Seat) → seatAt room seat ≡ s
+      → observeAll sizes c (project c room) (entriesBy (clientIn s) start past c (made (leave seat) (leaveFrom s room seat)))
+      ≡ observedOf sizes c room (leaveFrom s room seat) (answerIf (isClient c (clientIn s)) (leaveFrom s room seat .answer))
+  unfolding entriesBy clientIn isClient answerIf leaveFrom refuse observeAll roomAfter applyAll handedBy
+  leave-from seat vacant e = refl
+  leave-from seat (holds held) e = leave-by seat (held .key) held e (sameKey (held .key) c) refl
+
+  packet-from : (seat : ℕ) (bytes : List ℕ) (s : Seat) → seatAt room seat ≡ s
+      → turnsAway c (clientIn s) (made (packetCall seat bytes) (packetFrom s room seat bytes)) (packetCall seat bytes) ≡ false
+      → observeAll sizes c (project c room) (entriesBy (clientIn s) start past c (made (packetCall seat bytes) (packetFrom s room seat bytes)))
+      ≡ observedOf sizes c room (packetFrom s room seat bytes) (answerIf (isClient c (clientIn s)) (packetFrom s room seat bytes .answer))
+  unfolding entriesBy clientIn isClient answerIf packetFrom refuse observeAll roomAfter applyAll handedBy turnsAway
+  packet-from seat bytes vacant e z = refl
+  packet-from seat bytes (holds held) e z = packet-by seat bytes (held .key) held e (sameKey (held .key) c) refl z
+
+  pub one-call : (call : Call) → turnsAway c (maker start past call) (event room call) call ≡ false
+      → observeAll sizes c (project c room) (entries start past c (event room call))
+      ≡ observed (project c (roomAfter sizes room (outcome room call))) (handed start past c (event room call .sent)) (answerIf (isClient c (maker start past call)) (event room call .answer))
+  unfolding entries entriesBy event outcome maker isClient
+  one-call (arrive key) z =
+      rw (handed-law start past room tie c (arriveAt (find (seatOf key) (room .seats)) (find isVacant (room .seats)) key .sent))
+      (arrive-by key (sameKey key c) refl (find (seatOf key) (room .seats)) (find isVacant (room .seats)) refl refl)
+  one-call (leave seat) z = rw (handed-law start past room tie c (leaveFrom (seatAt room seat) room seat .sent), tie .sits seat) (leave-from seat (seatAt room seat) refl)
+  one-call (packetCall seat bytes) z =
+      rw (handed-law start past room tie c (packetFrom (seatAt room seat) room seat bytes .sent), tie .sits seat) (packet-from seat bytes (seatAt room seat) refl (rw (tie .sits seat) at z))

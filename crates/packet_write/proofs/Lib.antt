@@ -1,0 +1,3 @@
+-- `WriteLaws` of writing into an output, `ReadBack` on reading what a writer left there.
+pub mod WriteLaws
+pub mod ReadBack

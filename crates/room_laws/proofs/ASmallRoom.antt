@@ -1,0 +1,221 @@
+-- One small room, computed: 3 seats with 2 connection numbers each. Each key is one byte, 32 times.
+--
+--     header  count  order     seat 0                    seat 1                    seat 2
+--     3 2     2      1 0 (0)   9..  wants 5.., (4..)     5..  (8..), wants 9..     (7..  (6..), (6..))
+--
+-- What stands in brackets is not listed: seats 0 and 1 are taken, by clients that want each other, one route of each is free, and seat 2 is empty.
+-- Assumes nothing.
+use Prim.Native.Nat.{ℕ}
+use mathlib.Core.Path.{_≡_, refl}
+use mathlib.Core.Bool.{true, false}
+use mathlib.Core.List.{List, [], _∷_, _++_}
+use lib.ListN.{drop, replicate}
+use Rattle.key.specs.Keys.{sameKey}
+use Rattle.table_laws.specs.Bytes.{leading, firstOf, member, keyBefore}
+use Rattle.table_laws.specs.Table.{fitsTable, listed, recordAt, keyAt, risingAfter, rising, tableWhole, findKey, found, keyOfPlace, isUsed, lowest, lowestFree}
+use Rattle.table_laws.specs.Table.{entered, closed, put, mayPut, putIn, unlisted, freed, freedIn, tabulate, view}
+use Rattle.rules.specs.Room.{free, wants, vacant, holds, newcomer, setRoutes, setSeats, Room, emptyRoom, sizesOf, none, at, alone, joined}
+use Rattle.rules.specs.Outcome.{seatTaken, seatEmptied, routeGiven, routeFreed, joinedBy}
+use Rattle.room_laws.specs.Layout.{sizesRight, fitsRoom, seatTable, routesTable}
+use Rattle.room_laws.specs.View.{routeIn, viewRoutes, seatIn, viewRoom}
+use Rattle.room_laws.specs.Whole.{headerRight, routesWhole, roomWhole}
+use Rattle.room_laws.specs.Store.{emptied, newSeat, withSeats, withRoutes, store}
+use Rattle.room_laws.specs.Lookup.{placeIn, seatHolding, lowestEmpty, hasSeat, taken, keyIn, routeWanting, lowestRoute, routeOfPlace, routeAtPlace, peerInSeat, peerWanting}
+
+abbrev key : ℕ → List ℕ
+key n = replicate 32 n
+
+-- a seat with its key and its routes: how many, in what order, and what stands at each place
+abbrev seat : ℕ → ℕ → ℕ → ℕ → ℕ → ℕ → List ℕ
+seat n count first second a b = key n ++ (replicate 8 0 ++ (count ∷ first ∷ second ∷ (key a ++ key b)))
+
+abbrev one : List ℕ
+one = seat 9 1 0 0 5 4
+
+abbrev other : List ℕ
+other = seat 5 1 1 0 8 9
+
+abbrev unused : List ℕ
+unused = seat 7 1 1 0 6 6
+
+abbrev small : List ℕ
+small = 3 ∷ 2 ∷ 2 ∷ 1 ∷ 0 ∷ 0 ∷ (one ++ (other ++ unused))
+
+-- ---- the room
+
+-- it has 327 bytes: more will do, fewer will not
+pub fits-exact : fitsRoom 3 2 small ≡ true
+unfolding fitsRoom sizesRight
+fits-exact = refl
+
+pub fits-long : fitsRoom 3 2 (0 ∷ small) ≡ true
+unfolding fitsRoom sizesRight
+fits-long = refl
+
+pub fits-short : fitsRoom 3 2 (drop 1 small) ≡ false
+unfolding fitsRoom sizesRight
+fits-short = refl
+
+-- a room has at most 255 seats with 240 numbers each
+pub most : sizesRight 255 240 ≡ true
+unfolding sizesRight
+most = refl
+
+pub too-many-seats : sizesRight 256 240 ≡ false
+unfolding sizesRight
+too-many-seats = refl
+
+pub too-many-numbers : sizesRight 255 241 ≡ false
+unfolding sizesRight
+too-many-numbers = refl
+
+-- the room that it is
+abbrev isRoom : Room
+isRoom =
+    setSeats (emptyRoom (sizesOf 3 2)) (
+    holds (setRoutes (newcomer (sizesOf 3 2) (key 9)) (wants (key 5) ∷ free ∷ []))
+    ∷ holds (setRoutes (newcomer (sizesOf 3 2) (key 5)) (free ∷ wants (key 9) ∷ []))
+    ∷ vacant
+    ∷ []
+    )
+
+-- the routes of seat 1 alone, and the whole room
+pub routes-small : viewRoutes 2 (routesTable 3 2 small 1) ≡ free ∷ wants (key 9) ∷ []
+unfolding viewRoutes view tabulate routeIn recordAt listed member routesTable
+routes-small = refl
+
+pub view-small : viewRoom 3 2 small ≡ isRoom
+unfolding viewRoom view tabulate seatIn viewRoutes routeIn recordAt listed member seatTable
+view-small = refl
+
+-- its header has its sizes, in that order
+pub header-small : headerRight 3 2 small ≡ true
+unfolding headerRight
+header-small = refl
+
+pub other-seats : headerRight 2 2 small ≡ false
+unfolding headerRight
+other-seats = refl
+
+pub other-numbers : headerRight 3 3 small ≡ false
+unfolding headerRight
+other-numbers = refl
+
+-- it is whole; where seat 0, or seat 1, wants one key twice it is not
+pub whole-small : roomWhole 3 2 small ≡ true
+unfolding roomWhole fitsRoom sizesRight headerRight routesWhole tableWhole rising risingAfter listed keyAt keyBefore seatTable routesTable
+whole-small = refl
+
+pub twice-wanted : roomWhole 3 2 (3 ∷ 2 ∷ 2 ∷ 1 ∷ 0 ∷ 0 ∷ (seat 9 2 0 1 5 5 ++ (other ++ unused))) ≡ false
+unfolding roomWhole fitsRoom sizesRight headerRight routesWhole tableWhole rising risingAfter listed keyAt keyBefore seatTable routesTable
+twice-wanted = refl
+
+pub twice-wanted-first : roomWhole 3 2 (3 ∷ 2 ∷ 2 ∷ 1 ∷ 0 ∷ 0 ∷ (one ++ (seat 5 2 0 1 9 9 ++ unused))) ≡ false
+unfolding roomWhole fitsRoom sizesRight headerRight routesWhole tableWhole rising risingAfter listed keyAt keyBefore seatTable routesTable
+twice-wanted-first = refl
+
+-- ---- lookups
+
+-- the key 5 is in seat 1; the key 7 is in no seat, and its place is told of none
+pub holding-five : seatHolding 3 2 small (key 5) ≡ at 1
+unfolding seatHolding placeIn fitsRoom sizesRight found findKey fitsTable listed keyAt sameKey seatTable
+holding-five = refl
+
+pub holding-seven : seatHolding 3 2 small (key 7) ≡ none
+unfolding seatHolding placeIn fitsRoom sizesRight found findKey fitsTable listed keyAt sameKey seatTable
+holding-seven = refl
+
+-- seat 2 is the lowest that is empty
+pub lowest-small : lowestEmpty 3 2 small ≡ at 2
+unfolding lowestEmpty placeIn fitsRoom sizesRight lowestFree lowest listed member seatTable
+lowest-small = refl
+
+-- seat 0 is taken, seat 2 is not
+pub taken-zero : taken 3 2 small 0 ≡ true
+unfolding taken fitsRoom sizesRight isUsed listed member seatTable
+taken-zero = refl
+
+pub taken-two : taken 3 2 small 2 ≡ false
+unfolding taken fitsRoom sizesRight isUsed listed member seatTable
+taken-two = refl
+
+-- the key of a seat; zeros where there is no such seat
+pub key-of-one : keyIn 3 2 small 1 ≡ key 5
+unfolding keyIn hasSeat fitsRoom sizesRight keyOfPlace fitsTable keyAt seatTable
+key-of-one = refl
+
+pub key-of-three : keyIn 3 2 small 3 ≡ key 0
+unfolding keyIn hasSeat fitsRoom sizesRight
+key-of-three = refl
+
+-- in seat 1, place 1 wants the key 9, and no place wants the key 8
+pub wanting-nine : routeWanting 3 2 small 1 (key 9) ≡ at 1
+unfolding routeWanting placeIn fitsRoom sizesRight found findKey fitsTable listed keyAt sameKey routesTable
+wanting-nine = refl
+
+pub wanting-eight : routeWanting 3 2 small 1 (key 8) ≡ none
+unfolding routeWanting placeIn fitsRoom sizesRight found findKey fitsTable listed keyAt sameKey routesTable
+wanting-eight = refl
+
+-- the lowest place that is free is 1 in seat 0, and 0 in seat 1
+pub free-in-zero : lowestRoute 3 2 small 0 ≡ at 1
+unfolding lowestRoute placeIn fitsRoom sizesRight lowestFree lowest listed member routesTable
+free-in-zero = refl
+
+pub free-in-one : lowestRoute 3 2 small 1 ≡ at 0
+unfolding lowestRoute placeIn fitsRoom sizesRight lowestFree lowest listed member routesTable
+free-in-one = refl
+
+-- the route at each place of seat 1
+pub route-zero : routeAtPlace 3 2 small 1 0 ≡ free
+unfolding routeAtPlace routeOfPlace hasSeat fitsRoom sizesRight isUsed routeIn recordAt listed member routesTable
+route-zero = refl
+
+pub route-one : routeAtPlace 3 2 small 1 1 ≡ wants (key 9)
+unfolding routeAtPlace routeOfPlace hasSeat fitsRoom sizesRight isUsed routeIn recordAt listed member routesTable
+route-one = refl
+
+-- the peer of seat 0, which wants the key 5, is at place 1 of seat 1; no seat is its own peer, and the key 8 has none
+pub peer-of-zero : peerWanting 3 2 small 0 (key 9) (key 5) ≡ joined 1 1
+unfolding peerWanting peerInSeat joinedBy seatHolding routeWanting placeIn fitsRoom sizesRight found findKey fitsTable listed keyAt sameKey seatTable routesTable
+peer-of-zero = refl
+
+pub peer-of-itself : peerWanting 3 2 small 1 (key 9) (key 5) ≡ alone
+unfolding peerWanting peerInSeat joinedBy seatHolding routeWanting placeIn fitsRoom sizesRight found findKey fitsTable listed keyAt sameKey seatTable routesTable
+peer-of-itself = refl
+
+pub peer-of-none : peerWanting 3 2 small 0 (key 9) (key 8) ≡ alone
+unfolding peerWanting peerInSeat joinedBy seatHolding routeWanting placeIn fitsRoom sizesRight found findKey fitsTable listed keyAt sameKey seatTable routesTable
+peer-of-none = refl
+
+-- ---- changes
+
+-- made empty: the header, no seat listed, and the rest as it stood
+pub emptied-small : emptied 3 2 small ≡ 3 ∷ 2 ∷ 0 ∷ 1 ∷ 0 ∷ 0 ∷ (one ++ (other ++ unused))
+unfolding emptied
+emptied-small = refl
+
+-- a new seat begins with its key
+pub new-seat : newSeat (key 7) ≡ key 7 ++ replicate 9 0
+unfolding newSeat
+new-seat = refl
+
+-- seat 2 taken by the key 8: it is listed between the other two, and lists no routes
+pub takes-two : store 3 2 small (seatTaken 2 (key 8)) ≡ 3 ∷ 2 ∷ 3 ∷ 1 ∷ 2 ∷ 0 ∷ (one ++ (other ++ seat 8 0 1 0 6 6))
+unfolding store withSeats newSeat fitsRoom sizesRight putIn mayPut put fitsTable entered leading listed keyAt keyBefore seatTable
+takes-two = refl
+
+-- seat 1 emptied: seat 0 alone is listed, and the record of seat 1 stays
+pub empties-one : store 3 2 small (seatEmptied 1) ≡ 3 ∷ 2 ∷ 1 ∷ 0 ∷ 0 ∷ 0 ∷ (one ++ (other ++ unused))
+unfolding store withSeats fitsRoom sizesRight freedIn freed unlisted closed firstOf listed seatTable
+empties-one = refl
+
+-- the free route of seat 1 given to the key 3
+pub gives-one : store 3 2 small (routeGiven 1 0 (key 3)) ≡ 3 ∷ 2 ∷ 2 ∷ 1 ∷ 0 ∷ 0 ∷ (one ++ (seat 5 2 0 1 3 9 ++ unused))
+unfolding store withRoutes fitsRoom sizesRight putIn mayPut put fitsTable entered leading listed keyAt keyBefore routesTable
+gives-one = refl
+
+-- its other route freed
+pub frees-one : store 3 2 small (routeFreed 1 1) ≡ 3 ∷ 2 ∷ 2 ∷ 1 ∷ 0 ∷ 0 ∷ (one ++ (seat 5 0 1 0 8 9 ++ unused))
+unfolding store withRoutes fitsRoom sizesRight freedIn freed unlisted closed firstOf listed routesTable
+frees-one = refl

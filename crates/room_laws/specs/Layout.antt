@@ -1,0 +1,66 @@
+-- Where things stand in the memory of a room of s seats and n connection numbers for each:
+--
+--     room    | s (1) | n (1) | table of seats |
+--     seat    | key (32) | header (8) | table of routes |
+--     route   | wanted key (32) |
+--
+-- A table is a count (1), an order (a byte a place) and the records of its places (`table_laws`, `Table.antt`). Every offset is one of these definitions.
+use mathlib.Core.Bool.{Bool, _&&_}
+use mathlib.Core.List.{List}
+use Prim.Native.Nat.{ℕ, _+_, _*_}
+use lib.ListN.{length, take, drop}
+use lib.Dec.{leb}
+use Rattle.table_laws.specs.Table.{tableBytes}
+
+-- the room's own header: the sizes that it was made for
+abbrev pub roomHeader : ℕ
+roomHeader = 2
+
+-- a seat's own header, behind its key: nothing is kept there yet, and it is not read
+abbrev pub seatHeader : ℕ
+seatHeader = 8
+
+abbrev pub keyBytes : ℕ
+keyBytes = 32
+
+-- a table of n routes
+abbrev pub routesBytes : ℕ → ℕ
+routesBytes n = tableBytes n keyBytes
+
+-- where the table of routes stands in a seat's record
+abbrev pub routesInSeat : ℕ
+routesInSeat = keyBytes + seatHeader
+
+abbrev pub seatBytes : ℕ → ℕ
+seatBytes n = routesInSeat + routesBytes n
+
+abbrev pub seatsBytes : ℕ → ℕ → ℕ
+seatsBytes s n = tableBytes s (seatBytes n)
+
+abbrev pub roomBytes : ℕ → ℕ → ℕ
+roomBytes s n = roomHeader + seatsBytes s n
+
+-- a seat is a byte of an order and of a record; the numbers are 16 to 255 at most
+unfoldable pub sizesRight : ℕ → ℕ → Bool
+sizesRight s n = leb s 255 && leb n 240
+
+-- the memory is long enough; bytes behind the room are no part of it
+unfoldable pub fitsRoom : ℕ → ℕ → List ℕ → Bool
+fitsRoom s n b = sizesRight s n && leb (roomBytes s n) (length b)
+
+-- the table of seats
+unfoldable pub seatTable : ℕ → ℕ → List ℕ → List ℕ
+seatTable s n b = take (seatsBytes s n) (drop roomHeader b)
+
+-- where seat i stands, and its table of routes, and where that ends
+abbrev pub seatStart : ℕ → ℕ → ℕ → ℕ
+seatStart s n i = roomHeader + (1 + s + i * seatBytes n)
+
+abbrev pub routesStart : ℕ → ℕ → ℕ → ℕ
+routesStart s n i = seatStart s n i + routesInSeat
+
+abbrev pub routesEnd : ℕ → ℕ → ℕ → ℕ
+routesEnd s n i = routesStart s n i + routesBytes n
+
+unfoldable pub routesTable : ℕ → ℕ → List ℕ → ℕ → List ℕ
+routesTable s n b i = take (routesBytes n) (drop (routesStart s n i) b)
