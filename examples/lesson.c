@@ -3,9 +3,10 @@
  * gives the library, what it gets back, and what it does with it. Each step prints a line and
  * checks the answer and every byte of the output.
  *
- * A real host has a socket for each seat. It opens what comes in on it and gives the packet to
- * banavoge_packet; it seals the packet of each record and sends it on the socket of the record's
- * seat. Here a table of names stands in for the sockets, and nothing is sealed.
+ * A real host has a socket for each seat. It reads the frames of what comes in on it with
+ * banavoge_frame_read, opens each and gives the packet to banavoge_packet; it seals the packet of
+ * each record and sends it on the socket of the record's seat. Here a table of names stands in for
+ * the sockets, and nothing is sealed.
  */
 #include "banavoge.h"
 
@@ -109,7 +110,7 @@ static void fill_output(struct host *host)
 
 /* ---- Answers and records, printed ---- */
 
-/* Document 01's words for each refusal; of 8 and 10, those for a room. */
+/* The papers' words for each refusal; of 8 and 10, those for a room, of 18, for a length. */
 static const char *const refusal_words[] = {
     [BANAVOGE_REFUSAL_ROOM_FULL] = "arrival with all 40 seats taken",
     [BANAVOGE_REFUSAL_ALREADY_SEATED] = "arrival of a key already seated",
@@ -129,6 +130,7 @@ static const char *const refusal_words[] = {
     [BANAVOGE_REFUSAL_UNKNOWN_FAMILY] = "unknown family byte",
     [BANAVOGE_REFUSAL_NODE_CUT_SHORT] = "node cut short",
     [BANAVOGE_REFUSAL_BYTES_AFTER_NODES] = "bytes left after four nodes",
+    [BANAVOGE_REFUSAL_BAD_FRAME] = "a length under 17 or above 2,048",
 };
 
 /* An answer below 0 is minus a refusal number. */
@@ -549,6 +551,78 @@ static void errors_of_the_host(struct host *host)
     CHECK(refused(host, answer, BANAVOGE_REFUSAL_ROOM_NOT_WHOLE));
 }
 
+/* What a host has for each connection to read its frames with. A new reader holds 0 bytes. */
+struct reader {
+    size_t held;
+    uint8_t keep[BANAVOGE_KEEP_BYTES];
+};
+
+/* Before the packet of a frame stand its length, in 2 bytes, and 16 bytes that sealing adds. Here
+   these are zeros, and to open a frame is to leave them out. */
+enum { BEFORE_PACKET = 2 + 16 };
+
+static void give_frame(struct host *host, uint8_t seat, const uint8_t *frame, size_t end)
+{
+    give_packet(host, seat, frame + BEFORE_PACKET, (int32_t)end - BEFORE_PACKET);
+}
+
+/* Reads a piece of a client's stream to its end, and gives the room the packet of each frame.
+   Answers 0, or minus a refusal number: the stream cannot be read on then. */
+static int32_t receive(struct host *host, uint8_t seat, struct reader *reader, const uint8_t *piece,
+                       size_t length)
+{
+    printf("%zu bytes come in from %s\n", length, name_in(host, seat));
+    for (;;) {
+        size_t used;
+        size_t end;
+        int32_t answer = banavoge_frame_read(&reader->held, reader->keep, sizeof reader->keep,
+                                             piece, length, &used, &end);
+
+        if (answer == BANAVOGE_FRAME_IN_PIECE) {
+            printf("a frame in the piece: ");
+            give_frame(host, seat, piece, end);
+        } else if (answer == BANAVOGE_FRAME_IN_KEEP) {
+            printf("a frame in the keep: ");
+            give_frame(host, seat, reader->keep, end);
+        } else if (answer == BANAVOGE_FRAME_MORE) {
+            printf("more is needed, %zu bytes are held\n", reader->held);
+            return 0;
+        } else {
+            print_refusal(answer);
+            return answer;
+        }
+        piece += used;
+        length -= used;
+    }
+}
+
+static bool got_pong(const struct host *host, uint8_t number)
+{
+    const uint8_t record[] = {CAROL_SEAT, 0x00, 0x09, 0x05, 0, 0, 0, 0, 0, 0, 0, number};
+    struct output pong = nothing();
+
+    add(&pong, record, sizeof record);
+    return output_is(host, &pong);
+}
+
+/* Carol's stream, as TCP may cut it: a frame that is whole in its piece, and one that began in an
+   earlier piece. Behind a length that no frame has, nothing is read. */
+static void frames_in_pieces(struct host *host)
+{
+    const uint8_t stream[] = {
+        0, 25, EIGHT(0), EIGHT(0), BANAVOGE_KIND_PING, 0, 0, 0, 0, 0, 0, 0, 21,
+        0, 25, EIGHT(0), EIGHT(0), BANAVOGE_KIND_PING, 0, 0, 0, 0, 0, 0, 0, 22,
+        0, 16,
+    };
+    struct reader reader = {.held = 0};
+
+    CHECK(receive(host, CAROL_SEAT, &reader, stream, 30) == 0);
+    CHECK(got_pong(host, 21) && reader.held == 3);
+    CHECK(receive(host, CAROL_SEAT, &reader, stream + 30, 26) == -BANAVOGE_REFUSAL_BAD_FRAME);
+    CHECK(got_pong(host, 22));
+    CHECK(receive(host, CAROL_SEAT, &reader, stream, 27) == -BANAVOGE_REFUSAL_BAD_FRAME);
+}
+
 /* A host may hand over the calls of one poll together, stored one behind the other: the room is
    then tested once. For each the output gets its refusal, its seat, a length and its records. */
 static void stored_calls(struct host *host)
@@ -592,6 +666,7 @@ int main(void)
     back_in_another_seat(&host);
     dropped(&host);
     errors_of_the_host(&host);
+    frames_in_pieces(&host);
     stored_calls(&host);
     close_room(&host);
     return 0;

@@ -1,15 +1,17 @@
 /*
  * Banavoge: a Tox TCP relay for classrooms, as a static library.
  *
- * The host owns sockets, sealing and opening, and hands over opened packets. Document 01 (scope and
- * exact rules) says what each function does, and each is proved to do so on every input. Refusal
- * numbers and sizes are document 01's.
+ * The host owns sockets, sealing and opening. It hands over what comes in on a socket, is shown the
+ * frames to open, and hands over the opened packets. Document 01 (scope and exact rules) says what
+ * each function does, document 02 (changes after the base) what the frame reader does, and each is
+ * proved to do so on every input. Refusal numbers and sizes are theirs.
  *
  * Answers
  *   0 or more is what the function's comment says. Below 0 it is minus a refusal number (enum
  *   banavoge_refusal). Comments list refusals in the order in which they are tested: where several
- *   hold, the first is given. After a refusal everything that was lent is as before the call; the
- *   one exception is banavoge_nearest_begin with a bad size.
+ *   hold, the first is given. After a refusal everything that was lent is as before the call, with
+ *   two exceptions: banavoge_nearest_begin with a bad size; and banavoge_frame_read, where used is
+ *   0, and 18 leaves held at 2,051.
  *
  * Memory
  *   The host owns all of it. The library has no heap and no global and keeps nothing between two
@@ -22,12 +24,13 @@
  *     keep their old contents.
  *
  * Threads
- *   A call touches nothing but what it is given. A room, a list or an output may be used by one
- *   call at a time; calls that share none of them may run at the same time, so different rooms may.
+ *   A call touches nothing but what it is given. A room, a list, a keep or an output may be used by
+ *   one call at a time; calls that share none of them may run at the same time, so different rooms
+ *   may.
  *
  * Numbers
- *   In packets, packed nodes and records the highest byte stands first. Ports and ping numbers that
- *   pass as parameters are ordinary C numbers.
+ *   In frames, packets, packed nodes and records the highest byte stands first. Ports and ping
+ *   numbers that pass as parameters are ordinary C numbers.
  *
  * Linking
  *   libbanavoge.a, for Linux on x86-64, asks the C library for memcpy and memset and for nothing
@@ -47,6 +50,7 @@ extern "C" {
 /* ---- Sizes ---- */
 
 #define BANAVOGE_KEY_BYTES 32
+#define BANAVOGE_KEEP_BYTES 2050        /* the longest frame: its length and 2,048 sealed bytes */
 #define BANAVOGE_MOST_PACKET_BYTES 2032 /* sealing adds 16, and a sealed packet has at most 2,048 */
 #define BANAVOGE_MOST_OOB_BYTES 1024    /* what one out-of-band packet carries */
 #define BANAVOGE_ADDRESS_BYTES 16       /* of which IPv4 has the first 4 */
@@ -59,7 +63,7 @@ extern "C" {
 #define BANAVOGE_LEAST_OUTPUT 2048      /* to be lent to a leave or a packet; neither writes more */
 #define BANAVOGE_RECORD_HEAD 3          /* seat and length, before the packet of a record */
 
-/* Why a call is refused, in document 01's words. */
+/* Why a call is refused, in document 01's words; of 18 and of a keep, in document 02's. */
 enum banavoge_refusal {
     /* arrival with all 40 seats taken */
     BANAVOGE_REFUSAL_ROOM_FULL = 1,
@@ -81,7 +85,7 @@ enum banavoge_refusal {
     /* data on a waiting route */
     BANAVOGE_REFUSAL_NOT_CONNECTED = 9,
     /* lent output too short: under 2,048 for packet and leave,
-       under the exact length for a writer */
+       under the exact length for a writer; a keep that is too short */
     BANAVOGE_REFUSAL_OUTPUT_TOO_SHORT = 10,
     /* room not whole */
     BANAVOGE_REFUSAL_ROOM_NOT_WHOLE = 11,
@@ -96,8 +100,57 @@ enum banavoge_refusal {
     /* node cut short */
     BANAVOGE_REFUSAL_NODE_CUT_SHORT = 16,
     /* bytes left after four nodes */
-    BANAVOGE_REFUSAL_BYTES_AFTER_NODES = 17
+    BANAVOGE_REFUSAL_BYTES_AFTER_NODES = 17,
+    /* a length under 17 or above 2,048;
+       a reader holding 2 or more bytes that start no unfinished frame */
+    BANAVOGE_REFUSAL_BAD_FRAME = 18
 };
+
+/*
+ * ---- Frames ----
+ *
+ * What a client sends is one stream of frames, which TCP hands over in pieces, cut anywhere:
+ *
+ *     | length (2 bytes, the higher first) | that many sealed bytes: 17 to 2,048 |
+ *
+ * A reader is a number, held, and a keep of BANAVOGE_KEEP_BYTES, both the host's, one of each for a
+ * connection. The first held bytes of the keep start a frame that is not complete yet:
+ *
+ *     keep  | length | sealed bytes so far | old bytes |
+ *           |<----------- held ----------->|
+ *
+ * A new reader holds 0, whatever stands in the keep. Between two calls the host writes neither; it
+ * begins anew by setting held to 0.
+ */
+
+/* Where a complete frame stands. */
+enum banavoge_shown {
+    /* nowhere: more bytes are needed */
+    BANAVOGE_FRAME_MORE = 0,
+    /* at the front of the piece, which has all of it */
+    BANAVOGE_FRAME_IN_PIECE = 1,
+    /* at the front of the keep, since it began in an earlier piece */
+    BANAVOGE_FRAME_IN_KEEP = 2
+};
+
+/*
+ * Reads a piece of a stream up to the end of its first frame, or to its own end. Answers where the
+ * frame stands (enum banavoge_shown) and sets used, how many bytes of the piece were taken: the
+ * next call goes on with piece + used.
+ *   0: no frame is complete. All of the piece is used: held has grown by it, and end is as before.
+ *   1: the frame is the first end bytes of the piece. The keep is not written.
+ *   2: it is the first end bytes of the keep, until the next call that is lent this keep.
+ * A frame is shown with its 2 length bytes; the sealed bytes stand behind them. 1 and 2 set end,
+ * and held to 0. A longer keep is taken: only its first BANAVOGE_KEEP_BYTES are ever written.
+ *
+ * Refusals: 10 (keep too short, whatever the piece); 18 for the reader, where held is 2 or more and
+ * those bytes of the keep start no unfinished frame, as from 2,050 on they never do; 18 for a
+ * length, as soon as both its bytes are there. A refusal sets used to 0. 18 also sets held to
+ * 2,051, which is never a good number, so all calls that follow give 18, or 10, until the host
+ * begins anew. Nothing else is set: end and the keep are as before, and with 10 so is held.
+ */
+int32_t banavoge_frame_read(size_t *held, uint8_t *keep, size_t keep_length, const uint8_t *piece,
+                            size_t piece_length, size_t *used, size_t *end);
 
 /*
  * ---- Relay packets ----

@@ -7,10 +7,12 @@
 //! The relay itself is `room`, with `seat` and `record`; `call` and `play` are
 //! histories of calls as bytes; `memory`, with `table`, and `lent` are the room
 //! in lent memory. `generate`, with `random` and `bad_packet`, makes histories
-//! up, and `met` counts what they meet.
+//! up, and `met` counts what they meet. `frames` is the reader of a stream that
+//! comes in pieces, and `streams` makes such streams up and cuts them.
 
 pub mod bad_packet;
 pub mod call;
+pub mod frames;
 pub mod generate;
 pub mod key;
 pub mod lent;
@@ -25,4 +27,5 @@ pub mod record;
 pub mod refusal;
 pub mod room;
 pub mod seat;
+pub mod streams;
 pub mod table;

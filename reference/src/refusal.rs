@@ -24,7 +24,8 @@ pub const ROUTE_NUMBER: u8 = 8;
 /// Data on a waiting route.
 pub const WAITING: u8 = 9;
 /// For a packet call or a leave: an output of under 2,048 bytes. For a writer:
-/// the output is shorter than what would be written.
+/// the output is shorter than what would be written. For the frame reader: a
+/// keep of under 2,050 bytes.
 pub const OUTPUT: u8 = 10;
 /// The lent memory holds no whole room.
 pub const ROOM: u8 = 11;
@@ -41,3 +42,6 @@ pub const FAMILY: u8 = 15;
 pub const NODE_CUT: u8 = 16;
 /// Bytes left after four nodes.
 pub const NODE_COUNT: u8 = 17;
+/// A length under 17 or above 2,048, or a reader holding 2 or more bytes that
+/// start no unfinished frame.
+pub const FRAME: u8 = 18;

@@ -12,5 +12,5 @@ fn refusal(answer: i32) -> Refusal {
     u8::try_from(answer.unsigned_abs())
         .ok()
         .and_then(Refusal::from_number)
-        .expect("the library refuses with document 01's numbers")
+        .expect("the library refuses with the papers' numbers")
 }

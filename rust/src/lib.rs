@@ -1,17 +1,19 @@
 //! A Tox TCP relay for classrooms, as a library in which every function is
-//! proved to do what its paper, document 01, says: the safe interface to the
-//! static library `libbanavoge.a`.
+//! proved to do what its papers say, document 01 and, of frames, document 02's
+//! Req 01: the safe interface to the static library `libbanavoge.a`.
 //!
-//! Here are the relay, which is a [`Room`]; relay packets of both ends,
-//! [`FromClient`] and [`FromRelay`]; packed nodes, [`Node`], and lists of them,
-//! [`Nodes`]; and the [`NearestList`]. The host owns sockets, sealing and
-//! opening, and hands over opened packets. Nothing here keeps a socket, a clock
-//! or any state besides these values. A room takes its memory once, when it is
-//! made; its calls allocate nothing.
+//! Here are the relay, which is a [`Room`]; the [`Frames`] of a stream; relay
+//! packets of both ends, [`FromClient`] and [`FromRelay`]; packed nodes,
+//! [`Node`], and lists of them, [`Nodes`]; and the [`NearestList`]. The host
+//! owns sockets, sealing and opening: it hands over what comes in, is shown the
+//! frames to open, and hands over the opened packets. Nothing
+//! here keeps a socket, a clock or any state besides these values. A room takes
+//! its memory once, when it is made; its calls allocate nothing.
 //!
 //! Each call is accepted or refused with a [`Refusal`]; a refused call has
-//! written nothing and changed nothing. What is right is judged by the library
-//! alone: here its answers become types.
+//! written nothing and changed nothing, but that a reader of frames refuses
+//! every call after its first bad length. What is right is judged by the
+//! library alone: here its answers become types.
 //!
 //! # Two clients meet
 //!
@@ -71,23 +73,30 @@
 //!
 //! # In a host
 //!
-//! A host keeps a connection for each seat. It hands each opened packet to the
-//! room, and seals and sends each record:
+//! A host keeps for each seat a connection, and a reader of the frames that come
+//! in on it. It opens each frame, hands the packet to the room, and seals and
+//! sends each record:
 //!
 //! ```
-//! use banavoge::{Key, Records, Refusal, Room, Seat, LEAST_OUTPUT};
+//! use banavoge::{Frames, Key, Records, Refusal, Room, Seat, LEAST_OUTPUT};
 //!
 //! struct Connection {
 //!     // the socket, and the keys that seal and open
 //! }
 //!
 //! impl Connection {
+//!     fn open(&mut self, sealed: &[u8]) -> Vec<u8> {
+//!         // the packet in it
+//! #       Vec::new()
+//!     }
+//!
 //!     fn seal_and_send(&mut self, packet: &[u8]) {}
 //! }
 //!
 //! struct Host {
 //!     room: Room,
 //!     connections: [Option<Connection>; Room::SEATS],
+//!     frames: [Frames; Room::SEATS],
 //!     out: [u8; LEAST_OUTPUT],
 //! }
 //!
@@ -96,7 +105,22 @@
 //!     fn connected(&mut self, key: &Key, connection: Connection) -> Result<Seat, Refusal> {
 //!         let seat = self.room.arrive(key)?;
 //!         self.connections[seat.index()] = Some(connection);
+//!         self.frames[seat.index()] = Frames::new();
 //!         Ok(seat)
+//!     }
+//!
+//!     /// Bytes came in, cut anywhere. Where this is refused, no more frames can
+//!     /// be read from the connection, and it is to be closed.
+//!     fn received(&mut self, seat: Seat, mut piece: &[u8]) -> Result<(), Refusal> {
+//!         while let Some(frame) = self.frames[seat.index()].next(&mut piece)? {
+//!             let Some(connection) = &mut self.connections[seat.index()] else {
+//!                 break;
+//!             };
+//!             let packet = connection.open(frame.sealed());
+//!             // A packet that is refused sends nothing; the next frame may be good.
+//!             let _ = self.opened(seat, &packet);
+//!         }
+//!         Ok(())
 //!     }
 //!
 //!     /// A packet was opened.
@@ -137,6 +161,7 @@
 mod answer;
 mod call;
 mod connection_number;
+mod frames;
 mod key;
 mod nearest;
 mod node;
@@ -153,6 +178,7 @@ mod seat;
 
 pub use call::{Call, TooLong};
 pub use connection_number::ConnectionNumber;
+pub use frames::{Frame, Frames, LONGEST_FRAME};
 pub use key::Key;
 pub use nearest::{HeldNodes, NearestList};
 pub use node::{Node, Transport, LONGEST_NODE};

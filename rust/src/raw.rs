@@ -5,7 +5,8 @@
 //! places that are filled beforehand, so that a stray write shows.
 //!
 //! Each call answers what the library answers: 0 or more, or a refusal number
-//! with its sign changed, and then whatever is lent is as it was.
+//! with its sign changed, and then whatever is lent is as it was, but for what
+//! the call's own comment names.
 //!
 //! A C function asks of its parameters what memory asks for, and references
 //! give just that. A pointer made from a reference is neither null nor
@@ -13,6 +14,7 @@
 //! its count; an empty one has a pointer that is not null. What one call may
 //! write overlaps with nothing else that it is lent, since it comes from `&mut`.
 
+pub mod frames;
 pub mod keys;
 pub mod nearest;
 pub mod node;

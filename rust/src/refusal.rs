@@ -3,10 +3,13 @@
 use std::error::Error;
 use std::fmt;
 
-/// A refusal: one row of document 01's table "Refusal numbers".
+/// A refusal: one row of document 01's table "Refusal numbers", or one of those
+/// that document 02 adds behind them.
 ///
-/// A refused call writes nothing, and room, list and output are as they were.
-/// A refusal prints document 01's words.
+/// A refused call writes nothing, and room, list, output and piece are as they
+/// were. A reader of frames that has refused a length refuses every call after
+/// it: see [`Frames::next`](crate::Frames::next). A refusal prints the papers'
+/// words.
 ///
 /// ```
 /// use banavoge::Refusal;
@@ -40,7 +43,8 @@ pub enum Refusal {
     /// 9: data on a route that waits.
     NotConnected = 9,
     /// 10: an output of under 2,048 bytes for a packet or a leave, or one that
-    /// is shorter than what a writer would write.
+    /// is shorter than what a writer would write; a keep of under 2,050 bytes,
+    /// which [`Frames`](crate::Frames) never lends.
     OutputTooShort = 10,
     /// 11: bytes that are no whole room.
     RoomNotWhole = 11,
@@ -57,11 +61,14 @@ pub enum Refusal {
     NodeCutShort = 16,
     /// 17: bytes left after four nodes.
     BytesAfterNodes = 17,
+    /// 18: a frame with a length under 17 or above 2,048, and after it every
+    /// call of that reader.
+    BadFrame = 18,
 }
 
 impl Refusal {
     /// All refusals, in the order of their numbers.
-    pub const ALL: [Refusal; 17] = [
+    pub const ALL: [Refusal; 18] = [
         Refusal::RoomFull,
         Refusal::AlreadySeated,
         Refusal::NotSeated,
@@ -79,22 +86,23 @@ impl Refusal {
         Refusal::UnknownFamily,
         Refusal::NodeCutShort,
         Refusal::BytesAfterNodes,
+        Refusal::BadFrame,
     ];
 
-    /// Document 01's number, 1 to 17.
+    /// The papers' number, 1 to 18.
     pub const fn number(self) -> u8 {
         self as u8
     }
 
-    /// The refusal of a number; none of a number that document 01 does not
-    /// give.
+    /// The refusal of a number; none of a number that the papers do not give.
     pub fn from_number(number: u8) -> Option<Refusal> {
         Refusal::ALL
             .into_iter()
             .find(|refusal| refusal.number() == number)
     }
 
-    /// Document 01's words, from the column "Given exactly when".
+    /// Document 01's words, from the column "Given exactly when"; document 02's
+    /// for 18 and for a keep.
     const fn words(self) -> &'static str {
         match self {
             Refusal::RoomFull => "arrival with all 40 seats taken",
@@ -109,7 +117,7 @@ impl Refusal {
             }
             Refusal::NotConnected => "data on a waiting route",
             Refusal::OutputTooShort => {
-                "lent output too short: under 2,048 for packet and leave, under the exact length for a writer"
+                "lent output too short: under 2,048 for packet and leave, under the exact length for a writer; a keep that is too short"
             }
             Refusal::RoomNotWhole => "room not whole",
             Refusal::ListSize => "list size not 1 to 16",
@@ -120,6 +128,9 @@ impl Refusal {
             Refusal::UnknownFamily => "unknown family byte",
             Refusal::NodeCutShort => "node cut short",
             Refusal::BytesAfterNodes => "bytes left after four nodes",
+            Refusal::BadFrame => {
+                "a length under 17 or above 2,048; a reader holding 2 or more bytes that start no unfinished frame"
+            }
         }
     }
 }
@@ -137,12 +148,12 @@ mod tests {
     use super::Refusal;
 
     #[test]
-    fn the_numbers_are_1_to_17_and_name_their_refusals() {
+    fn the_numbers_are_1_to_18_and_name_their_refusals() {
         let numbers = Refusal::ALL.map(Refusal::number);
-        assert!(numbers.into_iter().eq(1..=17));
+        assert!(numbers.into_iter().eq(1..=18));
         for number in 0..=255 {
             let named = Refusal::from_number(number).map(Refusal::number);
-            assert_eq!(named, (1..=17).contains(&number).then_some(number));
+            assert_eq!(named, (1..=18).contains(&number).then_some(number));
         }
     }
 }

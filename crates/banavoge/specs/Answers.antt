@@ -1,4 +1,4 @@
--- Answers as one number: 0 or more is an answer, below 0 it is minus document 01's refusal number.
+-- Answers as one number: 0 or more is an answer, below 0 it is minus the papers' refusal number.
 use mathlib.Core.List.{List}
 use mathlib.Core.Path.{_≡_}
 use Prim.Native.Nat.{ℕ, _≤_}

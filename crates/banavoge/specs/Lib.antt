@@ -1,5 +1,6 @@
 -- What a reader must believe of this crate: how answers become numbers, and what is told through references.
 pub mod Answers
+pub mod Frames
 pub mod Fields
 pub mod Nodes
 pub mod Nearest

@@ -1,4 +1,5 @@
 -- A file for each file of exports in `banavoge/src`; a law for each export, under its name.
+pub mod FrameExports
 pub mod KeyExports
 pub mod ReaderExports
 pub mod WriterExports

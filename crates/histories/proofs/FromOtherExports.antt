@@ -1,5 +1,6 @@
 -- Each export that writes and is lent no room is one of `OtherExport`: what a refusal leaves (`OtherRefusedLeaves`) is what the export leaves. And the contracts of the
--- exports on a nearest list are the beginning and the steps of a list's history (`ListHistories`). Assumes nothing.
+-- exports on a nearest list are the beginning and the steps of a list's history (`ListHistories`), and that of `banavoge_frame_read` is a call on a stream
+-- (`FrameStreams`). Assumes nothing.
 use mathlib.Core.Path.{_≡_, refl, subst}
 use mathlib.Core.Bool.{true}
 use Prim.Native.Nat.{_≤_}
@@ -48,22 +49,27 @@ use Rattle.banavoge.proofs.nearest_lists.banavoge_nearest_remove.Kinds as neare
 use Rattle.banavoge.proofs.nearest_lists.banavoge_nearest_remove.Reads as nearest-remove-reads
 use Rattle.banavoge.proofs.nearest_lists.banavoge_nearest_node.Kinds as nearest-node-kinds
 use Rattle.banavoge.proofs.nearest_lists.banavoge_nearest_node.Reads as nearest-node-reads
+use Rattle.banavoge.proofs.frames.banavoge_frame_read.Kinds as frame-read-kinds
+use Rattle.banavoge.proofs.frames.banavoge_frame_read.Reads as frame-read-reads
 use Rattle.refusal.specs.declared.Refusal.the-variants.{ListSize}
 use Rattle.nearest.specs.Lists.{defaultSize, sizeRight}
 use Rattle.lent_list_laws.specs.Layout.{listLength}
 use Rattle.lent_list_laws.specs.Calls.{Begins}
 use Rattle.banavoge.specs.Answers.{refusalCode, ToldAs}
+use Rattle.banavoge.specs.Frames.{framePlaces}
 use Rattle.banavoge.specs.Fields.{places}
 use Rattle.banavoge.specs.Nodes.{nodePlaces, nodeGiven}
 use Rattle.banavoge.specs.Nearest.{keyGiven, doneCode, heldPlaces}
 use Rattle.contracts.specs.Promises.{Gives}
+use Rattle.contracts.proofs.FrameExports.{banavoge-frame-read}
 use Rattle.contracts.proofs.ReaderExports.{banavoge-relay-read, banavoge-client-read, banavoge-relay-key, banavoge-client-key}
 use Rattle.contracts.proofs.WriterExports.{banavoge-routing-request, banavoge-routing-response, banavoge-connect-notification, banavoge-disconnect-notification, banavoge-drop, banavoge-ping, banavoge-pong, banavoge-oob-send, banavoge-oob-received, banavoge-data}
 use Rattle.contracts.proofs.NodeExports.{banavoge-node-read, banavoge-nodes-step, banavoge-node-write}
 use Rattle.contracts.proofs.ListExports.{banavoge-nearest-begin, banavoge-nearest-offer, banavoge-nearest-remove, banavoge-nearest-node}
 use Rattle.histories.specs.ListHistory.{offering, removing, reading, listEvent, noHeld, ListStep, ListBegun, ofSize, ofBadSize}
 use Rattle.histories.specs.ListHistory as list
-use Rattle.histories.specs.OtherExports.{lentBytes, lentFields, lentNode, lentHeld, OtherExport, begins, bothWrite, clientKeys, clientReads, clientWrites, nodeReads, nodeWrites, nodesStep, offers, relayKeys, relayReads, relayWrites, removes, shows}
+use Rattle.histories.specs.OtherExports.{lentBytes, lentFields, lentNode, lentHeld, lentFrame, OtherExport, begins, bothWrite, clientKeys, clientReads, clientWrites, nodeReads, nodeWrites, nodesStep, offers, relayKeys, relayReads, relayWrites, removes, shows, readsFrame}
+use Rattle.histories.specs.FrameStream.{FrameCall}
 
 -- ---- what a refusal leaves
 
@@ -171,6 +177,18 @@ pub nearest-node-exported : Gives 5 nearest-node-kinds.ps nearest-node-kinds.r n
     (λ κs (list, (index, (family, (address, (port, (key, _)))))) answer (_, (_, (family′, (address′, (port′, (key′, _)))))).
     OtherExport (lentHeld (heldPlaces (now family) (now address) (now port) (now key))) answer (lentHeld (heldPlaces (now family′) (now address′) (now port′) (now key′))))
 nearest-node-exported κs args answer left p = shows _ _ (banavoge-nearest-node .gives κs args answer left p)
+
+pub frame-read-exported : Gives 5 frame-read-kinds.ps frame-read-kinds.r frame-read-reads.Post
+    (λ κs (held, (keep, (piece, (used, (end, _))))) answer (held′, (keep′, (_, (used′, (end′, _))))).
+    OtherExport (lentFrame (now keep) (framePlaces (now held) (now used) (now end))) answer (lentFrame (now keep′) (framePlaces (now held′) (now used′) (now end′))))
+frame-read-exported κs args answer left p = readsFrame _ (banavoge-frame-read .gives κs args answer left p)
+
+-- ---- a stream of frames
+
+pub frame-read-call : Gives 5 frame-read-kinds.ps frame-read-kinds.r frame-read-reads.Post
+    (λ κs (held, (keep, (piece, (used, (end, _))))) answer (held′, (keep′, (_, (used′, (end′, _))))).
+    FrameCall (now held) (now keep) (now piece) answer (framePlaces (now held′) (now used′) (now end′)) (now keep′))
+frame-read-call κs args answer left p = record { used-before = _; end-before = _; reads = banavoge-frame-read .gives κs args answer left p }
 
 -- ---- a list's history
 

@@ -1,7 +1,8 @@
 -- "A refusal answers its number with 0 bytes written; room, list and lent output are as before the call." One statement for every export that writes and is lent
--- no room, on any bytes: where it answers below 0, the list, the output and every place that it was handed are as before (`other-refused-leaves`). The one exception
--- is document 01's own, and what is left then is said too (`bad-size-leaves`). Assumes nothing.
-use mathlib.Core.Path.{_≡_, refl, ap, subst, _∙_}
+-- no room, on any bytes: where it answers below 0, the list, the output and every place that it was handed are as before, but for how many bytes a reader of frames
+-- holds and has used (`other-refused-leaves`). A list begun with a bad size is document 01's own exception, and what is left then is said too (`bad-size-leaves`).
+-- Assumes nothing.
+use mathlib.Core.Path.{_≡_, refl, ap, ap₂, subst, _∙_}
 use mathlib.Core.Bool.{Bool, true, false}
 use mathlib.Core.List.{List}
 use Prim.Native.Nat.{ℕ}
@@ -38,11 +39,14 @@ use Rattle.lent_list.specs.Held.{heldAt}
 use Rattle.lent_list_laws.proofs.RefusedLeaves.{refused-offer-leaves, refused-remove-leaves}
 use Rattle.fields.specs.declared.Fields.{Fields}
 use Rattle.banavoge.specs.Answers.{refusalCode, writtenCode, ToldAs}
+use Rattle.banavoge.specs.Frames.{FramePlaces}
 use Rattle.banavoge.specs.Fields.{Places, readCode, placesAfter, ReadsFields, keyAfter, ReadsKey}
 use Rattle.banavoge.specs.Nodes.{NodePlaces, nodeCode, nodeAfter, ReadsNode, stepCode, stepAfter, StepsNode, nodeWrittenCode}
 use Rattle.banavoge.specs.Nearest.{doneCode, keptCode, heldCode, HeldPlaces, heldAfter}
 use Rattle.histories.specs.ExportedCalls.{Below0}
-use Rattle.histories.specs.OtherExports.{Lending, lentBytes, lentFields, lentNode, lentHeld, OtherExport, relayReads, clientReads, relayKeys, clientKeys, clientWrites, relayWrites, bothWrite, nodeReads, nodesStep, nodeWrites, begins, offers, removes, shows}
+use Rattle.histories.specs.FrameStream.{RefusedFrame, too-short, bad-frame}
+use Rattle.histories.specs.OtherExports.{Lending, lentBytes, lentFields, lentNode, lentHeld, lentFrame, heldRefused, refusedLeaves, OtherExport, relayReads, clientReads, relayKeys, clientKeys, clientWrites, relayWrites, bothWrite, nodeReads, nodesStep, nodeWrites, begins, offers, removes, shows, readsFrame}
+use Rattle.histories.proofs.FrameStreams.{frame-refused}
 use Rattle.histories.proofs.ListHistories.{begun-answer, begun-list}
 
 -- ---- readers
@@ -122,7 +126,7 @@ unfolding doneCode
 remove-leaves key memory left answer.Done r below = absurd below
 remove-leaves key memory left (answer.Refused why) r below = refused-remove-leaves memory left why key r
 
--- the one exception: a list begun with a bad size is refused with 12, and memory long enough then holds the empty list of size 8
+-- document 01's one exception: a list begun with a bad size is refused with 12, and memory long enough then holds the empty list of size 8
 pub bad-size-leaves : (target : Key) (size : ℕ) (memory left : List ℕ) (z : ℤ) → sizeRight size ≡ false → ToldAs doneCode (Begins target size memory left) z
     → (z ≡ refusalCode ListSize) × (left ≡ stored (emptyOf target 8) memory)
 unfolding doneCode
@@ -133,9 +137,16 @@ bad-size-leaves target size memory left z bad c =
           ∙ ap (λ (l : NearestList). stored l memory) (begun-list target 8 (bounds-size 8 (omega arith) (omega arith))),
     )
 
+-- ---- frames
+
+frame-leaves : {before after : FramePlaces} {keep left : List ℕ} {z : ℤ} → RefusedFrame before keep z after left → lentFrame left after ≡ refusedLeaves z (lentFrame keep before)
+unfolding heldRefused refusalCode
+frame-leaves {before} {after} {keep} (too-short a h s l) = rw a (ap₂ lentFrame l s)
+frame-leaves {before} {after} {keep} (bad-frame a h s l) = rw a (ap₂ lentFrame l s)
+
 -- ---- every export
 
-pub other-refused-leaves : {before after : Lending} {z : ℤ} → OtherExport before z after → Below0 z → after ≡ before
+pub other-refused-leaves : {before after : Lending} {z : ℤ} → OtherExport before z after → Below0 z → after ≡ refusedLeaves z before
 other-refused-leaves (relayReads bs c) below = ap lentFields (fields-leave _ _ _ _ _ c below)
 other-refused-leaves (clientReads bs c) below = ap lentFields (fields-leave _ _ _ _ _ c below)
 other-refused-leaves (relayKeys bs c) below = ap lentBytes (key-leaves _ _ _ _ _ _ c below)
@@ -149,4 +160,5 @@ other-refused-leaves (nodeWrites n c) below = ap lentBytes (node-write-leaves (i
 other-refused-leaves (begins target size right c) below = ap lentBytes (begin-leaves target size _ _ (c .given) right (c .relates) (subst Below0 (c .codes) below))
 other-refused-leaves (offers n c) below = ap lentBytes (offer-leaves n _ _ (c .given) (c .relates) (subst Below0 (c .codes) below))
 other-refused-leaves (removes key c) below = ap lentBytes (remove-leaves key _ _ (c .given) (c .relates) (subst Below0 (c .codes) below))
+other-refused-leaves (readsFrame piece c) below = frame-leaves (frame-refused (record { used-before = _; end-before = _; reads = c }) below)
 other-refused-leaves (shows m index c) below = ap lentHeld (held-leaves (heldAt m index .held) (heldAt m index .node) _ _ _ (c .answers) (c .leaves) below)

@@ -1,4 +1,4 @@
-// Why a call is refused: document 01's section "Refusal numbers", in its order.
+// Why a call is refused: document 01's section "Refusal numbers", in its order, and 18 of document 02.
 //
 // One enum serves the whole library, so that a host prints every refusal by one table.
 ghost use mathlib.Core.Path.{_≡_};
@@ -22,10 +22,11 @@ pub enum Refusal {
     UnknownFamily,
     NodeCutShort,
     BytesAfterNodes,
+    BadFrame,
 }
 
 impl Refusal {
-    // Document 01's number of a refusal.
+    // The papers' number of a refusal.
     pub fn number(self) -> u8
         ensures { λ r. ⌜ r ≡ refusalNumber self ⌝ }
     {
@@ -47,6 +48,7 @@ impl Refusal {
             Refusal::UnknownFamily => 15,
             Refusal::NodeCutShort => 16,
             Refusal::BytesAfterNodes => 17,
+            Refusal::BadFrame => 18,
         }
     }
 }

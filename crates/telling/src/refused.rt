@@ -1,4 +1,4 @@
-// A refusal: its number, and document 01's words for it, from the table "Given exactly when".
+// A refusal: its number, and the papers' words for it: document 01's from the table "Given exactly when", document 02's for a keep and for 18.
 use crate::say;
 use refusal::Refusal;
 
@@ -16,7 +16,7 @@ fn reason(why: Refusal) {
         ),
         Refusal::NotConnected => say::words(b"data on a waiting route"),
         Refusal::OutputTooShort => say::words(
-            b"lent output too short: under 2,048 for packet and leave, under the exact length for a writer",
+            b"lent output too short: under 2,048 for packet and leave, under the exact length for a writer; a keep that is too short",
         ),
         Refusal::RoomNotWhole => say::words(b"room not whole"),
         Refusal::ListSize => say::words(b"list size not 1 to 16"),
@@ -27,6 +27,9 @@ fn reason(why: Refusal) {
         Refusal::UnknownFamily => say::words(b"unknown family byte"),
         Refusal::NodeCutShort => say::words(b"node cut short"),
         Refusal::BytesAfterNodes => say::words(b"bytes left after four nodes"),
+        Refusal::BadFrame => say::words(
+            b"a length under 17 or above 2,048; a reader holding 2 or more bytes that start no unfinished frame",
+        ),
     }
 }
 

@@ -1,5 +1,6 @@
 //! What the library is to reach, and whether it does.
 
+use crate::frames::{self, COPY, WHOLE};
 use crate::room_tests::PASS;
 use crate::rooms::{Filling, FULL, THIN};
 use crate::runs;
@@ -34,6 +35,8 @@ pub fn lines(tables: &Tables) -> Vec<Vec<String>> {
         played(&tables.runs, &FULL, 100.0),
         nothing_slower(tables),
         full_test(&tables.room_tests, 4.0),
+        frame_in_piece(&tables.frames, 15.0),
+        frames_cut(&tables.frames, 3.0),
     ]
 }
 
@@ -73,6 +76,21 @@ fn nothing_slower(tables: &Tables) -> Vec<String> {
 fn full_test(table: &Table, limit: f64) -> Vec<String> {
     let ratio = most(table.rows.iter().map(|row| row.ratio(PASS)));
     let aim = format!("the full test at most {limit} times one pass, on every room");
+    line(aim, format!("{ratio:.2} times"), ratio <= limit)
+}
+
+/// The slowest of the lengths.
+fn frame_in_piece(table: &Table, limit: f64) -> Vec<String> {
+    let rows = table.rows.iter().filter(|row| row.name.ends_with(WHOLE));
+    let aim = "a frame that is whole in the piece, of any length";
+    under(aim.into(), most(rows.map(Row::library)), limit)
+}
+
+fn frames_cut(table: &Table, limit: f64) -> Vec<String> {
+    let name = frames::cut_name();
+    let rows = table.rows.iter().filter(|row| row.name == name);
+    let ratio = most(rows.map(|row| row.ratio(COPY)));
+    let aim = format!("frames of {name}: at most {limit} times a plain copy");
     line(aim, format!("{ratio:.2} times"), ratio <= limit)
 }
 

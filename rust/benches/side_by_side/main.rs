@@ -8,6 +8,7 @@ mod aims;
 mod calls;
 mod changes;
 mod clock;
+mod frames;
 mod grid;
 mod groups;
 mod harness;

@@ -2,10 +2,11 @@
 
 use crate::harness::Harness;
 use crate::table::Table;
-use crate::{changes, nearest, nodes, packet_calls, readers, room_tests, runs, writers};
+use crate::{changes, frames, nearest, nodes, packet_calls, readers, room_tests, runs, writers};
 
 /// The tables, in the order in which they are measured and printed.
 pub struct Tables {
+    pub frames: Table,
     pub readers: Table,
     pub writers: Table,
     pub nodes: Table,
@@ -30,6 +31,7 @@ impl Tables {
 
     fn once(harness: &mut Harness) -> Tables {
         Tables {
+            frames: frames::table(harness),
             readers: readers::table(harness),
             writers: writers::table(harness),
             nodes: nodes::table(harness),
@@ -42,6 +44,7 @@ impl Tables {
     }
 
     fn add(&mut self, other: Tables) {
+        self.frames.add(other.frames);
         self.readers.add(other.readers);
         self.writers.add(other.writers);
         self.nodes.add(other.nodes);
@@ -52,8 +55,9 @@ impl Tables {
         self.changes.add(other.changes);
     }
 
-    pub fn all(&self) -> [&Table; 8] {
+    pub fn all(&self) -> [&Table; 9] {
         [
+            &self.frames,
             &self.readers,
             &self.writers,
             &self.nodes,

@@ -4,12 +4,14 @@
 //! inputs it ran and how often each refusal was met, and fails when a refusal
 //! was met too seldom to say anything.
 
+mod frames;
 mod generator;
 mod keys;
 mod memory;
 mod nearest;
 mod nodes;
 mod output;
+mod owned_frames;
 mod owned_lists;
 mod owned_plays;
 mod owned_rooms;

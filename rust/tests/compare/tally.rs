@@ -5,14 +5,14 @@ use std::io::Write;
 /// How often a call was accepted and how often each refusal was met.
 pub struct Tally {
     accepted: u64,
-    refused: [u64; 18],
+    refused: [u64; 19],
 }
 
 impl Tally {
     pub fn new() -> Tally {
         Tally {
             accepted: 0,
-            refused: [0; 18],
+            refused: [0; 19],
         }
     }
 

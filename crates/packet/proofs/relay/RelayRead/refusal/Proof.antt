@@ -1,5 +1,6 @@
 -- `packet::relay::RelayRead::refusal` meets its contract, case by case. Assumes nothing.
 use borrow.Author.Needs.{needs}
+use mathlib.Core.Path.{sym, ap}
 use Rattle.packet.specs.RelayReads.{relayRefusal}
 use Rattle.packet.proofs.relay.RelayRead.refusal.Statement.{statement}
 use Rattle.packet.proofs.relay.RelayRead.refusal.Tie as tie
@@ -12,7 +13,7 @@ enum-told c = search needs
 
 returns : tie.Need-returns
 unfolding relayRefusal
-returns c = search needs
+returns c = ap relayRefusal (sym (c .before .self .given .1))
 
 returns-2 : tie.Need-returns-2
 unfolding relayRefusal
