@@ -71,11 +71,11 @@ module _ (reader : Reader) (keep piece : List ℕ) where
     shows-keep : (size : ℕ) → 2050 ≤ length keep → front (heldBytes reader keep) ≡ Unfinished → front there ≡ Whole size → 1 ≤ length (heldBytes reader keep)
         → o ≡ shows (InKeep size) (readerHolding 0) (size - length (heldBytes reader keep)) (over (take size there) keep) → Ways o
 
-  not-open : {f : Front} → f ≡ BadLength → f ≡ Unfinished → ⊥
-  not-open e g = let z : _≡_ {A = ℕ} 0 1 = cc in absurd (omega arith)
+  bad-not-open : {f : Front} → f ≡ BadLength → f ≡ Unfinished → ⊥
+  bad-not-open e g = let z : _≡_ {A = ℕ} 0 1 = cc in absurd (omega arith)
 
-  not-open′ : {f : Front} {size : ℕ} → f ≡ Whole size → f ≡ Unfinished → ⊥
-  not-open′ e g = let z : _≡_ {A = ℕ} 0 1 = cc in absurd (omega arith)
+  whole-not-open : {f : Front} {size : ℕ} → f ≡ Whole size → f ≡ Unfinished → ⊥
+  whole-not-open e g = let z : _≡_ {A = ℕ} 0 1 = cc in absurd (omega arith)
 
   at-held : (size : ℕ) → 2050 ≤ length keep → front (heldBytes reader keep) ≡ Unfinished → front there ≡ Whole size
       → (t : Bool) → leb 1 (length (heldBytes reader keep)) ≡ t → Ways (readFrame reader keep piece)
@@ -92,8 +92,8 @@ module _ (reader : Reader) (keep piece : List ℕ) where
 
   at-state : 2050 ≤ length keep → (f : Front) → front (heldBytes reader keep) ≡ f → Ways (readFrame reader keep piece)
   at-state long Unfinished e = at-front long e (front there) refl
-  at-state long BadLength e = refuses-state long (not-open e) (bad-state long (not-open e))
-  at-state long (Whole size) e = refuses-state long (not-open′ e) (bad-state long (not-open′ e))
+  at-state long BadLength e = refuses-state long (bad-not-open e) (bad-state long (bad-not-open e))
+  at-state long (Whole size) e = refuses-state long (whole-not-open e) (bad-state long (whole-not-open e))
 
   at-keep : (t : Bool) → leb 2050 (length keep) ≡ t → Ways (readFrame reader keep piece)
   at-keep true e = at-state (leb-true 2050 (length keep) e) (front (heldBytes reader keep)) refl

@@ -79,55 +79,47 @@ module _ (P : List ℕ → Type 0) (none : (a : List ℕ) → front a ≡ Unfini
   by-frames : (a : List ℕ) → P a
   by-frames a = up-to (length a) a (omega arith)
 
--- the frames stay, and what was unfinished goes on
-module _ (b held : List ℕ) where
-  pub frames-behind : (a : List ℕ) → framesOf a .rest ≡ unfinished held → framesOf (a ++ b) ≡ behind (framesOf a .frames) (framesOf (held ++ b))
-  frames-behind =
-      by-frames (λ a. framesOf a .rest ≡ unfinished held → framesOf (a ++ b) ≡ behind (framesOf a .frames) (framesOf (held ++ b)))
-      (λ a e r.
-      let alone = frames-at a Unfinished e in
-      let q : unfinished a ≡ unfinished held = ap (λ (p : Parted). p .rest) (sym alone) ∙ r in
-      let same : a ≡ held = cc in
-      ap (λ (x : List ℕ). framesOf (x ++ b)) same ∙ sym (ap (λ (p : Parted). behind (p .frames) (framesOf (held ++ b))) alone))
-      (λ a e r. absurd (not-bad (ap (λ (p : Parted). p .rest) (sym (frames-at a BadLength e)) ∙ r)))
-      (λ a size e later r.
-      let w = long-of a size e in
-      let alone = frames-at a (Whole size) e in
-      frames-at (a ++ b) (Whole size) (whole-behind a b size e)
-      ∙ ap₂ (λ (x y : List ℕ). before x (framesOf y)) (take-append-le size a b (w .there)) (drop-append-le size a b (w .there))
-      ∙ ap (before (take size a)) (later (ap (λ (p : Parted). p .rest) (sym alone) ∙ r))
-      ∙ sym (ap (λ (p : Parted). behind (p .frames) (framesOf (held ++ b))) alone))
-
--- what is unfinished at the end of a stream stands so at its own front
-module _ (held : List ℕ) where
-  pub unfinished-front : (a : List ℕ) → framesOf a .rest ≡ unfinished held → front held ≡ Unfinished
-  unfinished-front =
-      by-frames (λ a. framesOf a .rest ≡ unfinished held → front held ≡ Unfinished)
+-- and so of one that ends with these bytes unfinished, where it holds of the bytes by themselves, and of a first frame before what it holds of
+module _ (held : List ℕ) (P : List ℕ → Type 0) (alone : front held ≡ Unfinished → P held)
+    (one : (a : List ℕ) (size : ℕ) → front a ≡ Whole size → framesOf a ≡ before (take size a) (framesOf (drop size a)) → P (drop size a) → P a) where
+  by-held : (a : List ℕ) → framesOf a .rest ≡ unfinished held → P a
+  by-held =
+      by-frames (λ a. framesOf a .rest ≡ unfinished held → P a)
       (λ a e r.
       let q : unfinished a ≡ unfinished held = ap (λ (p : Parted). p .rest) (sym (frames-at a Unfinished e)) ∙ r in
-      let same : a ≡ held = cc in ap front (sym same) ∙ e)
+      let same : held ≡ a = cc in subst P same (alone (ap front same ∙ e)))
       (λ a e r. absurd (not-bad (ap (λ (p : Parted). p .rest) (sym (frames-at a BadLength e)) ∙ r)))
-      (λ a size e later r. later (ap (λ (p : Parted). p .rest) (sym (frames-at a (Whole size) e)) ∙ r))
+      (λ a size e later r. let first = frames-at a (Whole size) e in one a size e first (later (ap (λ (p : Parted). p .rest) (sym first) ∙ r)))
+
+-- what is unfinished at the end of a stream stands so at its own front
+pub unfinished-front : (held a : List ℕ) → framesOf a .rest ≡ unfinished held → front held ≡ Unfinished
+unfinished-front held = by-held held (λ a. front held ≡ Unfinished) (λ e. e) (λ a size e first later. later)
+
+-- with bytes behind, the frames stay, and what was unfinished goes on
+pub frames-behind : (b held a : List ℕ) → framesOf a .rest ≡ unfinished held → framesOf (a ++ b) ≡ behind (framesOf a .frames) (framesOf (held ++ b))
+frames-behind b held =
+    by-held held (λ a. framesOf (a ++ b) ≡ behind (framesOf a .frames) (framesOf (held ++ b)))
+    (λ e. sym (ap (λ (p : Parted). behind (p .frames) (framesOf (held ++ b))) (frames-at held Unfinished e)))
+    (λ a size e first later.
+    let w = long-of a size e in
+    frames-at (a ++ b) (Whole size) (whole-behind a b size e)
+    ∙ ap₂ (λ (x y : List ℕ). before x (framesOf y)) (take-append-le size a b (w .there)) (drop-append-le size a b (w .there))
+    ∙ ap (before (take size a)) later
+    ∙ sym (ap (λ (p : Parted). behind (p .frames) (framesOf (held ++ b))) first))
 
 -- ---- nothing is lost, and nothing else is a frame
 
-module _ (held : List ℕ) where
-  -- the frames and what is unfinished, one behind the other, are the stream
-  pub frames-joined : (a : List ℕ) → framesOf a .rest ≡ unfinished held → concatenated (framesOf a .frames) ++ held ≡ a
-  unfolding concatenated
-  frames-joined =
-      by-frames (λ a. framesOf a .rest ≡ unfinished held → concatenated (framesOf a .frames) ++ held ≡ a)
-      (λ a e r.
-      let alone = frames-at a Unfinished e in
-      let q : unfinished a ≡ unfinished held = ap (λ (p : Parted). p .rest) (sym alone) ∙ r in
-      let same : a ≡ held = cc in ap (λ (p : Parted). concatenated (p .frames) ++ held) alone ∙ sym same)
-      (λ a e r. absurd (not-bad (ap (λ (p : Parted). p .rest) (sym (frames-at a BadLength e)) ∙ r)))
-      (λ a size e later r.
-      let alone = frames-at a (Whole size) e in
-      ap (λ (p : Parted). concatenated (p .frames) ++ held) alone
-      ∙ append-assoc (take size a) (concatenated (framesOf (drop size a) .frames)) held
-      ∙ ap (λ (l : List ℕ). take size a ++ l) (later (ap (λ (p : Parted). p .rest) (sym alone) ∙ r))
-      ∙ take-append-drop size a)
+-- the frames and what is unfinished, one behind the other, are the stream
+pub frames-joined : (held a : List ℕ) → framesOf a .rest ≡ unfinished held → concatenated (framesOf a .frames) ++ held ≡ a
+unfolding concatenated
+frames-joined held =
+    by-held held (λ a. concatenated (framesOf a .frames) ++ held ≡ a)
+    (λ e. ap (λ (p : Parted). concatenated (p .frames) ++ held) (frames-at held Unfinished e))
+    (λ a size e first later.
+    ap (λ (p : Parted). concatenated (p .frames) ++ held) first
+    ∙ append-assoc (take size a) (concatenated (framesOf (drop size a) .frames)) held
+    ∙ ap (λ (l : List ℕ). take size a ++ l) later
+    ∙ take-append-drop size a)
 
 pub frames-whole : (a : List ℕ) → AllWhole (framesOf a .frames)
 frames-whole =

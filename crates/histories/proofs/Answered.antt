@@ -35,6 +35,15 @@ below-zero why = go (refusalNumber why) refl (looked-up why .positive)
 pub below-not : (why : Refusal) (n : ℕ) → refusalCode why ≡ pos n → ⊥
 below-not why n e = let b = below-zero why .is in let z : _≡_ {A = ℕ} 0 1 = cc in omega arith
 
+-- nor that of another refusal
+pub same-refusal : (why other : Refusal) → refusalCode why ≡ refusalCode other → why ≡ other
+same-refusal why other e =
+    let a = below-zero why in
+    let b = below-zero other in
+    let q : negsuc (a .less) ≡ negsuc (b .less) = sym (a .is) ∙ e ∙ b .is in
+    let l : a .less ≡ b .less = cc in
+    sym (looked-up why .found) ∙ ap refusalOf (a .number ∙ ap suc l ∙ sym (b .number)) ∙ looked-up other .found
+
 -- and tells the refusal
 pub refusal-answered : (call : Call) (why : Refusal) → answered call (refusalCode why) ≡ refused why
 unfolding answered

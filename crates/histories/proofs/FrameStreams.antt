@@ -4,15 +4,13 @@
 -- leaves: `short-refused`, `state-refused`, `frame-refused`, `stays-broken`. Every call has an answer: `always-answered`. Assumes nothing.
 use mathlib.Core.Path.{_≡_, _∙_, refl, sym, ap, subst}
 use mathlib.Core.List.{List, [], _++_, append-nil}
-use Prim.Native.Nat.{ℕ, suc, _+_, _≤_}
+use Prim.Native.Nat.{ℕ, _+_, _≤_}
 use native.Mathlib.Omega.{arith}
-use lib.IntN.{ℤ, pos, negsuc}
+use lib.IntN.{ℤ, pos}
 use lib.ListN.{length, take, drop, length-take, take-append-drop}
 use lib.Seq.{take-add, take-take, take-all}
 use Rattle.refusal.specs.declared.Refusal.{Refusal}
 use Rattle.refusal.specs.declared.Refusal.the-variants.{OutputTooShort, BadFrame}
-use Rattle.refusal.specs.Numbers.{refusalOf}
-use Rattle.refusal.proofs.LookedUp.{looked-up}
 use Rattle.frame.specs.declared.Front.the-variants.{Unfinished, Whole}
 use Rattle.frame.specs.declared.Shown.{Shown}
 use Rattle.frame.specs.declared.Shown.the-variants.{More, InPiece, InKeep, Refused}
@@ -27,7 +25,7 @@ use Rattle.banavoge.specs.Answers.{refusalCode}
 use Rattle.banavoge.specs.Frames.{FramePlaces, framePlaces, shownCode, endAfter, framePlacesAfter}
 use Rattle.histories.specs.ExportedCalls.{Below0}
 use Rattle.histories.specs.FrameStream.{FrameCall, framesSeen, Reading, begun, then-read, EndsBad, CopiedOnly, ShownInPiece, Bounded, RefusedFrame, too-short, bad-frame, FrameCalls, none, next, AllRefused, AnsweredCall}
-use Rattle.histories.proofs.Answered.{below-zero, below-not}
+use Rattle.histories.proofs.Answered.{below-zero, below-not, same-refusal}
 
 -- ---- the number answered tells what is shown
 
@@ -51,15 +49,6 @@ seen-as-shown More before piece left = refl
 seen-as-shown (InPiece end) before piece left = refl
 seen-as-shown (InKeep end) before piece left = refl
 seen-as-shown (Refused why) before piece left = ap (λ (z : ℤ). framesSeen z before piece left) (below-zero why .is)
-
--- a refusal's number is that of no other
-pub same-refusal : (why other : Refusal) → refusalCode why ≡ refusalCode other → why ≡ other
-same-refusal why other e =
-    let a = below-zero why in
-    let b = below-zero other in
-    let q : negsuc (a .less) ≡ negsuc (b .less) = sym (a .is) ∙ e ∙ b .is in
-    let l : a .less ≡ b .less = cc in
-    sym (looked-up why .found) ∙ ap refusalOf (a .number ∙ ap suc l ∙ sym (b .number)) ∙ looked-up other .found
 
 refused-number : (s : Shown) (why : Refusal) → shownCode s ≡ refusalCode why → s ≡ Refused why
 unfolding shownCode
