@@ -158,7 +158,11 @@ static void print_packet(const struct host *host, const uint8_t *packet, size_t 
     const char *payload = (const char *)packet + start;
     switch (kind) {
     case BANAVOGE_KIND_ROUTING_RESPONSE:
-        printf("number %u for %s", number, name_with(host, key));
+        if (number == 0) {
+            printf("no number for %s", name_with(host, key));
+        } else {
+            printf("number %u for %s", number, name_with(host, key));
+        }
         break;
     case BANAVOGE_KIND_CONNECT_NOTIFICATION:
         printf("connected on %u", number);
@@ -434,6 +438,15 @@ static void repeated_request(struct host *host)
     CHECK(sent(host, request(host, BOB_SEAT, &alice), &response));
 }
 
+/* A client that asks for its own key gets 0, and no number is taken: Alice's next is still 17. */
+static void own_key(struct host *host)
+{
+    struct output response = nothing();
+
+    add_response(&response, ALICE_SEAT, 0, &alice);
+    CHECK(sent(host, request(host, ALICE_SEAT, &alice), &response));
+}
+
 /* Alice's second number is 17, while Carol's first is 16. */
 static void second_connection(struct host *host)
 {
@@ -658,6 +671,7 @@ int main(void)
     one_request(&host);
     both_request(&host);
     repeated_request(&host);
+    own_key(&host);
     second_connection(&host);
     data(&host);
     out_of_band(&host);

@@ -3,8 +3,9 @@
  *
  * The host owns sockets, sealing and opening. It hands over what comes in on a socket, is shown the
  * frames to open, and hands over the opened packets. Document 01 (scope and exact rules) says what
- * each function does, document 02 (changes after the base) what the frame reader does, and each is
- * proved to do so on every input. Refusal numbers and sizes are theirs.
+ * each function does, document 02 (changes after the base) what the frame reader does and how a
+ * client that asks for itself is answered, and each is proved to do so on every input. Refusal
+ * numbers and sizes are theirs.
  *
  * Answers
  *   0 or more is what the function's comment says. Below 0 it is minus a refusal number (enum
@@ -226,13 +227,14 @@ int32_t banavoge_client_key(const uint8_t *packet, size_t packet_length,
  * reader at the other end would refuse, and last, with 10, an output shorter than the packet.
  */
 
-/* A client asks for a connection to a key. 33 bytes. Refusals: 10. */
+/* A client asks for a connection to a key. 33 bytes. The client's own key is written like any
+   other; the relay answers it with the number 0. Refusals: 10. */
 int32_t banavoge_routing_request(const uint8_t key[BANAVOGE_KEY_BYTES], uint8_t *out,
                                  size_t out_length);
 
 /*
- * The relay answers a request for a key with the number given, or 0 for none. 34 bytes. Refusals: 8
- * (number 1 to 15), 10.
+ * The relay answers a request for a key with the number given, or with 0 for none: the table is
+ * full, or the key is the asker's own. 34 bytes. Refusals: 8 (number 1 to 15), 10.
  */
 int32_t banavoge_routing_response(uint8_t number, const uint8_t key[BANAVOGE_KEY_BYTES],
                                   uint8_t *out, size_t out_length);
@@ -379,8 +381,9 @@ int32_t banavoge_nearest_node(const uint8_t *list, size_t list_length, size_t in
  * stands behind is left alone. It holds no pointer, so it may be copied as plain bytes while no
  * call uses it. Its layout is no stored form: another version of the library may have another.
  *
- * A room is whole when seated keys differ, the wanted keys of one seat differ, empty seats hold no
- * routes, and what else the library keeps agrees with these. Calls leave a whole room whole.
+ * A room is whole when seated keys differ, the wanted keys of one seat differ, no seat names its own
+ * key, empty seats hold no routes, and what else the library keeps agrees with these. Calls leave a
+ * whole room whole.
  */
 
 /* How many bytes a room takes. */
@@ -391,7 +394,8 @@ int32_t banavoge_room_empty(uint8_t *room, size_t room_length);
 
 /*
  * Tests the memory in full. Answers 0 where it holds a whole room. Refusals: 11. Every relay call
- * makes this test itself; this one is for memory whose origin the host does not trust.
+ * makes this test itself; this one is for memory whose origin the host does not trust. A room kept
+ * from a version of the library that gave a client a number for its own key may be refused.
  */
 int32_t banavoge_room_check(const uint8_t *room, size_t room_length);
 
@@ -419,7 +423,8 @@ int32_t banavoge_leave(uint8_t *room, size_t room_length, uint8_t seat, uint8_t 
 
 /*
  * The client in a seat sent a packet.
- *   Routing request: a response with the old number for a key already asked for, else with the
+ *   Routing request: a response with the number 0 for the client's own key; that is no refusal,
+ *     and no route is taken. Else with the old number for a key already asked for, else with the
  *     lowest free number, or 0 where none is free. Once each has asked for the other's key, both
  *     are told connected, the asker first, each with its own number.
  *   Drop: the number is free again. A connected peer is told disconnected; its request goes on.

@@ -39,6 +39,8 @@ pub struct Generator {
     /// The seat that makes most requests in the mood of asking, and that many
     /// ask for in the mood of talking, so that it has many peers.
     favourite: usize,
+    /// The seat of the last client that was made to ask for its own key.
+    asked_itself: usize,
 }
 
 /// What most calls are about for a while.
@@ -102,6 +104,7 @@ impl Generator {
             mood: Mood::Arriving,
             lasts: 60,
             favourite: 0,
+            asked_itself: 0,
         }
     }
 
@@ -196,6 +199,9 @@ impl Generator {
     }
 
     fn request(&mut self) -> Call {
+        if self.random.percent(6) {
+            return self.request_for_itself();
+        }
         let asks = match self.mood {
             Mood::Asking => 80,
             Mood::Talking => 30,
@@ -206,16 +212,30 @@ impl Generator {
         } else {
             self.any_taken()
         };
-        let key = match self.random.below(20) {
-            0 => self.own_key(seat),
-            1 => self.named_key(seat),
-            2..=9 => self.key_that_waits_for(seat),
-            10..=12 if seat != self.favourite => self.own_key(self.favourite),
-            13..=15 => self.seated_key(),
-            16 => self.fresh_key(),
+        let key = match self.random.below(19) {
+            0 => self.named_key(seat),
+            1..=8 => self.key_that_waits_for(seat),
+            9..=11 if seat != self.favourite => self.own_key(self.favourite),
+            12..=14 => self.seated_key(),
+            15 => self.fresh_key(),
             _ => None,
         };
         let key = key.unwrap_or_else(|| self.any_key());
+        self.packet(seat, &FromClient::RoutingRequest { key })
+    }
+
+    /// A request for the own key: by a client with an empty table or a full one,
+    /// often by the one that asked so last, else by any.
+    fn request_for_itself(&mut self) -> Call {
+        let seat = match self.random.below(10) {
+            0 => self.seat_with_empty_table(),
+            1..=4 => self.seat_with_full_table(),
+            5..=8 => self.seat_that_asked_itself(),
+            _ => None,
+        };
+        let seat = seat.unwrap_or_else(|| self.any_taken());
+        self.asked_itself = seat;
+        let key = self.own_key(seat).unwrap_or_else(|| self.any_key());
         self.packet(seat, &FromClient::RoutingRequest { key })
     }
 
@@ -321,6 +341,26 @@ impl Generator {
     fn any_taken(&mut self) -> usize {
         let taken = self.taken();
         self.random.one_of(&taken).unwrap_or(0)
+    }
+
+    /// The seat that asked for its own key last, where it is taken.
+    fn seat_that_asked_itself(&self) -> Option<usize> {
+        self.room.client(self.asked_itself)?;
+        Some(self.asked_itself)
+    }
+
+    /// A taken seat of which no number names a route.
+    fn seat_with_empty_table(&mut self) -> Option<usize> {
+        let mut seats = self.taken();
+        seats.retain(|seat| self.held(*seat).is_empty());
+        self.random.one_of(&seats)
+    }
+
+    /// A taken seat of which every number names a route.
+    fn seat_with_full_table(&mut self) -> Option<usize> {
+        let mut seats = self.taken();
+        seats.retain(|seat| self.held(*seat).len() == self.room.numbers);
+        self.random.one_of(&seats)
     }
 
     /// An empty seat, or one above the last.
@@ -478,3 +518,7 @@ fn random_key(random: &mut Random) -> Key {
 #[cfg(test)]
 #[path = "generate_tests.rs"]
 mod tests;
+
+#[cfg(test)]
+#[path = "standing_tests.rs"]
+mod standing_tests;

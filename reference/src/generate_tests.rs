@@ -130,3 +130,23 @@ fn rooms_are_read_back_from_memory() {
         }
     }
 }
+
+/// A room of a history is whole no more once a seat names its own key.
+#[test]
+fn rooms_with_a_route_for_the_own_key_are_not_whole() {
+    let mut random = Random::new(7);
+    for seed in 0..4 {
+        let mut generator = Generator::new(3_000 + seed, BASE);
+        for _ in 0..100 {
+            generator.by_ref().take(20).for_each(drop);
+            let mut room = generator.room().clone();
+            let Some(seat) = random.one_of(&generator.taken()) else {
+                continue;
+            };
+            let client = room.seats[seat].as_mut().expect("a taken seat");
+            client.routes[random.below(32)] = Some(client.key);
+            assert!(!room.whole());
+            assert!(!memory::whole(&memory::encode(&room)));
+        }
+    }
+}

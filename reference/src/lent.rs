@@ -37,9 +37,20 @@ mod tests {
 
     /// A memory with one client, KA in seat 0.
     fn lent() -> Vec<u8> {
+        memory::encode(&one_client())
+    }
+
+    /// The same, with the lowest number for this key.
+    fn lent_naming(wanted: u8) -> Vec<u8> {
+        let mut room = one_client();
+        room.seats[0].as_mut().unwrap().hold(16, &[wanted; 32]);
+        memory::encode(&room)
+    }
+
+    fn one_client() -> Room {
         let mut room = Room::empty(BASE);
         room.arrive(&[0x11; 32]).unwrap();
-        memory::encode(&room)
+        room
     }
 
     /// What a call comes to, without the room.
@@ -76,5 +87,57 @@ mod tests {
         let again = Call::Arrive { key: [0x11; 32] };
         assert_eq!(answer(short, &again, 0), Err(11));
         assert_eq!(answer(&whole, &again, 0), Err(2));
+    }
+
+    /// Request 02 of document 02: each call refuses a room where a seat names
+    /// its own key, at the place of 11 in its order.
+    #[test]
+    fn a_room_where_a_seat_names_its_own_key_is_refused_with_11() {
+        let (itself, another) = (lent_naming(0x11), lent_naming(0x22));
+        let packet = |seat, bytes: &[u8]| Call::Packet {
+            seat,
+            bytes: bytes.to_vec(),
+        };
+        let request = |key: u8| packet(0, &[&[0][..], &[key; 32]].concat());
+        let calls = [
+            (request(0x11), Ok(0)),
+            (request(0x22), Ok(0)),
+            (request(0x33), Ok(0)),
+            (packet(0, &[3, 16]), Ok(0)),
+            (packet(0, &[4, 0, 0, 0, 0, 0, 0, 0, 1]), Ok(0)),
+            (packet(0, &[16, 0x61]), Err(9)),
+            (packet(0, &[17, 0x61]), Err(8)),
+            (packet(0, &[4, 0, 0, 0, 0, 0, 0, 0, 0]), Err(7)),
+            (packet(0, &[16]), Err(6)),
+            (packet(0, &[1]), Err(5)),
+            (packet(0, &[]), Err(4)),
+            (packet(1, &[]), Err(3)),
+            (Call::Leave { seat: 0 }, Ok(0)),
+            (Call::Leave { seat: 1 }, Err(3)),
+        ];
+        for (call, comes_to) in calls {
+            assert_eq!(answer(&itself, &call, 2_047), Err(10));
+            assert_eq!(answer(&itself, &call, 2_048), Err(11));
+            assert_eq!(answer(&another, &call, 2_048), comes_to);
+        }
+        for (key, comes_to) in [(0x11, Err(2)), (0x22, Ok(1))] {
+            let arrive = Call::Arrive { key: [key; 32] };
+            assert_eq!(answer(&itself, &arrive, 0), Err(11));
+            assert_eq!(answer(&another, &arrive, 0), comes_to);
+        }
+    }
+
+    #[test]
+    fn a_request_for_the_own_key_leaves_the_room_in_lent_memory_as_it_was() {
+        let bytes = [&[0][..], &[0x11; 32]].concat();
+        let call = Call::Packet { seat: 0, bytes };
+        for memory in [lent(), lent_naming(0x22)] {
+            let (room, accepted) = make(BASE, &memory, &call, 2_048).unwrap();
+            assert_eq!(memory::encode(&room), memory);
+            let answer = [&[1, 0][..], &[0x11; 32]].concat();
+            assert_eq!(accepted.records.len(), 1);
+            assert_eq!(accepted.records[0].seat, 0);
+            assert_eq!(accepted.records[0].packet, answer);
+        }
     }
 }

@@ -54,7 +54,7 @@ pub fn whole_of(sizes: Sizes, memory: &[u8]) -> bool {
     let listed = seats.listed();
     listed
         .iter()
-        .all(|seat| routes(sizes, seats.record(*seat)).whole())
+        .all(|seat| seat_whole(sizes, seats.record(*seat)))
 }
 
 /// The room of these sizes that the memory holds; none exactly when not whole.
@@ -62,16 +62,12 @@ pub fn decode_of(sizes: Sizes, memory: &[u8]) -> Option<Room> {
     if !whole_of(sizes, memory) {
         return None;
     }
-    let mut room = Room::empty(sizes);
-    let seats = seats(sizes, memory);
-    for seat in seats.listed() {
-        room.seats[seat] = Some(decode_seat(sizes, seats.record(seat)));
-    }
-    Some(room)
+    Some(listed_room(sizes, memory))
 }
 
 /// One memory that holds this whole room: what its tables do not list, and the
-/// headers, are zero bytes.
+/// headers, are zero bytes. For a room where a seat names its own key it is a
+/// memory that breaks this one rule and no other.
 pub fn encode(room: &Room) -> Vec<u8> {
     let sizes = room.sizes();
     let records: Vec<Option<Vec<u8>>> = room
@@ -82,6 +78,12 @@ pub fn encode(room: &Room) -> Vec<u8> {
     let head = [sizes.seats as u8, sizes.numbers as u8];
     let seats = table::encode(&records, seat_length(sizes));
     [&head[..], &seats].concat()
+}
+
+/// Whether the routes of a seat's record are whole, and none names its own key.
+fn seat_whole(sizes: Sizes, seat: &[u8]) -> bool {
+    let routes = routes(sizes, seat);
+    routes.whole() && !routes.lists(&seat[..KEY])
 }
 
 /// The bytes of a seat's record: 1,097 in the base.
@@ -107,7 +109,17 @@ fn routes(sizes: Sizes, seat: &[u8]) -> Table<'_> {
     }
 }
 
-/// A seat from its record, in a whole room.
+/// The room that the tables of the memory list, where each is whole.
+fn listed_room(sizes: Sizes, memory: &[u8]) -> Room {
+    let mut room = Room::empty(sizes);
+    let seats = seats(sizes, memory);
+    for seat in seats.listed() {
+        room.seats[seat] = Some(decode_seat(sizes, seats.record(seat)));
+    }
+    room
+}
+
+/// A seat from its record, where the table of its routes is whole.
 fn decode_seat(sizes: Sizes, record: &[u8]) -> Seat {
     let mut seat = Seat::taken_by(&key_of(record), sizes.numbers);
     let routes = routes(sizes, record);

@@ -30,14 +30,15 @@ fn key(number: u8) -> Key {
     key
 }
 
-/// Six clients; seat 4 is empty again, and seats 1 and 3 have routes with a gap.
+/// Six clients; seat 4 is empty again, and seats 1 and 3 have routes with a gap
+/// and name each other.
 fn room() -> Room {
     let mut room = Room::empty(BASE);
     for number in 0..6 {
         room.arrive(&key(number)).unwrap();
     }
-    for seat in [1, 3] {
-        for number in [9, 3, 1, 8, 2] {
+    for (seat, other) in [(1, 3), (3, 1)] {
+        for number in [9, other, 5, 8, 2] {
             let request = [&[0], &key(number)[..]].concat();
             room.packet(seat, &request, LEAST_OUTPUT).unwrap();
         }
@@ -263,6 +264,150 @@ fn the_routes_of_every_listed_seat_are_tested() {
     }
 }
 
+/// One client in this seat, with one route at this place that names this key.
+fn one_route(seat: usize, place: usize, wanted: Key) -> Room {
+    let mut room = Room::empty(BASE);
+    room.seats[seat] = Some(Seat::taken_by(&key(0), BASE.numbers));
+    room.seats[seat].as_mut().unwrap().routes[place] = Some(wanted);
+    room
+}
+
+/// The routes of a seat that names so many keys: this one, so many lower ones,
+/// and for the rest higher ones. The highest has the lowest number.
+fn routes_for(key: Key, count: usize, lower: usize) -> Vec<Option<Key>> {
+    let like = |byte: u8, place: usize| {
+        let mut key = [byte; 32];
+        key[31] = place as u8;
+        key
+    };
+    let lowest = (0..lower).map(|place| like(0x00, place));
+    let highest = (lower + 1..count).map(|place| like(0xff, place));
+    let rising = lowest.chain([key]).chain(highest);
+    let mut routes: Vec<Option<Key>> = rising.rev().map(Some).collect();
+    routes.resize(BASE.numbers, None);
+    routes
+}
+
+/// The room is not whole, for a seat names its own key; its tables are whole.
+fn refused_for_the_own_key(room: &Room) {
+    let memory = encode(room);
+    assert!(!room.whole());
+    assert!(tables_whole(BASE, &memory));
+    assert_eq!(listed_room(BASE, &memory), *room);
+    refused(&memory);
+}
+
+/// The room is whole and is read back from its memory.
+fn read_back(room: &Room) {
+    assert!(room.whole());
+    assert_eq!(decode(&encode(room)).as_ref(), Some(room));
+}
+
+/// Whether every table of a memory with good first bytes is whole.
+fn tables_whole(sizes: Sizes, memory: &[u8]) -> bool {
+    let seats = seats(sizes, memory);
+    let routes_whole = |seat: &usize| routes(sizes, seats.record(*seat)).whole();
+    seats.whole() && seats.listed().iter().all(routes_whole)
+}
+
+#[test]
+fn one_seat_with_one_route_for_its_own_key_is_not_whole() {
+    for seat in 0..40 {
+        for place in 0..32 {
+            read_back(&one_route(seat, place, key(1)));
+            refused_for_the_own_key(&one_route(seat, place, key(0)));
+            // The same by damage: the seat's key copied over the wanted one, and
+            // the wanted key over the seat's.
+            let (own, wanted) = (seat_at(seat), route_at(seat, place));
+            for (from, to) in [(own, wanted), (wanted, own)] {
+                let mut memory = encode(&one_route(seat, place, key(1)));
+                memory.copy_within(from..from + 32, to);
+                refused(&memory);
+            }
+        }
+    }
+}
+
+#[test]
+fn the_own_key_is_found_at_every_place_of_the_order() {
+    let mut room = room();
+    for count in 1..=32 {
+        for lower in 0..count {
+            room.seats[0].as_mut().unwrap().routes = routes_for(key(0), count, lower);
+            let listed = usize::from(encode(&room)[routes_at(0) + 1 + lower]);
+            assert_eq!(listed, count - 1 - lower);
+            refused_for_the_own_key(&room);
+            // In the same way the key of another seat, and one of nobody.
+            for number in [1, 4] {
+                room.seats[0].as_mut().unwrap().routes = routes_for(key(number), count, lower);
+                read_back(&room);
+            }
+        }
+    }
+}
+
+#[test]
+fn a_full_room_where_any_seat_names_its_own_key_is_not_whole() {
+    let full = full_room();
+    read_back(&full);
+    for seat in 0..40 {
+        for lower in [0, 1, 16, 30, 31] {
+            let mut room = full.clone();
+            room.seats[seat].as_mut().unwrap().routes = routes_for(key(seat as u8), 32, lower);
+            refused_for_the_own_key(&room);
+            // In the same way the key of another seat.
+            let other = key((seat as u8 + 1) % 40);
+            room.seats[seat].as_mut().unwrap().routes = routes_for(other, 32, lower);
+            read_back(&room);
+        }
+    }
+}
+
+#[test]
+fn a_room_where_every_seat_names_its_own_key_is_not_whole() {
+    let mut room = full_room();
+    let keys: Vec<Key> = room.seats.iter().flatten().map(|seat| seat.key).collect();
+    for (seat, key) in room.seats.iter_mut().flatten().zip(keys.iter()) {
+        seat.routes[7] = Some(*key);
+    }
+    refused_for_the_own_key(&room);
+    // Each names the seat above it, and the last names the first.
+    let above = keys.iter().cycle().skip(1);
+    for (seat, key) in room.seats.iter_mut().flatten().zip(above) {
+        seat.routes[7] = Some(*key);
+    }
+    read_back(&room);
+}
+
+#[test]
+fn a_seat_that_names_a_key_one_bit_from_its_own_is_whole() {
+    for bit in 0..256 {
+        let mut near = key(0);
+        near[bit / 8] ^= 1 << (bit % 8);
+        read_back(&one_route(0, 0, near));
+    }
+}
+
+#[test]
+fn the_own_key_where_it_is_not_listed_is_no_part_of_the_room() {
+    let mut memory = encode(&room());
+    let before = memory.clone();
+    // A free route between held ones, one of a seat without routes, and an
+    // empty seat with the record of one that names itself.
+    memory.copy_within(seat_at(1)..seat_at(1) + 32, route_at(1, 2));
+    memory.copy_within(seat_at(0)..seat_at(0) + 32, route_at(0, 0));
+    let itself = encode(&one_route(4, 0, key(0)));
+    memory[seat_at(4)..seat_at(5)].copy_from_slice(&itself[seat_at(4)..seat_at(5)]);
+    assert_ne!(memory, before);
+    assert_eq!(decode(&memory), Some(room()));
+    assert_eq!(settled(BASE, &memory), before);
+    // The only place of an order, with a count of 0.
+    let mut memory = encode(&one_route(0, 0, key(0)));
+    refused(&memory);
+    memory[routes_at(0)] = 0;
+    assert!(whole(&memory));
+}
+
 #[test]
 fn what_is_not_listed_is_no_part_of_the_room() {
     let mut memory = encode(&room());
@@ -282,8 +427,21 @@ fn what_is_not_listed_is_no_part_of_the_room() {
     assert_eq!(settled(BASE, &memory), before);
 }
 
+/// Copies the key of a seat over a wanted key of that seat or of another, and
+/// lists that route alone.
+fn copy_a_key_over_a_wanted_one(sizes: Sizes, memory: &mut [u8], random: &mut Random) {
+    let start = |seat: usize| 3 + sizes.seats + seat * seat_length(sizes);
+    let from = start(random.below(sizes.seats));
+    let routes = start(random.below(sizes.seats)) + 40;
+    let place = random.below(sizes.numbers);
+    memory[routes] = 1;
+    memory[routes + 1] = place as u8;
+    memory.copy_within(from..from + 32, routes + 1 + sizes.numbers + place * 32);
+}
+
 /// What is read from whole memory is a whole room, whose own memory is the one
-/// read but for the bytes that are no part of the room. Small rooms and few
+/// read but for the bytes that are no part of the room. Where the tables are
+/// whole and the memory is not, a seat names its own key. Small rooms and few
 /// different bytes, so that damaged memory is often whole all the same.
 #[test]
 fn whole_memory_is_the_memory_of_the_room_read() {
@@ -292,7 +450,7 @@ fn whole_memory_is_the_memory_of_the_room_read() {
         numbers: 2,
     };
     let mut random = Random::new(1);
-    let mut met = [0, 0];
+    let (mut tables_damaged, mut names_itself, mut met_whole) = (0, 0, 0);
     for _ in 0..100_000 {
         let mut memory: Vec<u8> = vec![0; length(sizes)];
         memory[..3].copy_from_slice(&[3, 2, random.below(4) as u8]);
@@ -302,14 +460,24 @@ fn whole_memory_is_the_memory_of_the_room_read() {
         for byte in &mut memory[3..] {
             *byte = random.below(3) as u8 * u8::from(random.percent(chance));
         }
+        if random.percent(50) {
+            copy_a_key_over_a_wanted_one(sizes, &mut memory, &mut random);
+        }
         let read = decode_of(sizes, &memory);
         assert_eq!(read.is_some(), whole_of(sizes, &memory));
-        met[usize::from(read.is_some())] += 1;
         if let Some(room) = read {
             assert!(room.whole());
             assert_eq!(encode(&room), settled(sizes, &memory));
+            met_whole += 1;
+        } else if tables_whole(sizes, &memory) {
+            let room = listed_room(sizes, &memory);
+            assert!(room.seats.iter().flatten().any(Seat::names_itself));
+            names_itself += 1;
+        } else {
+            tables_damaged += 1;
         }
     }
+    let met = [tables_damaged, names_itself, met_whole];
     assert!(met.iter().all(|count| *count > 1_000), "{met:?}");
 }
 

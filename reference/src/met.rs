@@ -11,9 +11,10 @@ use crate::key::Key;
 use crate::packet::{relay_read, FromClient};
 use crate::refusal::Refusal;
 use crate::room::{Accepted, Room, Sizes, LEAST_OUTPUT};
+use crate::seat::Seat;
 
 /// Every case that is counted, in no order.
-pub const CASES: [&str; 39] = [
+pub const CASES: [&str; 46] = [
     "refusal 1",
     "refusal 2",
     "refusal 3",
@@ -36,12 +37,19 @@ pub const CASES: [&str; 39] = [
     "leave that tells two peers or more",
     "leave that tells nobody",
     "request answered 0",
+    "request answered 0 for another's key",
     "request answered 0 for a seated key that waits for it",
     "request answered the last number",
     "request repeated, waiting",
     "request repeated, connected",
     "request repeated, full table",
     "request for the own key",
+    "request for the own key, empty table",
+    "request for the own key, thin table",
+    "request for the own key, full table",
+    "request for the own key repeated, empty table",
+    "request for the own key repeated, thin table",
+    "request for the own key repeated, full table",
     "request for an absent key",
     "drop of a waiting number",
     "drop refused with 8",
@@ -66,6 +74,9 @@ pub struct Met {
     met_in: HashMap<(Key, Key), usize>,
     /// The pairs that were disconnected, each both ways.
     parted: HashSet<(Key, Key)>,
+    /// The seated clients that asked for their own key, each with the case that
+    /// the table of its seat made of it.
+    asked_itself: HashSet<(Key, &'static str)>,
 }
 
 impl Met {
@@ -76,6 +87,7 @@ impl Met {
             last_seat: HashMap::new(),
             met_in: HashMap::new(),
             parted: HashSet::new(),
+            asked_itself: HashSet::new(),
         }
     }
 
@@ -136,10 +148,12 @@ impl Met {
             return;
         };
         let seat = usize::from(*seat);
-        let (Some(_), Ok(packet)) = (self.room.client(seat), relay_read(bytes)) else {
+        let (Some(client), Ok(packet)) = (self.room.client(seat), relay_read(bytes)) else {
             return;
         };
+        let own = client.key;
         match packet {
+            FromClient::RoutingRequest { key } if key == own => self.count_own_request(seat),
             FromClient::RoutingRequest { key } => self.count_request(seat, &key),
             FromClient::Drop { number } => self.count_drop(seat, number),
             FromClient::Ping { .. } => self.count("ping"),
@@ -149,6 +163,20 @@ impl Met {
         }
     }
 
+    /// A request for the own key, which is answered 0 whatever the table.
+    fn count_own_request(&mut self, seat: usize) {
+        let asker = self.room.client(seat).expect("a taken seat");
+        let own = asker.key;
+        let (case, case_repeated) = own_key_cases(asker);
+        let first = self.asked_itself.insert((own, case));
+
+        self.count("request answered 0");
+        self.count("request for the own key");
+        self.count(case);
+        self.count_if(!first, case_repeated);
+    }
+
+    /// A request for another's key, which is answered 0 with a full table alone.
     fn count_request(&mut self, seat: usize, key: &Key) {
         let asker = self.room.client(seat).expect("a taken seat");
         let own = asker.key;
@@ -159,7 +187,7 @@ impl Met {
         let asked = self.room.seat_of(key);
         let asks_back = asked
             .and_then(|asked| self.room.client(asked))
-            .is_some_and(|asked| asked.key != own && asked.number_for(&own).is_some());
+            .is_some_and(|asked| asked.number_for(&own).is_some());
         let connected = old.is_some_and(|old| self.room.peer(seat, old).is_some());
 
         self.count_if(old.is_some() && connected, "request repeated, connected");
@@ -167,11 +195,14 @@ impl Met {
         self.count_if(old.is_some() && full, "request repeated, full table");
         self.count_if(old.is_none() && full, "request answered 0");
         self.count_if(
+            old.is_none() && full,
+            "request answered 0 for another's key",
+        );
+        self.count_if(
             old.is_none() && full && asks_back,
             "request answered 0 for a seated key that waits for it",
         );
         self.count_if(gets_last, "request answered the last number");
-        self.count_if(*key == own, "request for the own key");
         self.count_if(asked.is_none(), "request for an absent key");
     }
 
@@ -232,6 +263,7 @@ impl Met {
             Call::Leave { .. } => {
                 let own = keys[seat].expect("a taken seat");
                 self.last_seat.insert(own, seat);
+                self.asked_itself.retain(|(asker, _)| *asker != own);
                 self.count_disconnects("disconnect by leave", own, &peers(3), keys);
                 self.count_if(peers(3).len() > 1, "leave that tells two peers or more");
                 self.count_if(peers(3).is_empty(), "leave that tells nobody");
@@ -286,3 +318,28 @@ impl Met {
         self.count_if(moved, "connect to a client in another seat than before");
     }
 }
+
+/// The case of a request for the own key by the table of the asker: empty, thin
+/// or full. Behind it the case where this client asked so before, with such a
+/// table, and has not left since.
+fn own_key_cases(asker: &Seat) -> (&'static str, &'static str) {
+    let empty = asker.routes.iter().all(Option::is_none);
+    match asker.lowest_free() {
+        None => (
+            "request for the own key, full table",
+            "request for the own key repeated, full table",
+        ),
+        Some(_) if empty => (
+            "request for the own key, empty table",
+            "request for the own key repeated, empty table",
+        ),
+        Some(_) => (
+            "request for the own key, thin table",
+            "request for the own key repeated, thin table",
+        ),
+    }
+}
+
+#[cfg(test)]
+#[path = "met_tests.rs"]
+mod tests;

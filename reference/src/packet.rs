@@ -33,7 +33,8 @@ pub enum FromClient {
 /// A packet that the relay sends and a client reads.
 #[derive(Debug, Clone, PartialEq, Eq)]
 pub enum FromRelay {
-    /// Kind 1: the answer to a request; number 0 says that no number is free.
+    /// Kind 1: the answer to a request; number 0 says that none is given: the key
+    /// is the asker's own, or no number is free.
     RoutingResponse { number: u8, key: Key },
     /// Kind 2.
     Connect { number: u8 },

@@ -1,7 +1,8 @@
 //! The room: the relay itself, as a plain value that its calls change.
 //!
-//! The rules are those of document 01 under "The room", and the order of
-//! refusals is the one under "Refusal numbers"; each function names its rule.
+//! The rules are those of document 01 under "The room", changed by request 02 of
+//! document 02, "A client that asks for itself". The order of refusals is the
+//! one under "Refusal numbers". Each function names its rule.
 //!
 //! Nothing is kept but the seats, their keys and the wanted keys. Whether two
 //! clients are connected is looked up each time from just these, so that no
@@ -103,12 +104,16 @@ impl Room {
 
 /// What the packets do. The seat is taken: `packet` has tested it.
 impl Room {
-    /// Rule "Request". A key already named gets its old number again and nothing
-    /// else happens. Otherwise the lowest free number is taken; with none free
-    /// the response has 0 and nothing changes. A full table is the only ground
-    /// for 0: the own key gets a number too.
+    /// Rule "Request", with request 02 of document 02. For the own key, which is
+    /// tested first, "The answer becomes 0 and no route is taken". A key already
+    /// named gets its old number again and nothing else happens. Otherwise the
+    /// lowest free number is taken; with none free the response has 0 and nothing
+    /// changes.
     fn request(&mut self, seat: usize, key: &Key) -> Vec<Record> {
         let asker = self.taken_mut(seat);
+        if asker.key == *key {
+            return vec![routing_response(seat, 0, key)];
+        }
         if let Some(number) = asker.number_for(key) {
             return vec![routing_response(seat, number, key)];
         }
@@ -225,8 +230,9 @@ impl Room {
         Some((peer, peer_number))
     }
 
-    /// Whether the room is whole: seated keys differ, and the wanted keys of
-    /// one seat differ. Empty seats hold no routes by their form.
+    /// Whether the room is whole: seated keys differ, the wanted keys of one
+    /// seat differ, and no seat names its own key. Empty seats hold no routes by
+    /// their form.
     pub fn whole(&self) -> bool {
         let clients: Vec<&Seat> = self.seats.iter().flatten().collect();
         let seated = clients.iter().map(|client| client.key).collect();
@@ -234,6 +240,7 @@ impl Room {
             && clients
                 .iter()
                 .all(|client| differ(client.routes.iter().flatten().copied().collect()))
+            && !clients.iter().any(|client| client.names_itself())
     }
 
     /// A seat that is known to be taken.

@@ -1,5 +1,5 @@
-//! The examples of document 01 on the room, the errors that students make, and
-//! the readings of its rules.
+//! The examples of document 01 on the room, the errors that students make, the
+//! readings of its rules, and request 02 of document 02.
 
 use super::*;
 use crate::record;
@@ -216,7 +216,7 @@ fn the_32nd_request_is_numbered_47_and_the_33rd_answered_0() {
     }
     // The answer 0 carries the asked key, whoever has it, and nothing changes.
     let full = room.clone();
-    for key in [KA, KB, KC, [0; 32]] {
+    for key in [KB, KC, [0; 32]] {
         let answer = run(&[&[0x00, 0x00, 0x22, 0x01, 0x00], &key]);
         assert_eq!(sends(&mut room, 0, &request(&key)), answer);
         assert_eq!(room, full);
@@ -314,16 +314,168 @@ fn both_are_told_connected_again_after_a_leave_and_a_return_to_another_seat() {
     assert_eq!(sends(&mut room, 1, &[0x10, 0x61]), received);
 }
 
-#[test]
-fn a_request_for_the_own_key_waits_for_ever() {
+/// The room with KA in seat 0, of which so many numbers are held, and KB in
+/// seat 1, whose request for KA stands.
+fn holding(held: u8) -> Room {
     let mut room = seated(&[KA, KB]);
+    sends(&mut room, 1, &request(&KA)).unwrap();
+    for number in 16..16 + held {
+        let answer = run(&[&[0x00, 0x00, 0x22, 0x01, number], &other(number)]);
+        assert_eq!(sends(&mut room, 0, &request(&other(number))), answer);
+    }
+    room
+}
+
+/// The client in this seat asks for its own key: it alone is sent anything,
+/// the answer 0 with that key, and the room stays as it was.
+fn asks_for_itself(room: &mut Room, seat: usize) {
+    let before = room.clone();
+    let own = room.client(seat).unwrap().key;
+    let answer = run(&[&[seat as u8, 0x00, 0x22, 0x01, 0x00], &own]);
+    assert_eq!(sends(room, seat, &request(&own)), answer);
+    assert_eq!(*room, before);
+}
+
+#[test]
+fn the_own_key_is_answered_0_with_any_table_however_often() {
+    for held in 0..=32 {
+        let mut room = holding(held);
+        for _ in 0..3 {
+            asks_for_itself(&mut room, 0);
+        }
+    }
+}
+
+#[test]
+fn the_own_key_does_not_get_a_number_that_was_dropped() {
+    for number in 16..=47 {
+        let mut room = holding(32);
+        assert_eq!(sends(&mut room, 0, &[0x03, number]), run(&[]));
+        asks_for_itself(&mut room, 0);
+        asks_for_itself(&mut room, 0);
+        // The next key gets it.
+        let answer = run(&[&[0x00, 0x00, 0x22, 0x01, number], &KC]);
+        assert_eq!(sends(&mut room, 0, &request(&KC)), answer);
+        asks_for_itself(&mut room, 0);
+    }
+}
+
+#[test]
+fn a_client_that_asked_for_itself_has_no_number_to_use_or_to_drop() {
+    let mut room = seated(&[KA, KB]);
+    asks_for_itself(&mut room, 0);
+    assert_eq!(sends(&mut room, 0, &[0x10, 0x61]), Err(8));
+    assert_eq!(sends(&mut room, 0, &[0x03, 0x10]), Err(8));
+    assert_eq!(sends(&mut room, 0, &[0x03, 0x00]), Err(8));
+    assert_eq!(leaves(&mut room, 0), run(&[]));
+}
+
+#[test]
+fn a_client_that_asks_for_itself_stays_connected() {
+    let mut room = after_p5();
+    asks_for_itself(&mut room, 0);
+    asks_for_itself(&mut room, 1);
+    assert_eq!(room, after_p5());
+    let received = run(&[&[0x01, 0x00, 0x03, 0x10, 0x61, 0x62]]);
+    assert_eq!(sends(&mut room, 0, &[0x10, 0x61, 0x62]), received);
+    assert_eq!(
+        leaves(&mut room, 0),
+        run(&[&[0x01, 0x00, 0x02, 0x03, 0x10]])
+    );
+}
+
+#[test]
+fn a_client_that_asked_for_itself_connects_as_if_it_had_not() {
+    let mut room = seated(&[KA, KB]);
+    asks_for_itself(&mut room, 0);
+    asks_for_itself(&mut room, 1);
+    sends(&mut room, 0, &request(&KB)).unwrap();
+    assert_eq!(room, after_p4());
+    asks_for_itself(&mut room, 0);
+    asks_for_itself(&mut room, 1);
+    let bytes = sends(&mut room, 1, &request(&KA)).unwrap();
+    assert_eq!(bytes.len(), 47);
+    assert_eq!(room, after_p5());
+}
+
+#[test]
+fn the_own_key_is_answered_0_in_every_seat() {
+    let keys: Vec<Key> = (0..40).map(other).collect();
+    let mut room = seated(&keys);
+    for seat in 0..40 {
+        asks_for_itself(&mut room, seat);
+        sends(&mut room, seat, &request(&KC)).unwrap();
+        asks_for_itself(&mut room, seat);
+    }
+}
+
+#[test]
+fn the_own_key_is_that_of_the_client_now_in_the_seat() {
+    let mut room = seated(&[KA]);
+    asks_for_itself(&mut room, 0);
+    assert_eq!(leaves(&mut room, 0), run(&[]));
+    assert_eq!(arrives(&mut room, &KC), Ok(0));
+    asks_for_itself(&mut room, 0);
+    // The key of the client that was here before is another's.
     let answer = run(&[&[0x00, 0x00, 0x22, 0x01, 0x10], &KA]);
     assert_eq!(sends(&mut room, 0, &request(&KA)), answer);
-    assert_eq!(sends(&mut room, 0, &request(&KA)), answer);
-    assert_eq!(sends(&mut room, 0, &[0x10, 0x61]), Err(9));
-    assert_eq!(sends(&mut room, 0, &[0x03, 0x10]), run(&[]));
-    assert_eq!(sends(&mut room, 0, &request(&KA)), answer);
-    assert_eq!(leaves(&mut room, 0), run(&[]));
+    assert_eq!(arrives(&mut room, &KA), Ok(1));
+    asks_for_itself(&mut room, 1);
+    let connects = run(&[
+        &[0x01, 0x00, 0x22, 0x01, 0x10],
+        &KC,
+        &[0x01, 0x00, 0x02, 0x02, 0x10],
+        &[0x00, 0x00, 0x02, 0x02, 0x10],
+    ]);
+    assert_eq!(sends(&mut room, 1, &request(&KC)), connects);
+}
+
+#[test]
+fn a_key_that_differs_from_the_own_in_one_bit_gets_a_number() {
+    for bit in 0..256 {
+        let mut key = KA;
+        key[bit / 8] ^= 1 << (bit % 8);
+        let mut room = seated(&[KA]);
+        let answer = run(&[&[0x00, 0x00, 0x22, 0x01, 0x10], &key]);
+        assert_eq!(sends(&mut room, 0, &request(&key)), answer);
+        asks_for_itself(&mut room, 0);
+    }
+}
+
+#[test]
+fn anothers_key_is_answered_0_only_with_a_full_table_that_does_not_name_it() {
+    for held in 0..=32 {
+        let number = if held < 32 { 16 + held } else { 0 };
+        // KB waits for KA: with a number for KB two notifications follow.
+        for (key, connects) in [(KB, held < 32), (KC, false), ([0; 32], false)] {
+            let mut room = holding(held);
+            let answer = sends(&mut room, 0, &request(&key)).unwrap();
+            assert_eq!(answer[..5], [0x00, 0x00, 0x22, 0x01, number]);
+            assert_eq!(answer[5..37], key);
+            assert_eq!(answer.len(), if connects { 47 } else { 37 });
+            assert_eq!(room == holding(held), number == 0);
+        }
+        for named in 16..16 + held {
+            let mut room = holding(held);
+            let answer = run(&[&[0x00, 0x00, 0x22, 0x01, named], &other(named)]);
+            assert_eq!(sends(&mut room, 0, &request(&other(named))), answer);
+            assert_eq!(room, holding(held));
+        }
+    }
+}
+
+/// In a whole room nobody can tell the order of the two tests.
+#[test]
+fn the_own_key_is_tested_before_the_search_for_an_old_number() {
+    for place in 0..32 {
+        for mut room in [holding(0), holding(5), holding(32)] {
+            room.seats[0].as_mut().unwrap().routes[place] = Some(KA);
+            let before = room.clone();
+            let accepted = room.packet(0, &request(&KA), LEAST_OUTPUT).unwrap();
+            assert_eq!(accepted.records, [routing_response(0, 0, &KA)]);
+            assert_eq!(room, before);
+        }
+    }
 }
 
 #[test]
@@ -476,8 +628,10 @@ fn other_sizes_follow_the_same_rules() {
     assert_eq!(arrives(&mut room, &KA), Ok(0));
     assert_eq!(arrives(&mut room, &KB), Ok(1));
     assert_eq!(arrives(&mut room, &KC), Err(1));
+    asks_for_itself(&mut room, 0);
     let answer = run(&[&[0x00, 0x00, 0x22, 0x01, 0x10], &KB]);
     assert_eq!(sends(&mut room, 0, &request(&KB)), answer);
+    asks_for_itself(&mut room, 0);
     let answer = run(&[&[0x00, 0x00, 0x22, 0x01, 0x00], &KC]);
     assert_eq!(sends(&mut room, 0, &request(&KC)), answer);
     assert_eq!(sends(&mut room, 0, &[0x11, 0x61]), Err(8));
@@ -492,6 +646,22 @@ fn a_room_with_a_key_twice_is_not_whole() {
     let mut room = after_p5();
     room.seats[1].as_mut().unwrap().routes[31] = Some(KA);
     assert!(!room.whole());
-    room.seats[1].as_mut().unwrap().routes[31] = Some(KB);
+    room.seats[1].as_mut().unwrap().routes[31] = Some(KC);
     assert!(room.whole());
+}
+
+#[test]
+fn a_room_where_a_seat_names_its_own_key_is_not_whole() {
+    for place in 0..32 {
+        for held in [0, 1, 31, 32] {
+            let mut room = holding(held);
+            room.seats[0].as_mut().unwrap().routes[place] = Some(KA);
+            assert!(!room.whole());
+            // In the same way the key of another seat, and one of nobody.
+            for key in [KB, KC] {
+                room.seats[0].as_mut().unwrap().routes[place] = Some(key);
+                assert!(room.whole());
+            }
+        }
+    }
 }

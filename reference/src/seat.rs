@@ -32,6 +32,11 @@ impl Seat {
             .find(|number| self.wanted(*number) == Some(*key))
     }
 
+    /// Whether a route names the key of the client itself.
+    pub fn names_itself(&self) -> bool {
+        self.number_for(&self.key).is_some()
+    }
+
     /// The lowest free number.
     pub fn lowest_free(&self) -> Option<u8> {
         self.numbers().find(|number| self.wanted(*number).is_none())
@@ -80,6 +85,25 @@ mod tests {
             let wanted = (16..=47).contains(&number).then_some([number; 32]);
             assert_eq!(seat.wanted(number), wanted);
             assert_eq!(seat.number_for(&[number; 32]), wanted.map(|_| number));
+        }
+    }
+
+    #[test]
+    fn a_seat_names_itself_by_any_of_its_routes() {
+        let mut seat = Seat::taken_by(&[0x11; 32], 32);
+        assert!(!seat.names_itself());
+        for number in seat.numbers() {
+            seat.hold(number, &[number + 1; 32]);
+        }
+        // Number 16 names the key of 32 bytes 11 hex.
+        assert!(seat.names_itself());
+        seat.free(16);
+        assert!(!seat.names_itself());
+        for number in 17..=47 {
+            seat.hold(number, &[0x11; 32]);
+            assert!(seat.names_itself());
+            seat.free(number);
+            assert!(!seat.names_itself());
         }
     }
 

@@ -37,6 +37,11 @@ impl<'a> Table<'a> {
         order.iter().map(|place| usize::from(*place)).collect()
     }
 
+    /// Whether this key is a listed one, where the table is whole.
+    pub fn lists(&self, key: &[u8]) -> bool {
+        self.listed().iter().any(|place| self.key(*place) == key)
+    }
+
     /// The record at a place in range.
     pub fn record(&self, place: usize) -> &'a [u8] {
         let start = 1 + self.places + place * self.width;
@@ -178,5 +183,29 @@ mod tests {
         bytes[4..36].fill(7);
         bytes[68..].fill(7);
         assert!(whole(&bytes));
+    }
+
+    #[test]
+    fn the_keys_of_used_places_are_listed_and_no_others() {
+        let lists = |bytes: &[u8], key: &[u8]| {
+            let (places, width) = (3, KEY);
+            Table {
+                bytes,
+                places,
+                width,
+            }
+            .lists(key)
+        };
+        let mut bytes = table([Some(9), None, Some(4)]);
+        bytes[36..68].fill(5);
+        for first in 0..=255 {
+            let used = first == 9 || first == 4;
+            assert_eq!(lists(&bytes, &[first; KEY]), used);
+        }
+        let mut near = [9; KEY];
+        near[31] = 8;
+        assert!(!lists(&bytes, &near));
+        assert!(!lists(&table([None; 3]), &[0; KEY]));
+        assert!((1..=3).all(|first| lists(&table([Some(3), Some(2), Some(1)]), &[first; KEY])));
     }
 }

@@ -122,9 +122,12 @@ impl Lesson {
 
     fn words(&self, packet: FromRelay<'_>) -> String {
         match packet {
-            FromRelay::RoutingResponse { number, key } => {
-                format!("your number for {} is {}", self.name(&key), number.0)
-            }
+            FromRelay::RoutingResponse { number, key } => match number {
+                ConnectionNumber::NONE => format!("no number for {}", self.name(&key)),
+                ConnectionNumber(number) => {
+                    format!("your number for {} is {number}", self.name(&key))
+                }
+            },
             FromRelay::ConnectNotification(number) => format!("{} is connected", number.0),
             FromRelay::DisconnectNotification(number) => format!("{} is disconnected", number.0),
             FromRelay::Data { number, payload } => {
@@ -160,6 +163,10 @@ fn main() {
     lesson.ask_for(ANA, TEACHER);
     lesson.ask_for(BEN, ANA);
     lesson.ask_for(BEN, TEACHER);
+
+    // Ben's address book is stale: he asks for his own key, and no number is taken.
+    lesson.ask_for(BEN, BEN);
+
     lesson.send_data(TEACHER, 16, "slide 1");
     lesson.send_data(TEACHER, 17, "slide 1");
 

@@ -18,7 +18,8 @@ impl ConnectionNumber {
     /// and every higher one say that it is a data packet.
     pub const FIRST: ConnectionNumber = ConnectionNumber(16);
 
-    /// 0: in a routing response it says that the client had no number free.
+    /// 0: in a routing response it says that the client got no number, for it
+    /// had none free or asked for its own key.
     pub const NONE: ConnectionNumber = ConnectionNumber(0);
 }
 

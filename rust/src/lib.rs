@@ -1,6 +1,7 @@
 //! A Tox TCP relay for classrooms, as a library in which every function is
-//! proved to do what its papers say, document 01 and, of frames, document 02's
-//! Req 01: the safe interface to the static library `libbanavoge.a`.
+//! proved to do what its papers say, document 01 and, of frames and of a client
+//! that asks for itself, document 02's Req 01 and Req 02: the safe interface to
+//! the static library `libbanavoge.a`.
 //!
 //! Here are the relay, which is a [`Room`]; the [`Frames`] of a stream; relay
 //! packets of both ends, [`FromClient`] and [`FromRelay`]; packed nodes,

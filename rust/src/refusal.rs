@@ -46,7 +46,8 @@ pub enum Refusal {
     /// is shorter than what a writer would write; a keep of under 2,050 bytes,
     /// which [`Frames`](crate::Frames) never lends.
     OutputTooShort = 10,
-    /// 11: bytes that are no whole room.
+    /// 11: bytes that are no whole room, such as those of a room in which a seat
+    /// names its own key.
     RoomNotWhole = 11,
     /// 12: the size of a nearest list is not 1 to 16.
     ListSize = 12,

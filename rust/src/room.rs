@@ -18,8 +18,11 @@ pub const LEAST_OUTPUT: usize = 2_048;
 /// caller lends; no call allocates. A refused call leaves room and output as
 /// they were.
 ///
-/// A room owns its memory, which only the library's calls change, so it is
-/// always whole: 11 is given only where a room is made from bytes.
+/// A room is whole when seated keys differ, the wanted keys of one seat differ,
+/// no seat names its own key, empty seats hold no routes, and what else the
+/// library keeps agrees with these. It owns its memory, which only the
+/// library's calls change, so it is always whole: 11 is given only where a room
+/// is made from bytes.
 #[derive(Clone)]
 pub struct Room {
     memory: Box<[u8]>,
@@ -44,7 +47,8 @@ impl Room {
 
     /// The room that stands at the front of bytes that were kept, tested in
     /// full. Refused with 11; fewer than [`Room::BYTES`] bytes are no room, and
-    /// bytes behind the room are left out.
+    /// bytes behind the room are left out. Bytes kept from a version of the
+    /// library that gave a client a number for its own key may be refused.
     ///
     /// ```
     /// use banavoge::{Key, Refusal, Room};
@@ -111,7 +115,8 @@ impl Room {
     }
 
     /// The client in a seat sends a packet, which the relay reads and acts on.
-    /// Refused with 10 or 3 to 9.
+    /// Refused with 10 or 3 to 9. A request for the sender's own key is not
+    /// refused: it is answered with 0, and no route is taken.
     ///
     /// ```
     /// use banavoge::{FromRelay, Key, Refusal, Room, LEAST_OUTPUT};

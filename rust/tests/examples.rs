@@ -1,5 +1,6 @@
 //! Document 01's examples of the relay, made on the library: those marked P,
-//! which are proved too, the bounds, and the errors that students make.
+//! which are proved too, the bounds, and the errors that students make; and
+//! document 02's client that asks for itself.
 
 use banavoge::{Key, Refusal, Room, Seat, LEAST_OUTPUT};
 
@@ -171,6 +172,25 @@ fn the_32nd_request_is_numbered_47_and_the_33rd_gets_0() {
         host.request(Seat(0), &repeated),
         Ok(answer(0, 47, &repeated))
     );
+}
+
+/// "The answer becomes 0 and no route is taken": with any table, however often.
+#[test]
+fn a_client_that_asks_for_itself_gets_0_and_no_number() {
+    let mut host = Host::new();
+    assert_eq!(host.arrive(&KA), Ok(Seat(0)));
+    for held in 0..=32 {
+        let before = host.room.clone();
+        for _ in 0..2 {
+            assert_eq!(host.request(Seat(0), &KA), Ok(answer(0, 0, &KA)));
+            assert!(host.room.as_bytes() == before.as_bytes());
+        }
+        // The next key gets the lowest number, while there is one.
+        let wanted = key_of(held);
+        let number = if held < 32 { 16 + held } else { 0 };
+        let answered = answer(0, number, &wanted);
+        assert_eq!(host.request(Seat(0), &wanted), Ok(answered));
+    }
 }
 
 #[test]

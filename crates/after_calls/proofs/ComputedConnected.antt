@@ -1,5 +1,5 @@
 -- Connected and waiting, by what has happened, in three small histories: two clients that asked for each other are connected, each under its own number, and do
--- not wait; one request is not enough; nor is a client's request for its own key. Assumes nothing.
+-- not wait; one request is not enough; and a client's request for its own key does not stand. Assumes nothing.
 use mathlib.Core.Path.{_≡_, refl, sym, subst, _∙_}
 use mathlib.Core.Bool.{Bool, true, false, cond, true≢false}
 use mathlib.Core.List.{List, [], _∷_}
@@ -12,7 +12,7 @@ use Rattle.rules.specs.Call.{Call, arrive, packetCall}
 use Rattle.rules.specs.History.{happens}
 use Rattle.rules.specs.Transcript.{Past, clientOf, fromEmpty, sitter, stands}
 use Rattle.rules.specs.After.{pastAfter}
-use Rattle.after_calls.specs.GoesOn.{Names, Connected, Waits}
+use Rattle.after_calls.specs.GoesOn.{Connected, Waits}
 use Rattle.rules.proofs.Computed.{ka, kb, kc, opened}
 
 -- what has happened after calls from the empty room
@@ -41,18 +41,15 @@ both-connected = record {
 both-do-not-wait : Waits fromEmpty (after bothAsked) 0 16 → ⊥
 both-do-not-wait w = w .alone 1 17 both-connected
 
--- ---- "a client that asks for its own key gets a number that waits for ever": KA asked for KA
+-- ---- "The answer becomes 0 and no route is taken": KA asked for KA
 
 ownAsked : List Call
 ownAsked = arrive ka ∷ ask 0 ka ∷ []
 
--- both requests, which are one, stand: what is missing is the other seat
-own-stands : Names fromEmpty (after ownAsked) 0 16 ka ka
+-- so number 16 does not name KA
+own-does-not-stand : stands fromEmpty (after ownAsked) ka 16 ka ≡ false
 unfolding opened after ownAsked ask
-own-stands = record { sits = refl; asked = refl }
-
-own-is-not-connected : Connected fromEmpty (after ownAsked) 0 16 0 16 → ⊥
-own-is-not-connected c = c .apart refl
+own-does-not-stand = refl
 
 -- ---- KA asked for KB, and KB for nobody
 

@@ -1,10 +1,11 @@
 -- What calls are answered, for every history, by what has happened alone. An arrival gets refusal 2 where its key sits; else 1 where every seat is taken;
--- else it takes the lowest empty seat. A leave or a packet of a seat where nobody sits gets 3; a leave of another seat is accepted, and a packet that
--- the relay's reader refuses gets the reader's refusal. A request gets the number under which one for its key stands; else 0 where a request stands under
--- every number; else the lowest under which none stands. A drop gets 8 where no request stands under its number, and else is accepted. The cases of each are
--- all there are, and exclude each other. That a refused call sends nothing is in `rules`, `RefusedOrAccepted.antt`. Assumes nothing.
+-- else it takes the lowest empty seat. A leave or a packet of a seat where nobody sits gets 3; a leave of another seat is accepted, and a packet that the
+-- relay's reader refuses gets the reader's refusal. A request for the client's own key gets 0; another the number under which one for its key stands; else 0
+-- where a request stands under every number; else the lowest under which none stands. A drop gets 8 where no request stands under its number, and else is
+-- accepted. The cases of each are all there are, and exclude each other. That a refused call sends nothing is in `rules`, `RefusedOrAccepted.antt`. Assumes
+-- nothing.
 use mathlib.Core.Path.{_≡_, refl, sym, ap, _∙_, subst}
-use mathlib.Core.Bool.{true, false, true≢false}
+use mathlib.Core.Bool.{Bool, true, false, true≢false}
 use mathlib.Core.List.{List, [], _∷_, _++_}
 use mathlib.Core.Logic.{_≢_}
 use Prim.Native.Nat.{ℕ, _-_}
@@ -12,7 +13,8 @@ use native.Mathlib.Omega.{arith}
 use lib.ListN.{getD}
 use Rattle.refusal.specs.declared.Refusal.{Refusal}
 use Rattle.refusal.specs.declared.Refusal.the-variants.{NotSeated}
-use Rattle.key.proofs.Same.{same-refl}
+use Rattle.key.specs.Keys.{sameKey}
+use Rattle.key.proofs.Same.{same-refl, same-sound}
 use Rattle.packet_laws.specs.Read as read
 use Rattle.packet_laws.specs.FromClient as client
 use Rattle.packet_laws.specs.FromRelay as relay
@@ -23,7 +25,7 @@ use Rattle.rules.specs.Outcome.{refuse, sentBytes, accept, to, arriveAt, leaveF
 use Rattle.rules.specs.History.{Event, event, transcript}
 use Rattle.rules.specs.Transcript.{Past, nobody, clientOf, Start, fromEmpty, isAccepted, sitter, stands}
 use Rattle.rules.specs.After.{pastAfter, clientIn, Tied}
-use Rattle.after_calls.specs.Given.{ArriveAnswered, seated, full, takes, LeaveAnswered, empty, left, Taken, Numbered, oldNumber, noneFree, lowestFree, DropAnswered, noRoute, dropped}
+use Rattle.after_calls.specs.Given.{ArriveAnswered, seated, full, takes, LeaveAnswered, empty, left, Taken, Numbered, ownKey, oldNumber, noneFree, lowestFree, DropAnswered, noRoute, dropped}
 use Rattle.rules.proofs.FindLaws.{clash, find-hit, find-miss, find-within, find-before, find-none, seat-of-holds, route-to-wants, route-at-place, wanted-place, heldOf}
 use Rattle.rules.proofs.Tied.{tied-here, seat-holds, sitter-is, wants-stands, free-stands}
 use Rattle.rules.proofs.EachEvent.{from-empty}
@@ -146,28 +148,34 @@ module _ (sizes : Sizes) (start : Start) (past : Past) (room : Room) (whole : Wh
         let b : _≡_ {A = List ℕ} (1 ∷ n ∷ wanted) (1 ∷ m ∷ wanted) = ap (λ (r : Sent). r .bytes) s in
         cc
 
-    request-found : (old lowest : Found) → find (routeTo wanted) (held .routes) ≡ old → find isFree (held .routes) ≡ lowest
-        → (number : ℕ) (later : List Sent) → requestAt old lowest room seat (held .key) wanted .sent ≡ to seat (relay.routingResponse number wanted) ∷ later → Numbered sizes start past (held .key) wanted number
+    -- a test that fails tells two keys apart
+    apart : sameKey wanted (held .key) ≡ false → wanted ≢ held .key
+    apart o q = true≢false (sym (ap (λ (k : Key). sameKey k (held .key)) q ∙ same-refl (held .key)) ∙ o)
+
+    request-found : (own : Bool) (old lowest : Found) → sameKey wanted (held .key) ≡ own → find (routeTo wanted) (held .routes) ≡ old → find isFree (held .routes) ≡ lowest
+        → (number : ℕ) (later : List Sent) → requestAt own old lowest room seat (held .key) wanted .sent ≡ to seat (relay.routingResponse number wanted) ∷ later → Numbered sizes start past (held .key) wanted number
     unfolding requestAt accept
-    request-found (at place) lowest h l number later s =
+    request-found true old lowest o h l number later s = ownKey (same-sound wanted (held .key) o) (sym (same-number 0 number _ later s))
+    request-found false (at place) lowest o h l number later s =
         let q = same-number (numberOfPlace place) number _ later s in
-        oldNumber (subst (λ (n : ℕ). stands start past (held .key) n wanted ≡ true) q
+        oldNumber (apart o) (subst (λ (n : ℕ). stands start past (held .key) n wanted ≡ true) q
         (wants-stands sizes start past room whole tie seat held sits (numberOfPlace place) wanted (route-at-place (held .routes) place ∙ route-to-wants wanted _ (find-hit (routeTo wanted) free (held .routes) place h))))
-    request-found none none h l number later s =
-        noneFree
+    request-found false none none o h l number later s =
+        noneFree (apart o)
         (record {
           notAsked = not-asked h;
           full = λ place within. not-free place (find-none isFree free (held .routes) l place (let n = whole .numbers seat held sits in omega arith));
         })
         (sym (same-number 0 number _ later s))
-    request-found none (at place) h l number later s =
-        lowestFree place (not-asked h) (let n = whole .numbers seat held sits in let w = find-within isFree (held .routes) place l in omega arith) (is-free place (find-hit isFree free (held .routes) place l))
+    request-found false none (at place) o h l number later s =
+        lowestFree (apart o) place (not-asked h) (let n = whole .numbers seat held sits in let w = find-within isFree (held .routes) place l in omega arith) (is-free place (find-hit isFree free (held .routes) place l))
         (λ lower less. not-free lower (find-before isFree free (held .routes) place l lower less)) (sym (same-number (numberOfPlace place) number _ later s))
 
     pub request-numbered : (bytes : List ℕ) → client.relayRead bytes ≡ read.packet (client.routingRequest wanted)
         → (number : ℕ) (later : List Sent) → event room (packetCall seat bytes) .sent ≡ to seat (relay.routingResponse number wanted) ∷ later → Numbered sizes start past (held .key) wanted number
     unfolding event outcome packetFrom actOn act
-    request-numbered bytes asks number later s = request-found (find (routeTo wanted) (held .routes)) (find isFree (held .routes)) refl refl number later (rw (sits, asks) at s)
+    request-numbered bytes asks number later s =
+        request-found (sameKey wanted (held .key)) (find (routeTo wanted) (held .routes)) (find isFree (held .routes)) refl refl refl number later (rw (sits, asks) at s)
 
 -- ---- every history, from the empty room
 

@@ -1,7 +1,7 @@
 -- Facts by computation: `ComputedConnected`, who is connected and who waits. Theorems, for every room or history: `ToldAgain`, a request made again after a
 -- disconnect connects both; `PeerConnected`, the search for a peer finds who is connected; `DataGoesOn`, demand 2's sentence on data; `Told`, drops, leaves and
 -- requests tell exactly the connected; `Given`, what arrivals, leaves, requests and drops are answered; `PingAndOutOfBand`, what pings, pongs and out-of-band
--- sends do; `OneSeat`, a key sits in one seat, and a request stands under one number, never under 0; `OwnKey`, the ground for 0, and a client that asks for its
+-- sends do; `OneSeat`, a key sits in one seat, and a request stands under one number, never under 0; `OwnKey`, the grounds for 0, and a client that asks for its
 -- own key.
 pub mod ComputedConnected
 pub mod ToldAgain

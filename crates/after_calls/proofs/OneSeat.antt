@@ -1,6 +1,5 @@
--- For every history, by what has happened alone: a key sits in one seat, so two connected clients have different keys; a number of a client names one key; a
--- request for a key stands under one number or under none, which the room's tables decide; and nothing stands under number 0, whatever events there were.
--- Assumes nothing.
+-- For every history, by what has happened alone: a key sits in one seat, so two connected clients have different keys; a request for a key stands under one
+-- number or under none, which the room's tables decide; and nothing stands under number 0, whatever events there were. Assumes nothing.
 use mathlib.Core.Path.{_≡_, refl, sym, ap, _∙_}
 use mathlib.Core.Bool.{true, false, _&&_}
 use mathlib.Core.List.{List, [], _∷_, _++_}
@@ -34,16 +33,7 @@ module _ (sizes : Sizes) (start : Start) (past : Past) (room : Room) (whole : Wh
   pub connected-differ : (seat number other number′ : ℕ) (c : Connected start past seat number other number′) → c .key ≢ c .wanted
   connected-differ seat number other number′ c q = c .apart (one-seat (c .key) seat other (c .here .sits) (c .there .sits ∙ ap clientOf (sym q)))
 
-  -- a number names one key
-  pub one-wanted : (key : Key) (number : ℕ) (wanted wanted′ : Key)
-      → stands start past key number wanted ≡ true → stands start past key number wanted′ ≡ true → wanted ≡ wanted′
-  one-wanted key number wanted wanted′ a b =
-      let r = routeAt (routesBy room key) number in
-      let x : r ≡ wants wanted = route-to-wants wanted r (sym (tie .requests key number wanted) ∙ a) in
-      let y : r ≡ wants wanted′ = route-to-wants wanted′ r (sym (tie .requests key number wanted′) ∙ b) in
-      cc
-
-  -- whether a request for a key stands, and then under which number: of a client's own key too
+  -- whether a request for a key stands, and then under which number; one for the client's own key stands under none (`OwnKey.antt`)
   module _ (key wanted : Key) where
     abbrev mine : List Route
     mine = routesBy room key

@@ -1,194 +1,129 @@
--- For every history, by what has happened alone: a request is answered with 0 exactly where none for its key stands and one stands under every number of its
--- client's table; and a request of a client for its own key is answered with a number that waits from then on, for as long as the request stands, however the
--- history goes on, since the client would have to sit in another seat than its own. Assumes nothing.
+-- For every history, by what has happened alone: nothing stands from a key for itself; a request is answered with 0 exactly where its key is the asker's own,
+-- or none for its key stands and one stands under every number of its client's table; and a request of a client for its own key is accepted and answered with
+-- 0, nobody else is told anything, and who sits where and which requests stand is as before. Assumes nothing.
 use mathlib.Core.Path.{_≡_, refl, sym, ap, _∙_, subst}
 use mathlib.Core.Bool.{true, false, true≢false}
-use mathlib.Core.List.{List, [], _∷_, _++_, append-assoc}
+use mathlib.Core.List.{List, [], _∷_, _++_}
 use mathlib.Core.Logic.{_↔_, _≢_}
-use Prim.Native.Nat.{ℕ, _-_}
+use Prim.Native.Nat.{ℕ}
 use native.Mathlib.Omega.{arith}
-use borrow.Author.Tests.{ne-eqb, eq-eqb}
-use Rattle.key.proofs.Same.{same-refl}
+use Rattle.key.proofs.Same.{same-refl, not-so}
 use Rattle.packet_laws.specs.Read as read
 use Rattle.packet_laws.specs.FromClient as client
 use Rattle.packet_laws.specs.FromRelay as relay
-use Rattle.packet_laws.proofs.ReadBounds.{request-key-long}
-use Rattle.rules.specs.Room.{Sizes, Key, holds, Room, seatAt, firstNumber, numberOfPlace, Held, setKey}
+use Rattle.rules.specs.Room.{Sizes, Key, Held, vacant, holds, setKey, Room, Found, none, at, find, seatOf, routeTo, seatAt, routeAt}
 use Rattle.rules.specs.Whole.{Whole}
 use Rattle.rules.specs.Call.{Call, packetCall, Sent}
-use Rattle.rules.specs.Outcome.{to, roomAfter, outcome}
+use Rattle.rules.specs.Outcome.{answerZero, accept, to, applyAll, roomAfter, requestAt, act, actOn, packetFrom, outcome}
 use Rattle.rules.specs.History.{Event, event, happens}
-use Rattle.rules.specs.Transcript.{Past, clientOf, Start, fromEmpty, sitsAfter, sitter, maker, numberAnswered, standsAfterPacket, standsAfterOwn, standsAfter, stands}
-use Rattle.rules.specs.After.{pastAfter, routesBy, Tied}
-use Rattle.after_calls.specs.GoesOn.{Names, Waits}
-use Rattle.after_calls.specs.Given.{NoneFree, Numbered, oldNumber, noneFree, lowestFree}
-use Rattle.after_calls.specs.OwnKey.{OwnWaits, OwnKey}
-use Rattle.after_calls.specs.Told.{RequestTells}
-use Rattle.rules.proofs.FindLaws.{route-to-wants, wanted-high, heldOf}
-use Rattle.rules.proofs.Whole.{whole-after}
-use Rattle.rules.proofs.AnswerLaws.{place-answered}
+use Rattle.rules.specs.Transcript.{Past, clientOf, Start, fromEmpty, sitsAfter, sitter, stands}
+use Rattle.rules.specs.After.{pastAfter, routesIn, routesBy, Tied}
+use Rattle.after_calls.specs.Given.{Numbered, ownKey, oldNumber, noneFree, lowestFree}
+use Rattle.after_calls.specs.OwnKey.{NoneForItself, ZeroGround, itsOwn, tableFull, OwnKey}
+use Rattle.rules.proofs.FindLaws.{find-hit, routes-held, seat-of-holds, route-to-wants, route-none, heldOf}
 use Rattle.rules.proofs.Tied.{tied-after, seat-holds}
 use Rattle.rules.proofs.EachEvent.{from-empty, moment-from-empty}
-use Rattle.after_calls.proofs.Told.{request-tells}
 use Rattle.after_calls.proofs.Given.{request-numbered}
-use Rattle.after_calls.proofs.OneSeat.{one-seat, one-wanted, tied-none-under-zero}
+use Rattle.after_calls.proofs.OneSeat.{tied-none-under-zero}
 
--- what has happened by the end of two parts
-past-append : (past : Past) (before : List Event) (e : Event) (more : List Event)
-    → pastAfter past (before ++ (e ∷ more)) ≡ pastAfter (e ∷ pastAfter past before) more
-unfolding pastAfter
-past-append past [] e more = refl
-past-append past (b ∷ before) e more = past-append (b ∷ past) before e more
-
--- ---- "A full table is the only ground for 0;"
+-- ---- the grounds for 0
 
 module _ (sizes : Sizes) (start : Start) (past : Past) (key wanted : Key) (noZero : stands start past key 0 wanted ≡ false) where
-  numbered-zero : (number : ℕ) → Numbered sizes start past key wanted number → (number ≡ 0) ↔ NoneFree sizes start past key wanted
-  numbered-zero number (oldNumber t) = (
-    λ z. absurd (true≢false (sym t ∙ ap (λ (n : ℕ). stands start past key n wanted) z ∙ noZero)),
-    λ f. absurd (true≢false (sym t ∙ f .notAsked number)),
-  )
-  numbered-zero number (noneFree f z) = (λ q. f, λ q. z)
-  numbered-zero number (lowestFree place new within isFree lower e) = (
-    λ z. absurd (omega arith),
-    λ f. (let k = f .full place within in absurd (true≢false (sym (k .asked) ∙ isFree (k .wanted)))),
-  )
+  -- there is none where another's key has an old number, or gets the lowest that is free
+  old-no-ground : (number : ℕ) → wanted ≢ key → stands start past key number wanted ≡ true → ZeroGround sizes start past key wanted → number ≡ 0
+  old-no-ground number other t (itsOwn e) = absurd (other e)
+  old-no-ground number other t (tableFull f) = absurd (true≢false (sym t ∙ f .notAsked number))
+
+  numbered-zero : (number : ℕ) → Numbered sizes start past key wanted number → (number ≡ 0) ↔ ZeroGround sizes start past key wanted
+  numbered-zero number (ownKey e z) = (λ q. itsOwn e, λ q. z)
+  numbered-zero number (oldNumber other t) =
+      (λ z. absurd (true≢false (sym t ∙ ap (λ (n : ℕ). stands start past key n wanted) z ∙ noZero)), old-no-ground number other t)
+  numbered-zero number (noneFree other f z) = (λ q. tableFull f, λ q. z)
+  numbered-zero number (lowestFree other place new within isFree lower e) = (λ z. absurd (omega arith), free-no-ground)
+    where
+      free-no-ground : ZeroGround sizes start past key wanted → number ≡ 0
+      free-no-ground (itsOwn e) = absurd (other e)
+      free-no-ground (tableFull f) = let k = f .full place within in absurd (true≢false (sym (k .asked) ∙ isFree (k .wanted)))
 
 module _ (sizes : Sizes) (start : Start) (past : Past) (room : Room) (whole : Whole sizes room) (tie : Tied start past room) where
-  -- a request of a seated client
-  module _ (seat : ℕ) (key : Key) (by : sitter start past seat ≡ clientOf key) (wanted : Key) (bytes : List ℕ)
-      (asks : client.relayRead bytes ≡ read.packet (client.routingRequest wanted)) where
-    abbrev asking : Event
-    asking = event room (packetCall seat bytes)
+  -- ---- nothing stands from a key for itself: where the client sits, no route names its key
 
+  pub none-for-itself : NoneForItself start past
+  unfolding routesBy routesIn routeTo seatAt
+  none-for-itself key number = tie .requests key number key ∙ go (find (seatOf key) (room .seats)) refl
+    where
+      go : (f : Found) → find (seatOf key) (room .seats) ≡ f → routeTo key (routeAt (routesIn f room) number) ≡ false
+      go none e = rw (route-none number)
+      go (at seat) e =
+          let here = seat-of-holds key (seatAt room seat) (find-hit (seatOf key) vacant (room .seats) seat e) in
+          rw (routes-held (seatAt room seat))
+          (not-so (λ h. whole .notOwn seat (setKey (heldOf (seatAt room seat)) key) here number (route-to-wants key _ h)))
+
+  -- ---- a request of a seated client
+
+  module _ (seat : ℕ) (key : Key) (by : sitter start past seat ≡ clientOf key) where
     abbrev held : Held
     held = setKey (heldOf (seatAt room seat)) key
 
     holder : seatAt room seat ≡ holds held
     holder = seat-holds sizes start past room whole tie seat key by
 
-    told : RequestTells start past seat key wanted asking
-    told = request-tells sizes start past room whole tie seat held holder wanted bytes asks
+    pub zero-exactly : (wanted : Key) (bytes : List ℕ) → client.relayRead bytes ≡ read.packet (client.routingRequest wanted) → (number : ℕ) (later : List Sent)
+        → event room (packetCall seat bytes) .sent ≡ to seat (relay.routingResponse number wanted) ∷ later
+        → (number ≡ 0) ↔ ZeroGround sizes start past key wanted
+    zero-exactly wanted bytes asks number later s =
+        numbered-zero sizes start past key wanted (tied-none-under-zero start past room tie key wanted) number
+        (request-numbered sizes start past room whole tie seat held holder wanted bytes asks number later s)
 
-    module _ (number : ℕ) (later : List Sent) (s : asking .sent ≡ to seat (relay.routingResponse number wanted) ∷ later) where
-      numbered : Numbered sizes start past key wanted number
-      numbered = request-numbered sizes start past room whole tie seat held holder wanted bytes asks number later s
+    -- for its own key
+    module _ (bytes : List ℕ) (asks : client.relayRead bytes ≡ read.packet (client.routingRequest key)) where
+      pub own-outcome : outcome room (packetCall seat bytes) ≡ answerZero seat key
+      unfolding outcome packetFrom actOn act requestAt
+      own-outcome = rw (holder, asks, same-refl key)
 
-      pub zero-exactly-full : (number ≡ 0) ↔ NoneFree sizes start past key wanted
-      zero-exactly-full = numbered-zero sizes start past key wanted (tied-none-under-zero start past room tie key wanted) number numbered
+      -- "no route is taken": the room is as before
+      pub own-room-kept : roomAfter sizes room (outcome room (packetCall seat bytes)) ≡ room
+      unfolding roomAfter accept applyAll
+      own-room-kept = rw own-outcome
 
-      -- a number other than 0 is that of a place in the table
-      number-place : Numbered sizes start past key wanted number → number ≢ 0 → number ≡ numberOfPlace (number - firstNumber)
-      number-place (oldNumber t) ne = wanted-high (routesBy room key) number wanted (route-to-wants wanted _ (sym (tie .requests key number wanted) ∙ t))
-      number-place (noneFree f z) ne = absurd (ne z)
-      number-place (lowestFree place new within isFree lower e) ne = omega arith
-
-      -- and the client reads it
-      number-read : number ≢ 0 → numberAnswered (asking .sent) ≡ number
-      number-read ne =
-          let place = number-place numbered ne in
-          let at-place = ap (λ (n : ℕ). to seat (relay.routingResponse n wanted) ∷ later) place in
-          ap numberAnswered (s ∙ at-place) ∙ place-answered seat wanted (request-key-long bytes wanted asks) later (number - firstNumber) ∙ sym place
-
-      -- so the request stands from then on
-      pub answered-stands : number ≢ 0 → Names start (asking ∷ past) seat number key wanted
-      unfolding sitter sitsAfter stands standsAfter standsAfterOwn standsAfterPacket maker event
-      answered-stands ne =
-          record { sits = by; asked = rw (by, same-refl key, asks, number-read ne, ne-eqb number 0 ne, eq-eqb number number refl, same-refl wanted) }
-
-  -- ---- "a client that asks for its own key gets a number that waits for ever"
-
-  -- its number waits, at any moment
-  pub own-number-waits : (key : Key) → OwnWaits start past key
-  own-number-waits key seat number names = record {
-    key = key;
-    wanted = key;
-    here = names;
-    alone = λ other number′ c.
-        (let k : c .key ≡ key = (let a = c .here .sits in let b = names .sits in cc) in
-        let asked : stands start past key number (c .wanted) ≡ true = subst (λ (x : Key). stands start past x number (c .wanted) ≡ true) k (c .here .asked) in
-        let w : c .wanted ≡ key = one-wanted sizes start past room whole tie key number (c .wanted) key asked (names .asked) in
-        c .apart (one-seat sizes start past room whole tie key seat other (names .sits) (c .there .sits ∙ ap clientOf w)));
-  }
-
--- a request for it
-module _ (sizes : Sizes) (start : Start) (past : Past) (room : Room) (whole : Whole sizes room) (tie : Tied start past room) (seat : ℕ) (key : Key)
-    (by : sitter start past seat ≡ clientOf key) (bytes : List ℕ) (asks : client.relayRead bytes ≡ read.packet (client.routingRequest key)) where
-  abbrev own-asking : Event
-  own-asking = event room (packetCall seat bytes)
-
-  own-told : RequestTells start past seat key key own-asking
-  own-told = told sizes start past room whole tie seat key by key bytes asks
-
-  names-then : own-told .number ≢ 0 → Names start (own-asking ∷ past) seat (own-told .number) key key
-  names-then = answered-stands sizes start past room whole tie seat key by key bytes asks (own-told .number) (own-told .later) (own-told .answered)
-
-  waits-then : own-told .number ≢ 0 → Waits start (own-asking ∷ past) seat (own-told .number)
-  waits-then ne =
-      let call = packetCall seat bytes in
-      own-number-waits sizes start (own-asking ∷ past) (roomAfter sizes room (outcome room call)) (whole-after sizes room whole call)
-      (tied-after sizes start past room whole tie call) key seat (own-told .number) (names-then ne)
-
-  -- nobody is told connected
-  answer-alone : Numbered sizes start past key key (own-told .number) → own-told .later ≡ []
-  answer-alone (oldNumber t) = own-told .old (own-told .number) t .1
-  answer-alone (noneFree f z) = own-told .zero z
-  answer-alone (lowestFree place new within isFree lower e) =
-      let ne : own-told .number ≢ 0 = λ z. omega arith in
-      own-told .new new ne .otherwise (waits-then ne .alone)
-
-  -- where its number waits for as long as it stands in what is to come
-  pub own-key : (more : List Event) → OwnWaits start (pastAfter (own-asking ∷ past) more) key → OwnKey sizes start past seat key own-asking more
-  own-key more ever =
-      let number = own-told .number in
-      let later = own-told .later in
-      let s = own-told .answered in
-      let alone = answer-alone (numbered sizes start past room whole tie seat key by key bytes asks number later s) in
-      record {
-        number = number;
-        answered = s ∙ ap (λ (l : List Sent). to seat (relay.routingResponse number key) ∷ l) alone;
-        zero = zero-exactly-full sizes start past room whole tie seat key by key bytes asks number later s;
-        names = names-then;
-        waits = waits-then;
-        forEver = ever;
+      pub own-key : OwnKey start past seat key (event room (packetCall seat bytes))
+      unfolding event accept sitter sitsAfter
+      own-key = record {
+        answer = rw own-outcome;
+        sent = rw own-outcome;
+        seats = λ here. refl;
+        requests = λ asker number wanted.
+            tied-after sizes start past room whole tie (packetCall seat bytes) .requests asker number wanted
+            ∙ ap (λ (r : Room). routeTo wanted (routeAt (routesBy r asker) number)) own-room-kept
+            ∙ sym (tie .requests asker number wanted);
       }
 
 -- ---- every history, from the empty room
 
--- the ground for 0
-pub zero-exactly-full-from-empty : (sizes : Sizes) (calls : List Call) (before : List Event) (e : Event) (later : List Event)
-    → happens sizes calls ≡ before ++ (e ∷ later)
-    → (seat : ℕ) (bytes : List ℕ) (key wanted : Key) → e .call ≡ packetCall seat bytes → client.relayRead bytes ≡ read.packet (client.routingRequest wanted)
-    → sitter fromEmpty (pastAfter [] before) seat ≡ clientOf key
-    → (number : ℕ) (sent : List Sent) → e .sent ≡ to seat (relay.routingResponse number wanted) ∷ sent
-    → (number ≡ 0) ↔ NoneFree sizes fromEmpty (pastAfter [] before) key wanted
-unfolding event
-zero-exactly-full-from-empty sizes calls before e later t seat bytes key wanted c r =
-    from-empty sizes (λ past e. e .call ≡ packetCall seat bytes → sitter fromEmpty past seat ≡ clientOf key → (number : ℕ) (sent : List Sent)
-    → e .sent ≡ to seat (relay.routingResponse number wanted) ∷ sent → (number ≡ 0) ↔ NoneFree sizes fromEmpty past key wanted)
-    (λ past room whole tie call c by number sent s.
-    let s′ = ap (λ (x : Call). event room x .sent) (sym c) ∙ s in
-    zero-exactly-full sizes fromEmpty past room whole tie seat key by wanted bytes r number sent s′)
-    calls before e later t c
+-- THE THEOREM, at each moment
+pub none-for-itself-from-empty : (sizes : Sizes) (calls : List Call) (before after : List Event) → happens sizes calls ≡ before ++ after
+    → NoneForItself fromEmpty (pastAfter [] before)
+none-for-itself-from-empty sizes = moment-from-empty sizes (NoneForItself fromEmpty) (none-for-itself sizes fromEmpty)
 
--- a number for the own key, at each moment
-pub own-number-waits-from-empty : (sizes : Sizes) (calls : List Call) (before after : List Event) → happens sizes calls ≡ before ++ after
-    → (key : Key) → OwnWaits fromEmpty (pastAfter [] before) key
-own-number-waits-from-empty sizes = moment-from-empty sizes (λ past. (key : Key) → OwnWaits fromEmpty past key) (own-number-waits sizes fromEmpty)
+module _ (sizes : Sizes) (calls : List Call) (before : List Event) (e : Event) (later : List Event) (t : happens sizes calls ≡ before ++ (e ∷ later))
+    (seat : ℕ) (bytes : List ℕ) (key : Key) (c : e .call ≡ packetCall seat bytes) (by : sitter fromEmpty (pastAfter [] before) seat ≡ clientOf key) where
+  -- the grounds for 0
+  pub zero-exactly-from-empty : (wanted : Key) → client.relayRead bytes ≡ read.packet (client.routingRequest wanted)
+      → (number : ℕ) (sent : List Sent) → e .sent ≡ to seat (relay.routingResponse number wanted) ∷ sent
+      → (number ≡ 0) ↔ ZeroGround sizes fromEmpty (pastAfter [] before) key wanted
+  unfolding event
+  zero-exactly-from-empty wanted r =
+      from-empty sizes (λ past e. e .call ≡ packetCall seat bytes → sitter fromEmpty past seat ≡ clientOf key → (number : ℕ) (sent : List Sent)
+      → e .sent ≡ to seat (relay.routingResponse number wanted) ∷ sent → (number ≡ 0) ↔ ZeroGround sizes fromEmpty past key wanted)
+      (λ past room whole tie call c by number sent s.
+      zero-exactly sizes fromEmpty past room whole tie seat key by wanted bytes r number sent (ap (λ (x : Call). event room x .sent) (sym c) ∙ s))
+      calls before e later t c by
 
--- THE THEOREM: a request for the own key, and whatever happens after it
-pub own-key-from-empty : (sizes : Sizes) (calls : List Call) (before : List Event) (e : Event) (more later : List Event)
-    → happens sizes calls ≡ before ++ (e ∷ (more ++ later))
-    → (seat : ℕ) (bytes : List ℕ) (key : Key) → e .call ≡ packetCall seat bytes → client.relayRead bytes ≡ read.packet (client.routingRequest key)
-    → sitter fromEmpty (pastAfter [] before) seat ≡ clientOf key → OwnKey sizes fromEmpty (pastAfter [] before) seat key e more
-unfolding event
-own-key-from-empty sizes calls before e more later t seat bytes key c r by =
-    from-empty sizes (λ past e. e .call ≡ packetCall seat bytes → sitter fromEmpty past seat ≡ clientOf key → OwnWaits fromEmpty (pastAfter (e ∷ past) more) key
-    → OwnKey sizes fromEmpty past seat key e more)
-    (λ past room whole tie call c by ever.
-    subst (λ (x : Call). OwnKey sizes fromEmpty past seat key (event room x) more) (sym c)
-    (own-key sizes fromEmpty past room whole tie seat key by bytes r more
-    (subst (λ (x : Call). OwnWaits fromEmpty (pastAfter (event room x ∷ past) more) key) c ever)))
-    calls before e (more ++ later) t c by
-    (subst (λ (p : Past). OwnWaits fromEmpty p key) (past-append [] before e more)
-    (own-number-waits-from-empty sizes calls (before ++ (e ∷ more)) later (t ∙ sym (append-assoc before (e ∷ more) later)) key))
+  -- a request for the own key
+  pub own-key-from-empty : client.relayRead bytes ≡ read.packet (client.routingRequest key) → OwnKey fromEmpty (pastAfter [] before) seat key e
+  unfolding event
+  own-key-from-empty r =
+      from-empty sizes (λ past e. e .call ≡ packetCall seat bytes → sitter fromEmpty past seat ≡ clientOf key → OwnKey fromEmpty past seat key e)
+      (λ past room whole tie call c by.
+      subst (λ (x : Call). OwnKey fromEmpty past seat key (event room x)) (sym c) (own-key sizes fromEmpty past room whole tie seat key by bytes r))
+      calls before e later t c by

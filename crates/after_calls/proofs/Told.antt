@@ -12,7 +12,8 @@ use native.Mathlib.Omega.{arith}
 use lib.Dec.{eqb}
 use lib.ListN.{getD, length}
 use borrow.Author.Tests.{eqb-false}
-use Rattle.key.proofs.Same.{same-refl}
+use Rattle.key.specs.Keys.{sameKey}
+use Rattle.key.proofs.Same.{same-refl, same-sound}
 use Rattle.packet_laws.specs.Read as read
 use Rattle.packet_laws.specs.FromClient as client
 use Rattle.packet_laws.specs.FromRelay as relay
@@ -179,7 +180,8 @@ module _ (sizes : Sizes) (start : Start) (past : Past) (room : Room) (whole : Wh
       go (at other) = on other (eqb seat other) refl
 
   -- where the lowest free number is given
-  module _ (bytes : List ℕ) (asks : client.relayRead bytes ≡ read.packet (client.routingRequest wanted)) (place : ℕ) (notAsked : find (routeTo wanted) (held .routes) ≡ none)
+  module _ (bytes : List ℕ) (asks : client.relayRead bytes ≡ read.packet (client.routingRequest wanted)) (place : ℕ) (other : sameKey wanted (held .key) ≡ false)
+      (notAsked : find (routeTo wanted) (held .routes) ≡ none)
       (lowest : find isFree (held .routes) ≡ at place) where
     abbrev now : Past
     now = event room (packetCall seat bytes) ∷ past
@@ -189,7 +191,7 @@ module _ (sizes : Sizes) (start : Start) (past : Past) (room : Room) (whole : Wh
 
     given : next ≡ setSeat room seat (holds (setRoute held place (wants wanted)))
     unfolding outcome packetFrom actOn act requestAt accept roomAfter applyAll apply withRoute
-    given = rw (sits, asks, notAsked, lowest) (ap (λ (s : Seat). setSeat room seat (withRoute s place (wants wanted))) sits)
+    given = rw (sits, asks, other, notAsked, lowest) (ap (λ (s : Seat). setSeat room seat (withRoute s place (wants wanted))) sits)
 
     now-connected : Connects start now seat (numberOfPlace place) (tellBoth seat (numberOfPlace place) (peer room seat (held .key) wanted))
     now-connected =
@@ -207,10 +209,23 @@ module _ (sizes : Sizes) (start : Start) (past : Past) (room : Room) (whole : Wh
         let there : getD (held .routes) (n - firstNumber) free ≡ wants wanted = wanted-place (held .routes) n wanted (stands-wants sizes start past room whole tie seat held sits n wanted t) in
         absurd (true≢false (sym (ap (routeTo wanted) there ∙ same-refl wanted) ∙ find-miss (routeTo wanted) free (held .routes) refl h (n - firstNumber)))
 
-    request-found : (old lowest : Found) → find (routeTo wanted) (held .routes) ≡ old → find isFree (held .routes) ≡ lowest
-        → event room (packetCall seat bytes) .sent ≡ requestAt old lowest room seat (held .key) wanted .sent → RequestTells start past seat (held .key) wanted (event room (packetCall seat bytes))
+    -- no request for the own key stands
+    own-not-asked : {A : Type 0} → wanted ≡ held .key → (n : ℕ) → stands start past (held .key) n wanted ≡ true → A
+    own-not-asked q n t =
+        absurd (whole .notOwn seat held sits n (stands-wants sizes start past room whole tie seat held sits n wanted t ∙ ap wants q))
+
+    request-found : (own : Bool) (old lowest : Found) → sameKey wanted (held .key) ≡ own → find (routeTo wanted) (held .routes) ≡ old → find isFree (held .routes) ≡ lowest
+        → event room (packetCall seat bytes) .sent ≡ requestAt own old lowest room seat (held .key) wanted .sent → RequestTells start past seat (held .key) wanted (event room (packetCall seat bytes))
     unfolding requestAt accept
-    request-found (at place) lowest h l s =
+    request-found true old lowest o h l s = record {
+      number = 0;
+      later = [];
+      answered = s;
+      old = λ n t. own-not-asked (same-sound wanted (held .key) o) n t;
+      zero = λ q. refl;
+      new = λ none-stands q. absurd (q refl);
+    }
+    request-found false (at place) lowest o h l s =
         let there : routeAt (held .routes) (numberOfPlace place) ≡ wants wanted = route-at-place (held .routes) place ∙ route-to-wants wanted _ (find-hit (routeTo wanted) free (held .routes) place h) in
         record {
           number = numberOfPlace place;
@@ -220,7 +235,7 @@ module _ (sizes : Sizes) (start : Start) (past : Past) (room : Room) (whole : Wh
           zero = λ q. refl;
           new = λ none-stands q. absurd (true≢false (sym (wants-stands sizes start past room whole tie seat held sits (numberOfPlace place) wanted there) ∙ none-stands (numberOfPlace place)));
         }
-    request-found none none h l s = record {
+    request-found false none none o h l s = record {
       number = 0;
       later = [];
       answered = s;
@@ -228,18 +243,19 @@ module _ (sizes : Sizes) (start : Start) (past : Past) (room : Room) (whole : Wh
       zero = λ q. refl;
       new = λ none-stands q. absurd (q refl);
     }
-    request-found none (at place) h l s = record {
+    request-found false none (at place) o h l s = record {
       number = numberOfPlace place;
       later = tellBoth seat (numberOfPlace place) (peer room seat (held .key) wanted);
       answered = s;
       old = λ n t. not-asked h n t;
       zero = λ q. absurd (omega arith);
-      new = λ none-stands q. now-connected bytes asks place h l;
+      new = λ none-stands q. now-connected bytes asks place o h l;
     }
 
     pub request-tells : RequestTells start past seat (held .key) wanted (event room (packetCall seat bytes))
     unfolding event outcome packetFrom actOn act
-    request-tells = request-found (find (routeTo wanted) (held .routes)) (find isFree (held .routes)) refl refl (rw (sits, asks))
+    request-tells =
+        request-found (sameKey wanted (held .key)) (find (routeTo wanted) (held .routes)) (find isFree (held .routes)) refl refl refl (rw (sits, asks))
 
 -- ---- every history, from the empty room
 

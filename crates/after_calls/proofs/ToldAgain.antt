@@ -9,7 +9,8 @@ use Prim.Native.Nat.{ℕ, zero, suc, _-_, _<_}
 use native.Mathlib.Omega.{arith}
 use lib.ListN.{getD, length, replicate}
 use lib.Seq.{getD-set-same}
-use Rattle.key.proofs.Same.{same-refl}
+use Rattle.key.specs.Keys.{sameKey}
+use Rattle.key.proofs.Same.{same-refl, same-sound, not-so}
 use Rattle.packet_laws.specs.Read as read
 use Rattle.packet_laws.specs.FromClient as client
 use Rattle.packet_laws.specs.FromRelay as relay
@@ -20,7 +21,7 @@ use Rattle.rules.specs.Outcome.{withRoute, apply, applyAll, refuse, accept, to,
 use Rattle.rules.specs.Transcript.{isAccepted}
 use Rattle.after_calls.specs.Told.{BothTold}
 use Rattle.rules.proofs.FindLaws.{clash, Once, find-hit, find-miss, find-within, find-once, find-clear, find-replicate, seat-set, held-within, wanted-high, wanted-place}
-use Rattle.rules.proofs.Whole.{key-once, wanted-once, whole-after}
+use Rattle.rules.proofs.Whole.{key-once, wanted-once, seats-keys-differ, whole-after}
 use Rattle.rules.proofs.PeerLaws.{has-peer}
 use Rattle.rules.proofs.OtherSeats.{packet-keeps-others, leave-keeps-others, arrive-keeps-others}
 
@@ -31,12 +32,15 @@ module _ (sizes : Sizes) (room : Room) (whole : Whole sizes room) (seat other : 
   their-number : numberOfPlace (number - firstNumber) ≡ number
   their-number = let h = wanted-high (held′ .routes) number (held .key) stands in omega arith
 
+  keys-differ : sameKey (held′ .key) (held .key) ≡ false
+  keys-differ = not-so (λ e. seats-keys-differ sizes room whole seat other held held′ here there .0 ne (sym (same-sound (held′ .key) (held .key) e)))
+
   pub both-told : (bytes : List ℕ) → client.relayRead bytes ≡ read.packet (client.routingRequest (held′ .key)) → BothTold (outcome room (packetCall seat bytes)) seat other number (held′ .key)
   unfolding outcome packetFrom actOn act requestAt accept tellBoth
   both-told bytes asks = record {
     own = numberOfPlace place;
     sent =
-        rw (here, asks, notAsked, lowest, has-peer room seat (held .key) (held′ .key) sizes whole other number (record { apart = ne; held = held′; sits = there; asked = stands }))
+        rw (here, asks, keys-differ, notAsked, lowest, has-peer room seat (held .key) (held′ .key) sizes whole other number (record { apart = ne; held = held′; sits = there; asked = stands }))
         (ap (λ (n : ℕ). to seat (relay.routingResponse (numberOfPlace place) (held′ .key)) ∷ to seat (relay.connectNotice (numberOfPlace place)) ∷ to other (relay.connectNotice n) ∷ []) their-number);
   }
 

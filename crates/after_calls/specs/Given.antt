@@ -1,5 +1,5 @@
--- What arrivals, leaves, requests and drops are answered, by what has happened alone: document 01, "The room", with the refusals of "Refusal numbers" exactly
--- where they are given. The cases of each are all there are.
+-- What arrivals, leaves, requests and drops are answered, by what has happened alone: document 01, "The room", and document 02, "A client that asks for itself",
+-- with the refusals of "Refusal numbers" exactly where they are given. The cases of each are all there are.
 use mathlib.Core.Bool.{true, false}
 use mathlib.Core.Logic.{_≢_}
 use mathlib.Core.Path.{_≡_}
@@ -36,18 +36,19 @@ pub data Asked (start : Start) (past : Past) (key wanted : Key) : Type 0 where
       → Asked start past key wanted
   notAsked : ((n : ℕ) → stands start past key n wanted ≡ false) → Asked start past key wanted
 
--- what a request of `key` for `wanted` is answered with 0 for: none for that key stands, and one stands under every number of the client's table. "A full
--- table is the only ground for 0;"
+-- a full table that does not name the key `wanted`, "with none free": no request of `key` for it stands, and one stands under every number of the client's
+-- table
 pub record NoneFree (sizes : Sizes) (start : Start) (past : Past) (key wanted : Key) : Type 0 where
   pub notAsked : (n : ℕ) → stands start past key n wanted ≡ false
   pub full : (place : ℕ) → place < sizes .numbers → Taken start past key (numberOfPlace place)
 
--- the number that a request of `key` for `wanted` is answered with: "a key already named by this seat gets its old number again", "Otherwise the lowest free
--- number is taken, or, with none free, the answer is 0"
+-- the number that a request of `key` for `wanted` is answered with. Its own key, document 02: "The answer becomes 0 and no route is taken". Another's: "a key
+-- already named by this seat gets its old number again", "Otherwise the lowest free number is taken, or, with none free, the answer is 0"
 pub data Numbered (sizes : Sizes) (start : Start) (past : Past) (key wanted : Key) (number : ℕ) : Type 0 where
-  oldNumber : stands start past key number wanted ≡ true → Numbered sizes start past key wanted number
-  noneFree : NoneFree sizes start past key wanted → number ≡ 0 → Numbered sizes start past key wanted number
-  lowestFree : (place : ℕ) → ((n : ℕ) → stands start past key n wanted ≡ false) → place < sizes .numbers
+  ownKey : wanted ≡ key → number ≡ 0 → Numbered sizes start past key wanted number
+  oldNumber : wanted ≢ key → stands start past key number wanted ≡ true → Numbered sizes start past key wanted number
+  noneFree : wanted ≢ key → NoneFree sizes start past key wanted → number ≡ 0 → Numbered sizes start past key wanted number
+  lowestFree : wanted ≢ key → (place : ℕ) → ((n : ℕ) → stands start past key n wanted ≡ false) → place < sizes .numbers
       → ((other : Key) → stands start past key (numberOfPlace place) other ≡ false)
       → ((lower : ℕ) → lower < place → Taken start past key (numberOfPlace lower)) → number ≡ numberOfPlace place → Numbered sizes start past key wanted number
 

@@ -1,4 +1,4 @@
--- Who is told of a connection, by what has happened alone: document 01, "The room".
+-- Who is told of a connection, by what has happened alone: document 01, "The room", and document 02, "A client that asks for itself".
 use mathlib.Core.Bool.{true, false}
 use mathlib.Core.List.{List, [], _∷_, _++_}
 use mathlib.Core.Logic.{_↔_, _≢_}
@@ -45,9 +45,9 @@ pub record LeaveTells (sizes : Sizes) (start : Start) (past : Past) (seat : ℕ)
   pub inTurn : InTurn start past seat firstNumber (sizes .numbers) sent
   pub all : (number other number′ : ℕ) → Connected start past seat number other number′ → (firstNumber ≤ number) × (number < firstNumber + sizes .numbers)
 
--- ---- a request: "a key already named by this seat gets its old number again and nothing else happens. Otherwise the lowest free number is taken, or, with
--- none free, the answer is 0 and nothing changes. Then, if the two are now connected, connected is sent to the asker, then to the peer, each with its own
--- number."
+-- ---- a request. Of the client's own key, document 02: "The answer becomes 0 and no route is taken". Of another's: "a key already named by this seat gets its old
+-- number again and nothing else happens. Otherwise the lowest free number is taken, or, with none free, the answer is 0 and nothing changes. Then, if the two
+-- are now connected, connected is sent to the asker, then to the peer, each with its own number."
 
 -- the two notifications exactly where there is a peer; else nothing
 pub record Connects (start : Start) (past : Past) (seat number : ℕ) (sent : List Sent) : Type 0 where
@@ -64,7 +64,7 @@ pub record RequestTells (start : Start) (past : Past) (seat : ℕ) (key wanted :
   pub answered : e .sent ≡ to seat (relay.routingResponse number wanted) ∷ later
   -- "a key already named by this seat gets its old number again and nothing else happens"
   pub old : (n : ℕ) → stands start past key n wanted ≡ true → (number ≡ n) × (later ≡ [])
-  -- "the answer is 0 and nothing changes"
+  -- "the answer is 0 and nothing changes", of the own key too
   pub zero : number ≡ 0 → later ≡ []
   -- a number that is new
   pub new : ((n : ℕ) → stands start past key n wanted ≡ false) → number ≢ 0 → Connects start (e ∷ past) seat number later

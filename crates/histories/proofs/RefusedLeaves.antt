@@ -1,29 +1,34 @@
 -- "A refusal answers its number with 0 bytes written; room, list and lent output are as before the call." One statement for every export of a room, on any memory:
--- where it answers below 0, the memory of the room, the output and every place that it was handed are as before (`refused-leaves`). Assumes nothing.
+-- where it answers below 0, the memory of the room, the output and every place that it was handed are as before (`refused-leaves`). And those that test
+-- the room, on memory that is not a whole room, answer minus 11 and leave it all (`not-whole-refused`); so where a seat names its own key
+-- (`names-itself-refused`). Assumes nothing.
 use mathlib.Core.Path.{_≡_, refl, sym, ap, ap₂, subst, _∙_}
 use mathlib.Core.Bool.{Bool, true, false, cond}
 use mathlib.Core.List.{List, []}
-use Prim.Native.Nat.{ℕ}
+use Prim.Native.Nat.{ℕ, _≤_}
 use native.Mathlib.Omega.{arith}
 use lib.IntN.{ℤ}
 use lib.ListN.{length}
+use borrow.Author.Tests.{le-leb}
 use Rattle.refusal.specs.declared.Refusal.{Refusal}
 use Rattle.refusal.specs.declared.Refusal.the-variants.{OutputTooShort, RoomNotWhole}
-use Rattle.rules.specs.Call.{Answer, accepted, refused}
+use Rattle.rules.specs.Call.{Call, arrive, leave, packetCall, Answer, accepted, refused, needed}
 use Rattle.rules.specs.Outcome.{Outcome, refuse, accept, sentBytes}
 use Rattle.rules.specs.Accepted.{RefusedOrAccepted, refusal, acceptance}
-use Rattle.rules.specs.Room.{sizesOf}
+use Rattle.rules.specs.Room.{sizesOf, Held, wants, holds, seatAt, routeAt}
 use Rattle.room_laws.specs.View.{viewRoom}
 use Rattle.room_laws.specs.Whole.{roomWhole}
 use Rattle.room_laws.specs.Store.{storeAll, emptied, MakesEmpty}
+use Rattle.room_laws.proofs.WholeLaws.{names-itself}
 use Rattle.relay.specs.declared.play.Run as code
-use Rattle.relay_laws.specs.Calls.{Leaves}
+use Rattle.relay_laws.specs.Calls.{Leaves, tested, ifLong, withOutput}
 use Rattle.relay_laws.proofs.CallsLaws.{call-made}
 use Rattle.relay.specs.Play.{run, played, Playing, playing, LeavesRun, Plays}
+use Rattle.banavoge.specs.Answers.{refusalCode}
 use Rattle.banavoge.specs.Rooms.{doneOr}
 use Rattle.banavoge.specs.RelayCalls.{seatCode, countCode}
 use Rattle.banavoge.specs.Runs.{runCode, Counts, runCounts, Telling, runTold}
-use Rattle.histories.specs.ExportedCalls.{HostMemory, hostMemory, noPlaces, Exported, empties, checks, arrives, departs, sends, plays, Below0}
+use Rattle.histories.specs.ExportedCalls.{HostMemory, hostMemory, noPlaces, Exported, empties, checks, arrives, departs, sends, plays, TestsRoom, Below0}
 
 -- ---- single calls
 
@@ -94,3 +99,49 @@ refused-leaves {s} {n} (plays {b = b} {out = out} {b′ = b′} {out′ = out′
     let left = run-leaves s n allowance stored b out b′ out′ (c .given) refused (c .relates) in
     let places = ap (λ (t : Telling). t .counts) (c .codes) ∙ run-places s n allowance stored b out b′ out′ (c .given) before refused in
     ap (λ (x : Counts). hostMemory b′ out′ x) places ∙ same-memory before left
+
+-- ---- a room that is not whole: 11
+
+-- an arrival is lent no output, and needs none
+module _ (s n : ℕ) (b out : List ℕ) (call : Call) (long : needed call ≤ length out) (bad : roomWhole s n b ≡ false) where
+  not-whole-outcome : withOutput s n b out call ≡ refuse RoomNotWhole
+  unfolding withOutput ifLong tested
+  not-whole-outcome = rw (le-leb (needed call) (length out) long, bad)
+
+  not-whole-code : (code : Answer → ℤ) → code (refused RoomNotWhole) ≡ refusalCode RoomNotWhole → (b′ out′ : List ℕ) (given : Answer) (answer : ℤ)
+      → Leaves s n (withOutput s n b out call) b out given b′ out′ → answer ≡ code given → answer ≡ refusalCode RoomNotWhole
+  unfolding refuse
+  not-whole-code code eleven b′ out′ given answer left codes =
+      codes ∙ ap code (left .answers ∙ ap (λ (o : Outcome). o .answer) not-whole-outcome) ∙ eleven
+
+-- minus 11 is below 0
+eleven-below : (answer : ℤ) → answer ≡ refusalCode RoomNotWhole → Below0 answer
+unfolding refusalCode
+eleven-below answer e = subst Below0 (sym e) tt
+
+module _ {s n : ℕ} where
+  not-whole-answer : {before after : HostMemory} {answer : ℤ} (c : Exported s n before answer after) → TestsRoom c → roomWhole s n (before .room) ≡ false
+      → answer ≡ refusalCode RoomNotWhole
+  unfolding doneOr seatCode countCode runTold runCode playing
+  not-whole-answer (empties c) first bad = absurd first
+  not-whole-answer (checks e) first bad = e ∙ rw bad
+  not-whole-answer (arrives {b = b} {b′ = b′} {answer = answer} key c) first bad =
+      not-whole-code s n b [] (arrive key) (omega arith) bad seatCode refl b′ [] (c .given) answer (c .relates .leaves) (c .codes)
+  not-whole-answer (departs {b = b} {out = out} {b′ = b′} {out′ = out′} {answer = answer} seat c) first bad =
+      not-whole-code s n b out (leave seat) first bad countCode refl b′ out′ (c .given) answer (c .relates) (c .codes)
+  not-whole-answer (sends {b = b} {out = out} {b′ = b′} {out′ = out′} {answer = answer} seat bytes c) first bad =
+      not-whole-code s n b out (packetCall seat bytes) first bad countCode refl b′ out′ (c .given) answer (c .relates) (c .codes)
+  not-whole-answer (plays {before = before} allowance stored c) first bad =
+      ap (λ (t : Telling). t .answer) (c .codes ∙ ap (runTold before) (rw bad at (c .relates .answers)))
+
+  pub not-whole-refused : {before after : HostMemory} {answer : ℤ} (c : Exported s n before answer after) → TestsRoom c → roomWhole s n (before .room) ≡ false
+      → (answer ≡ refusalCode RoomNotWhole) × (after ≡ before)
+  not-whole-refused {answer = answer} c first bad =
+      let told = not-whole-answer c first bad in
+      (told, refused-leaves c (eleven-below answer told))
+
+  -- "A room where a seat names its own key is no longer whole."
+  pub names-itself-refused : {before after : HostMemory} {answer : ℤ} (c : Exported s n before answer after) → TestsRoom c
+      → (seat : ℕ) (held : Held) (number : ℕ) → seatAt (viewRoom s n (before .room)) seat ≡ holds held → routeAt (held .routes) number ≡ wants (held .key)
+      → (answer ≡ refusalCode RoomNotWhole) × (after ≡ before)
+  names-itself-refused {before = before} c first seat held number sits names = not-whole-refused c first (names-itself s n (before .room) seat held number sits names)

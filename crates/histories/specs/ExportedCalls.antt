@@ -2,10 +2,12 @@
 -- stands as [] or as 0, and stays. (`banavoge_room_bytes` is lent nothing.)
 use mathlib.Core.List.{List, []}
 use mathlib.Core.Path.{_≡_}
-use Prim.Native.Nat.{ℕ}
+use Prim.Native.Nat.{ℕ, _≤_}
 use lib.IntN.{ℤ, pos, negsuc}
+use lib.ListN.{length}
 use Rattle.refusal.specs.declared.Refusal.the-variants.{OutputTooShort, RoomNotWhole}
 use Rattle.rules.specs.Room.{Key}
+use Rattle.rules.specs.Call.{leave, packetCall, needed}
 use Rattle.room_laws.specs.Whole.{roomWhole}
 use Rattle.room_laws.specs.Store.{MakesEmpty}
 use Rattle.relay_laws.specs.Calls.{Arrives, Departs, Sends}
@@ -41,6 +43,16 @@ pub data Exported (s n : ℕ) : HostMemory → ℤ → HostMemory → Type 0 whe
   plays : {b out b′ out′ : List ℕ} {before after : Counts} {answer : ℤ} (allowance : ℕ) (stored : List ℕ)
       → ToldAs (runTold before) (Plays s n allowance stored b out b′ out′) (record { answer = answer; counts = after })
       → Exported s n (hostMemory b out before) answer (hostMemory b′ out′ after)
+
+-- the calls that are refused where the room is not whole, whatever else is wrong with them: "Every lent state is tested in full before use". Of a Leave and a
+-- packet those with output long enough, since 10 comes before 11; `banavoge_room_empty` makes a room and tests none
+abbrev pub TestsRoom : {s n : ℕ} {before after : HostMemory} {answer : ℤ} → Exported s n before answer after → Type 0
+TestsRoom (empties c) = ⊥
+TestsRoom (checks e) = Unit {0}
+TestsRoom (arrives key c) = Unit {0}
+TestsRoom (departs {out = out} seat c) = needed (leave seat) ≤ length out
+TestsRoom (sends {out = out} seat bytes c) = needed (packetCall seat bytes) ≤ length out
+TestsRoom (plays allowance stored c) = Unit {0}
 
 -- an answer below 0: the call was refused
 abbrev pub Below0 : ℤ → Type 0

@@ -117,12 +117,13 @@ module _ (sizes : Sizes) (room : Room) (whole : Whole sizes room) (c : Key) (sea
   own-both wanted number alone e = refl
   own-both wanted number (joined other place) e = rw (here, peer-else sizes room whole c seat held sits wanted other place e)
 
-  own-request : (wanted : Key) (f lowest : Found)
-      → ownRequest f lowest c (project c room) seat all wanted ≡ observedOf sizes c room (requestAt f lowest room seat c wanted) (requestAt f lowest room seat c wanted .answer ∷ [])
+  own-request : (wanted : Key) (o : Bool) (f lowest : Found)
+      → ownRequest o f lowest c (project c room) seat all wanted ≡ observedOf sizes c room (requestAt o f lowest room seat c wanted) (requestAt o f lowest room seat c wanted .answer ∷ [])
   unfolding ownRequest requestAt accept roomAfter applyAll apply handedBy handedIf to relay.relayBytes
-  own-request wanted (at place) lowest = observed-same refl (rw here) (counted-same seat _ _ (count-same _ _ [] [] refl refl))
-  own-request wanted none none = observed-same refl (rw here) (counted-same seat _ _ (count-same _ _ [] [] refl refl))
-  own-request wanted none (at place) =
+  own-request wanted true f lowest = observed-same refl (rw here) (counted-same seat _ _ (count-same _ _ [] [] refl refl))
+  own-request wanted false (at place) lowest = observed-same refl (rw here) (counted-same seat _ _ (count-same _ _ [] [] refl refl))
+  own-request wanted false none none = observed-same refl (rw here) (counted-same seat _ _ (count-same _ _ [] [] refl refl))
+  own-request wanted false none (at place) =
       observed-same (own-route place (wants wanted))
       (rw (here, connected-law c room seat wanted) (ap (λ (t : List (List ℕ)). (1 ∷ numberOfPlace place ∷ wanted) ∷ t) (own-both wanted (numberOfPlace place) (peer room seat c wanted) refl)))
       (counted-same seat _ _ (count-same _ _ _ _ refl (count-both seat (numberOfPlace place) (peer room seat c wanted) ∙ ap (λ (t : Bool). length (sentBytes (toBoth t))) (sym (connected-law c room seat wanted)))))
@@ -158,7 +159,7 @@ module _ (sizes : Sizes) (room : Room) (whole : Whole sizes room) (c : Key) (sea
   own-act : (r : Read client.FromClient)
       → ownAct r c (project c room) seat all ≡ observedOf sizes c room (actOn r room seat all) (actOn r room seat all .answer ∷ [])
   unfolding ownAct actOn act refuse accept roomAfter applyAll handedBy handedIf to counted project
-  own-act (read.packet (client.routingRequest wanted)) = own-request wanted (find (routeTo wanted) (held .routes)) (find isFree (held .routes))
+  own-act (read.packet (client.routingRequest wanted)) = own-request wanted (sameKey wanted c) (find (routeTo wanted) (held .routes)) (find isFree (held .routes))
   own-act (read.packet (client.dropRoute number)) = own-drop number (routeAt (held .routes) number)
   own-act (read.packet (client.ping n)) = observed-same refl (rw here) (counted-same seat _ _ (count-same _ _ [] [] refl refl))
   own-act (read.packet (client.pong n)) = refl
@@ -231,25 +232,31 @@ module _ (sizes : Sizes) (room : Room) (whole : Whole sizes room) (c : Key) (sea
   other-both number (joined other place) = rw not-held
 
   -- a request for another key
-  request-else : (wanted : Key) → sameKey wanted c ≡ false → (f lowest : Found) → find isFree (held .routes) ≡ lowest
-      → observed (project c room) [] [] ≡ observedOf sizes c room (requestAt f lowest room seat (held .key) wanted) []
+  request-else : (wanted : Key) → sameKey wanted c ≡ false → (o : Bool) (f lowest : Found) → find isFree (held .routes) ≡ lowest
+      → observed (project c room) [] [] ≡ observedOf sizes c room (requestAt o f lowest room seat (held .key) wanted) []
   unfolding requestAt accept roomAfter applyAll apply handedBy handedIf to routeTo
-  request-else wanted hw (at place) lowest hg = observed-same refl (rw not-held) refl
-  request-else wanted hw none none hg = observed-same refl (rw not-held) refl
-  request-else wanted hw none (at place) hg =
+  request-else wanted hw true f lowest hg = observed-same refl (rw not-held) refl
+  request-else wanted hw false (at place) lowest hg = observed-same refl (rw not-held) refl
+  request-else wanted hw false none none hg = observed-same refl (rw not-held) refl
+  request-else wanted hw false none (at place) hg =
       observed-same
       (sym (other-kept place (wants wanted) (find-set-same (routeTo c) free (held .routes) place (wants wanted) (hw ∙ sym (free-not-to c (getD (held .routes) place free) (find-hit isFree free (held .routes) place hg))))))
       (rw not-held (sym (other-both (numberOfPlace place) (peer room seat (held .key) wanted) ∙ not-handed c room seat (held .key) wanted relay.connectNotice hw)))
       refl
 
-  -- a request for C
-  request-mine : (bytes : List ℕ) → client.relayRead bytes ≡ read.packet (client.routingRequest c) → (f lowest : Found) → find (routeTo c) (held .routes) ≡ f → find isFree (held .routes) ≡ lowest
-      → eqb (numberAnswered (requestAt f lowest room seat (held .key) c .sent)) 0 ≡ false
-      → otherAsked c (project c room) (held .key) seat (read.packet (client.routingRequest c)) ≡ observedOf sizes c room (requestAt f lowest room seat (held .key) c) []
+  -- a request for C, not answered with 0
+  zero-not : {A : Type 0} (bytes : List ℕ) → client.relayRead bytes ≡ read.packet (client.routingRequest c)
+      → eqb (numberAnswered (to seat (relay.routingResponse 0 c) ∷ [])) 0 ≡ false → A
+  zero-not bytes e z = absurd (true≢false (sym (ap (λ (n : ℕ). eqb n 0) (zero-answered seat c (request-key-long bytes c e) [])) ∙ z))
+
+  request-mine : (bytes : List ℕ) → client.relayRead bytes ≡ read.packet (client.routingRequest c) → (o : Bool) (f lowest : Found) → find (routeTo c) (held .routes) ≡ f → find isFree (held .routes) ≡ lowest
+      → eqb (numberAnswered (requestAt o f lowest room seat (held .key) c .sent)) 0 ≡ false
+      → otherAsked c (project c room) (held .key) seat (read.packet (client.routingRequest c)) ≡ observedOf sizes c room (requestAt o f lowest room seat (held .key) c) []
   unfolding otherAsked requestAt accept roomAfter applyAll apply handedBy handedIf to isFound only routeTo
-  request-mine bytes e (at place) lowest hf hg z = observed-same (other-same true (ap isFound hf)) (rw (names-here, hf, not-held)) refl
-  request-mine bytes e none none hf hg z = absurd (true≢false (sym (ap (λ (n : ℕ). eqb n 0) (zero-answered seat c (request-key-long bytes c e) [])) ∙ z))
-  request-mine bytes e none (at place) hf hg z =
+  request-mine bytes e true f lowest hf hg z = zero-not bytes e z
+  request-mine bytes e false (at place) lowest hf hg z = observed-same (other-same true (ap isFound hf)) (rw (names-here, hf, not-held)) refl
+  request-mine bytes e false none none hf hg z = zero-not bytes e z
+  request-mine bytes e false none (at place) hf hg z =
       observed-same
       (sym (other-set place (wants c) ∙ ap (λ (t : Bool). setView (project c room) seat (otherSeat (held .key) t)) (find-put isFree (routeTo c) (held .routes) place (wants c) (same-refl c) hg)))
       (rw (names-here, hf, not-held) (handed-packet relay.connectNotice ∙ sym (other-both (numberOfPlace place) (peer room seat (held .key) c))))
@@ -309,22 +316,24 @@ module _ (sizes : Sizes) (room : Room) (whole : Whole sizes room) (c : Key) (sea
     abbrev Noted : Read client.FromClient → Outcome → Observed
     Noted r o = observeAll sizes c (project c room) (ifAccepted (o .answer) (otherPacket c (held .key) (packetCall seat bytes) names r))
 
-    request-noted : (wanted : Key) (f lowest : Found) (es : List Entry) → ifAccepted (requestAt f lowest room seat (held .key) wanted .answer) es ≡ es
+    request-noted : (wanted : Key) (o : Bool) (f lowest : Found) (es : List Entry) → ifAccepted (requestAt o f lowest room seat (held .key) wanted .answer) es ≡ es
     unfolding requestAt accept ifAccepted
-    request-noted wanted (at place) lowest es = refl
-    request-noted wanted none none es = refl
-    request-noted wanted none (at place) es = refl
+    request-noted wanted true f lowest es = refl
+    request-noted wanted false (at place) lowest es = refl
+    request-noted wanted false none none es = refl
+    request-noted wanted false none (at place) es = refl
 
     oob-noted : (payload : List ℕ) (f : Found) (es : List Entry) → ifAccepted (oobTo f seat (held .key) payload .answer) es ≡ es
     unfolding oobTo accept ifAccepted
     oob-noted payload none es = refl
     oob-noted payload (at other) es = refl
 
-    request-accepted : (wanted : Key) (f lowest : Found) → isAccepted (requestAt f lowest room seat (held .key) wanted .answer) ≡ true
+    request-accepted : (wanted : Key) (o : Bool) (f lowest : Found) → isAccepted (requestAt o f lowest room seat (held .key) wanted .answer) ≡ true
     unfolding requestAt accept isAccepted
-    request-accepted wanted (at place) lowest = refl
-    request-accepted wanted none none = refl
-    request-accepted wanted none (at place) = refl
+    request-accepted wanted true f lowest = refl
+    request-accepted wanted false (at place) lowest = refl
+    request-accepted wanted false none none = refl
+    request-accepted wanted false none (at place) = refl
 
     -- the entry of a call to C
     observe-call : (r : Read client.FromClient) → client.relayRead bytes ≡ r → observeAll sizes c (project c room) (toC (held .key) (packetCall seat bytes) ∷ []) ≡ otherAsked c (project c room) (held .key) seat r
@@ -332,17 +341,17 @@ module _ (sizes : Sizes) (room : Room) (whole : Whole sizes room) (c : Key) (sea
     observe-call r e = observe-one sizes c (project c room) (toC (held .key) (packetCall seat bytes)) ∙ ap (otherAsked c (project c room) (held .key) seat) e
 
     note-request : (wanted : Key) → client.relayRead bytes ≡ read.packet (client.routingRequest wanted) → (t : Bool) → sameKey wanted c ≡ t
-        → (f lowest : Found) → find (routeTo wanted) (held .routes) ≡ f → find isFree (held .routes) ≡ lowest
-        → (t && eqb (numberAnswered (requestAt f lowest room seat (held .key) wanted .sent)) 0) ≡ false
+        → (o : Bool) (f lowest : Found) → find (routeTo wanted) (held .routes) ≡ f → find isFree (held .routes) ≡ lowest
+        → (t && eqb (numberAnswered (requestAt o f lowest room seat (held .key) wanted .sent)) 0) ≡ false
         → observeAll sizes c (project c room) (entryIf t (toC (held .key) (packetCall seat bytes)))
-        ≡ observedOf sizes c room (requestAt f lowest room seat (held .key) wanted) []
+        ≡ observedOf sizes c room (requestAt o f lowest room seat (held .key) wanted) []
     unfolding entryIf observeAll
-    note-request wanted e true hw f lowest hf hg z =
+    note-request wanted e true hw o f lowest hf hg z =
         let q = same-sound wanted c hw in
         observe-call _ (e ∙ ap (λ (k : Key). read.packet (client.routingRequest k)) q)
-        ∙ subst (λ (k : Key). otherAsked c (project c room) (held .key) seat (read.packet (client.routingRequest c)) ≡ observedOf sizes c room (requestAt f lowest room seat (held .key) k) []) (sym q)
-        (request-mine bytes (rw q at e) f lowest (rw q at hf) hg (rw q at z))
-    note-request wanted e false hw f lowest hf hg z = request-else wanted hw f lowest hg
+        ∙ subst (λ (k : Key). otherAsked c (project c room) (held .key) seat (read.packet (client.routingRequest c)) ≡ observedOf sizes c room (requestAt o f lowest room seat (held .key) k) []) (sym q)
+        (request-mine bytes (rw q at e) o f lowest (rw q at hf) hg (rw q at z))
+    note-request wanted e false hw o f lowest hf hg z = request-else wanted hw o f lowest hg
 
     note-drop : (number : ℕ) (route : Route) → routeAt (held .routes) number ≡ route → Noted (read.packet (client.dropRoute number)) (dropAt route room seat (held .key) number) ≡ observedOf sizes c room (dropAt route room seat (held .key) number) []
     unfolding otherPacket dropAt refuse accept ifAccepted observeAll roomAfter applyAll handedBy entryIf routeTo
@@ -384,8 +393,8 @@ module _ (sizes : Sizes) (room : Room) (whole : Whole sizes room) (c : Key) (sea
         → Noted r (actOn r room seat held) ≡ observedOf sizes c room (actOn r room seat held) []
     unfolding actOn act otherPacket refuse accept ifAccepted observeAll roomAfter applyAll handedBy handedIf to asksFor
     note-act (read.packet (client.routingRequest wanted)) e z =
-        rw (request-noted wanted (find (routeTo wanted) (held .routes)) (find isFree (held .routes)))
-        (note-request wanted e (sameKey wanted c) refl (find (routeTo wanted) (held .routes)) (find isFree (held .routes)) refl refl (rw (request-accepted wanted (find (routeTo wanted) (held .routes)) (find isFree (held .routes))) at z))
+        rw (request-noted wanted (sameKey wanted (held .key)) (find (routeTo wanted) (held .routes)) (find isFree (held .routes)))
+        (note-request wanted e (sameKey wanted c) refl (sameKey wanted (held .key)) (find (routeTo wanted) (held .routes)) (find isFree (held .routes)) refl refl (rw (request-accepted wanted (sameKey wanted (held .key)) (find (routeTo wanted) (held .routes)) (find isFree (held .routes))) at z))
     note-act (read.packet (client.dropRoute number)) e z = note-drop number (routeAt (held .routes) number) refl
     note-act (read.packet (client.ping n)) e z = observed-same refl (rw not-held) refl
     note-act (read.packet (client.pong n)) e z = refl

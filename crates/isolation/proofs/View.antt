@@ -141,12 +141,16 @@ ownLeave openSeat c v seat = observed v [] []
 ownLeave (otherSeat key b) c v seat = observed v [] []
 ownLeave (ownSeat held) c v seat = observed (setView v seat openSeat) [] (counted seat (noticesByView c v seat (held .routes)))
 
-unfoldable pub ownRequest : Found → Found → Key → View → ℕ → Held → Key → Observed
-ownRequest (at place) lowest c v seat held wanted =
+-- a request of C's that is given no number
+abbrev pub ownZero : View → ℕ → Key → Observed
+ownZero v seat wanted = observed v (relay.relayBytes (relay.routingResponse 0 wanted) ∷ []) (counted seat (to 0 (relay.routingResponse 0 wanted) ∷ []))
+
+unfoldable pub ownRequest : Bool → Found → Found → Key → View → ℕ → Held → Key → Observed
+ownRequest true old lowest c v seat held wanted = ownZero v seat wanted
+ownRequest false (at place) lowest c v seat held wanted =
     observed v (relay.relayBytes (relay.routingResponse (numberOfPlace place) wanted) ∷ []) (counted seat (to 0 (relay.routingResponse 0 wanted) ∷ []))
-ownRequest none none c v seat held wanted =
-    observed v (relay.relayBytes (relay.routingResponse 0 wanted) ∷ []) (counted seat (to 0 (relay.routingResponse 0 wanted) ∷ []))
-ownRequest none (at place) c v seat held wanted =
+ownRequest false none none c v seat held wanted = ownZero v seat wanted
+ownRequest false none (at place) c v seat held wanted =
     observed
     (setView v seat (ownSeat (setRoute held place (wants wanted))))
     (relay.relayBytes (relay.routingResponse (numberOfPlace place) wanted) ∷ only (isConnected c v seat wanted) (relay.relayBytes (relay.connectNotice (numberOfPlace place)) ∷ []))
@@ -171,7 +175,8 @@ ownData free c v seat bytes = observed v [] (refused NoSuchRoute ∷ [])
 ownData (wants wanted) c v seat bytes = ownCarry (isConnected c v seat wanted) v seat bytes
 
 unfoldable pub ownAct : Read client.FromClient → Key → View → ℕ → Held → Observed
-ownAct (read.packet (client.routingRequest wanted)) c v seat held = ownRequest (find (routeTo wanted) (held .routes)) (find isFree (held .routes)) c v seat held wanted
+ownAct (read.packet (client.routingRequest wanted)) c v seat held =
+    ownRequest (sameKey wanted (held .key)) (find (routeTo wanted) (held .routes)) (find isFree (held .routes)) c v seat held wanted
 ownAct (read.packet (client.dropRoute number)) c v seat held = ownDrop (routeAt (held .routes) number) c v seat held number
 ownAct (read.packet (client.ping n)) c v seat held = observed v (relay.relayBytes (relay.pong n) ∷ []) (counted seat (to 0 (relay.pong n) ∷ []))
 ownAct (read.packet (client.pong n)) c v seat held = observed v [] (counted seat [])

@@ -26,6 +26,14 @@ same-sound [] (y ∷ b) h = cc
 same-sound (x ∷ a) [] h = cc
 same-sound (x ∷ a) (y ∷ b) h = both x y (eqb x y) a b refl (same-sound a b) h
 
+-- a test that cannot pass fails: so keys that differ are not the same
+pub not-so : {t : Bool} → (t ≡ true → ⊥) → t ≡ false
+not-so {t} h = go t refl
+  where
+    go : (u : Bool) → t ≡ u → u ≡ false
+    go true e = absurd (h e)
+    go false e = refl
+
 -- ---- byte by byte, in two lists of one length
 
 module _ (a b : List ℕ) (i : ℕ) (ha : i < length a) (hb : i < length b) where

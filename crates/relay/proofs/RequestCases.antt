@@ -1,17 +1,19 @@
--- What a routing request leaves, case by case: an old number, none free, a number given; and the notifications of two that are now connected.
-use mathlib.Core.Path.{_≡_, sym, ap, _∙_}
-use mathlib.Core.Bool.{true}
+-- What a routing request leaves, case by case: the client's own key, an old number, none free, a number given; and the notifications of two that are now
+-- connected.
+use mathlib.Core.Path.{_≡_, refl, sym, ap, _∙_}
+use mathlib.Core.Bool.{Bool, true, false}
 use mathlib.Core.List.{List, [], _∷_, _++_}
 use Prim.Native.Nat.{ℕ, _+_, _-_, _≤_}
 use native.Mathlib.Omega.{arith}
 use borrow.Author.Tests.{le-ltb}
 use lib.ListN.{length}
+use Rattle.key.specs.Keys.{sameKey}
 use Rattle.packet_laws.specs.FromClient.{routingRequest}
 use Rattle.packet_laws.specs.FromRelay.{relayBytes, routingResponse, connectNotice}
 use Rattle.packet.specs.declared.ConnectionNumber.{ConnectionNumber}
 use Rattle.rules.specs.Room.{firstNumber, numberOfPlace, Key, Seat, Found, none, at, find, routeTo, isFree, routesOf}
-use Rattle.rules.specs.Call.{accepted}
-use Rattle.rules.specs.Outcome.{act, accept, requestAt, tellBoth, to, peer, routeGiven}
+use Rattle.rules.specs.Call.{Answer, accepted}
+use Rattle.rules.specs.Outcome.{Outcome, act, accept, answerZero, requestAt, tellBoth, to, peer, routeGiven}
 use Rattle.seat.specs.declared.Seat as seats
 use Rattle.room.specs.declared.lookup.FoundNumber.{FoundNumber}
 use Rattle.room.specs.declared.lookup.FoundNumber.the-variants as number
@@ -25,7 +27,7 @@ use Rattle.room_laws.proofs.LookupLaws.{route-wanting-finds, lowest-route-finds
 use Rattle.room.proofs.AnswerLaws.{number-found, number-not-found}
 use Rattle.room.specs.declared.peer.Peer as code
 use Rattle.relay_laws.specs.Calls.{Leaves}
-use Rattle.relay.specs.Steps.{Sits, Gives}
+use Rattle.relay.specs.Steps.{Sits, Gives, Carries}
 use Rattle.relay.proofs.SeatedClient.{sits-taken}
 use Rattle.room.proofs.PeersFound.{found-back}
 use Rattle.records.specs.Output.{Appends}
@@ -99,59 +101,79 @@ gives s n b seat key wanted number h q e b′ f out mid next left last p r = rec
 pub number-right : (f : Found) (r : FoundNumber) → r ≡ numberFound f → (n : ConnectionNumber) → r ≡ number.At n → 16 ≤ n .0
 number-right f r looked n e = number-found f n (sym looked ∙ e) .1
 
-module _ (s n : ℕ) (b : List ℕ) (i : ℕ) (key wanted : Key) (whole : roomWhole s n b ≡ true) (sits : Sits s n b i key) where
-  wanting : routeWanting s n b i wanted ≡ find (routeTo wanted) (viewRoutes n (routesTable s n b i))
-  unfolding routesOf
-  wanting = route-wanting-finds s n b whole i (sits-taken s n b whole i key sits) wanted ∙ ap (λ (x : Seat). find (routeTo wanted) (routesOf x)) sits
+-- an answer of 0 changes no room
+pub carries-zero : (seat : ℕ) (wanted : Key) (out : List ℕ) (bytes : ℕ) (out′ : List ℕ) → Appends (to seat (routingResponse 0 wanted) ∷ []) out 0 bytes out′
+    → Carries (answerZero seat wanted) out (accepted seat bytes) out′
+unfolding accept storeAll
+carries-zero seat wanted out bytes out′ p s n b =
+    let sent = to seat (routingResponse 0 wanted) ∷ [] in
+    record {
+      answers = ap (accepted seat) (appends-front-answer sent out bytes out′ p);
+      stores = refl;
+      writes = appends-front sent out bytes out′ p;
+    }
 
-  lowest : lowestRoute s n b i ≡ find isFree (viewRoutes n (routesTable s n b i))
-  unfolding routesOf
-  lowest = lowest-route-finds s n b whole i (sits-taken s n b whole i key sits) ∙ ap (λ (x : Seat). find isFree (routesOf x)) sits
+module _ (s n : ℕ) (b : List ℕ) (i : ℕ) (key wanted : Key) where
+  -- what the request does, by the rules
+  abbrev asked : Outcome
+  asked = act (routingRequest wanted) (viewRoom s n b) i (seatHeld s n b i key)
 
-  module _ (out : List ℕ) (bytes : ℕ) (out′ : List ℕ) (first : FoundNumber) (looked : first ≡ numberFound (routeWanting s n b i wanted)) where
-    -- an old number
-    pub request-old : (old : ConnectionNumber) → first ≡ number.At old → Appends (to i (routingResponse (old .0) wanted) ∷ []) out 0 bytes out′
-        → Leaves s n (act (routingRequest wanted) (viewRoom s n b) i (seatHeld s n b i key)) b out (accepted i bytes) b out′
-    unfolding act requestAt accept storeAll
-    request-old old e p =
-        let f = number-found (routeWanting s n b i wanted) old (sym looked ∙ e) in
-        let g : find (routeTo wanted) (viewRoutes n (routesTable s n b i)) ≡ at (old .0 - firstNumber) = sym wanting ∙ f .0 in
-        let m : numberOfPlace (old .0 - firstNumber) ≡ old .0 = let h = f .1 in omega arith in
-        let sent = to i (routingResponse (old .0) wanted) ∷ [] in
-        record {
-          answers = rw (g, m) (ap (accepted i) (appends-front-answer sent out bytes out′ p));
-          stores = rw g;
-          writes = rw (g, m) (appends-front sent out bytes out′ p);
-        }
+  -- the client's own key
+  pub request-own : (own : Bool) → own ≡ sameKey wanted key → own ≡ true → (out : List ℕ) (answer : Answer) (out′ : List ℕ)
+      → Carries (answerZero i wanted) out answer out′ → Leaves s n asked b out answer b out′
+  unfolding act requestAt
+  request-own own compared e out answer out′ p = rw (← compared, e) (p s n b)
 
-    module _ (new : first ≡ number.None) (second : FoundNumber) (looked′ : second ≡ numberFound (lowestRoute s n b i)) where
-      unrouted : find (routeTo wanted) (viewRoutes n (routesTable s n b i)) ≡ none
-      unrouted = sym wanting ∙ number-not-found (routeWanting s n b i wanted) (sym looked ∙ new)
+  module _ (whole : roomWhole s n b ≡ true) (sits : Sits s n b i key) (own : Bool) (compared : own ≡ sameKey wanted key) (others : own ≡ false) where
+    other : sameKey wanted key ≡ false
+    other = sym compared ∙ others
 
-      -- none free
-      pub request-full : second ≡ number.None → Appends (to i (routingResponse 0 wanted) ∷ []) out 0 bytes out′
-          → Leaves s n (act (routingRequest wanted) (viewRoom s n b) i (seatHeld s n b i key)) b out (accepted i bytes) b out′
+    wanting : routeWanting s n b i wanted ≡ find (routeTo wanted) (viewRoutes n (routesTable s n b i))
+    unfolding routesOf
+    wanting = route-wanting-finds s n b whole i (sits-taken s n b whole i key sits) wanted ∙ ap (λ (x : Seat). find (routeTo wanted) (routesOf x)) sits
+
+    lowest : lowestRoute s n b i ≡ find isFree (viewRoutes n (routesTable s n b i))
+    unfolding routesOf
+    lowest = lowest-route-finds s n b whole i (sits-taken s n b whole i key sits) ∙ ap (λ (x : Seat). find isFree (routesOf x)) sits
+
+    module _ (out out′ : List ℕ) (first : FoundNumber) (looked : first ≡ numberFound (routeWanting s n b i wanted)) where
+      -- an old number
+      pub request-old : (bytes : ℕ) (old : ConnectionNumber) → first ≡ number.At old → Appends (to i (routingResponse (old .0) wanted) ∷ []) out 0 bytes out′
+          → Leaves s n asked b out (accepted i bytes) b out′
       unfolding act requestAt accept storeAll
-      request-full e p =
-          let g : find isFree (viewRoutes n (routesTable s n b i)) ≡ none = sym lowest ∙ number-not-found (lowestRoute s n b i) (sym looked′ ∙ e) in
-          let sent = to i (routingResponse 0 wanted) ∷ [] in
+      request-old bytes old e p =
+          let f = number-found (routeWanting s n b i wanted) old (sym looked ∙ e) in
+          let g : find (routeTo wanted) (viewRoutes n (routesTable s n b i)) ≡ at (old .0 - firstNumber) = sym wanting ∙ f .0 in
+          let m : numberOfPlace (old .0 - firstNumber) ≡ old .0 = let h = f .1 in omega arith in
+          let sent = to i (routingResponse (old .0) wanted) ∷ [] in
           record {
-            answers = rw (unrouted, g) (ap (accepted i) (appends-front-answer sent out bytes out′ p));
-            stores = rw (unrouted, g);
-            writes = rw (unrouted, g) (appends-front sent out bytes out′ p);
+            answers = rw (other, g, m) (ap (accepted i) (appends-front-answer sent out bytes out′ p));
+            stores = rw (other, g);
+            writes = rw (other, g, m) (appends-front sent out bytes out′ p);
           }
 
-      -- a number given
-      pub request-given : (given : ConnectionNumber) → second ≡ number.At given → (b′ : List ℕ) → Gives s n b i key wanted (given .0) out bytes b′ out′
-          → Leaves s n (act (routingRequest wanted) (viewRoom s n b) i (seatHeld s n b i key)) b out (accepted i bytes) b′ out′
-      unfolding act requestAt accept storeAll
-      request-given given e b′ p =
-          let f = number-found (lowestRoute s n b i) given (sym looked′ ∙ e) in
-          let g : find isFree (viewRoutes n (routesTable s n b i)) ≡ at (given .0 - firstNumber) = sym lowest ∙ f .0 in
-          let m : numberOfPlace (given .0 - firstNumber) ≡ given .0 = let h = f .1 in omega arith in
-          let sent = to i (routingResponse (given .0) wanted) ∷ tellBoth i (given .0) (peer (viewRoom s n b) i key wanted) in
-          record {
-            answers = rw (unrouted, g, m) (ap (accepted i) (appends-front-answer sent out bytes out′ (p .writes)));
-            stores = rw (unrouted, g) (p .stores);
-            writes = rw (unrouted, g, m) (appends-front sent out bytes out′ (p .writes));
-          }
+      module _ (new : first ≡ number.None) (second : FoundNumber) (looked′ : second ≡ numberFound (lowestRoute s n b i)) where
+        unrouted : find (routeTo wanted) (viewRoutes n (routesTable s n b i)) ≡ none
+        unrouted = sym wanting ∙ number-not-found (routeWanting s n b i wanted) (sym looked ∙ new)
+
+        -- none free
+        pub request-full : second ≡ number.None → (answer : Answer) → Carries (answerZero i wanted) out answer out′ → Leaves s n asked b out answer b out′
+        unfolding act requestAt
+        request-full e answer p =
+            let g : find isFree (viewRoutes n (routesTable s n b i)) ≡ none = sym lowest ∙ number-not-found (lowestRoute s n b i) (sym looked′ ∙ e) in
+            rw (other, unrouted, g) (p s n b)
+
+        -- a number given
+        pub request-given : (bytes : ℕ) (given : ConnectionNumber) → second ≡ number.At given
+            → (b′ : List ℕ) → Gives s n b i key wanted (given .0) out bytes b′ out′ → Leaves s n asked b out (accepted i bytes) b′ out′
+        unfolding act requestAt accept storeAll
+        request-given bytes given e b′ p =
+            let f = number-found (lowestRoute s n b i) given (sym looked′ ∙ e) in
+            let g : find isFree (viewRoutes n (routesTable s n b i)) ≡ at (given .0 - firstNumber) = sym lowest ∙ f .0 in
+            let m : numberOfPlace (given .0 - firstNumber) ≡ given .0 = let h = f .1 in omega arith in
+            let sent = to i (routingResponse (given .0) wanted) ∷ tellBoth i (given .0) (peer (viewRoom s n b) i key wanted) in
+            record {
+              answers = rw (other, unrouted, g, m) (ap (accepted i) (appends-front-answer sent out bytes out′ (p .writes)));
+              stores = rw (other, unrouted, g) (p .stores);
+              writes = rw (other, unrouted, g, m) (appends-front sent out bytes out′ (p .writes));
+            }

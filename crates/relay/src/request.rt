@@ -1,18 +1,19 @@
-// Routing requests: "a key already named by this seat gets its old number again and nothing else happens. Otherwise the lowest free number is taken,
-// or, with none free, the answer is 0 and nothing changes. Then, if the two are now connected, connected is sent to the asker, then to the peer,
+// Routing requests. A client that asks for its own key, document 02: "The answer becomes 0 and no route is taken, tested before the search for an old
+// number." Then document 01: "a key already named by this seat gets its old number again and nothing else happens. Otherwise the lowest free number is
+// taken, or, with none free, the answer is 0 and nothing changes. Then, if the two are now connected, connected is sent to the asker, then to the peer,
 // each with its own number."
 ghost use mathlib.Core.Path.{_≡_};
 ghost use mathlib.Core.Bool.{true};
 ghost use Prim.Native.Nat.{_+_, _≤_};
 ghost use lib.ListN.{length};
 ghost use Rattle.packet_laws.specs.FromClient.{routingRequest};
-ghost use Rattle.rules.specs.Outcome.{act, tellBoth};
+ghost use Rattle.rules.specs.Outcome.{act, answerZero, tellBoth};
 ghost use Rattle.room_laws.specs.View.{viewRoom, seatHeld};
 ghost use Rattle.room_laws.specs.Whole.{roomWhole};
 ghost use Rattle.records.specs.Output.{Appends};
 ghost use Rattle.relay_laws.specs.Calls.{answerOf, Leaves};
 ghost use Rattle.room.specs.Numbers.{peerOf, PeerRight};
-ghost use Rattle.relay.specs.Steps.{Sits, Gives};
+ghost use Rattle.relay.specs.Steps.{Sits, Gives, Carries};
 use key::Key;
 use packet::ConnectionNumber;
 use records::Answer;
@@ -59,6 +60,15 @@ fn give(
     tell_both(out, next, seat, number, peer)
 }
 
+// "the answer is 0 and nothing changes": the key is the client's own, or no number is free.
+fn answer_zero(out: &mut [u8], seat: Seat, wanted: Key) -> Answer
+    requires { ⌜ 2048 ≤ length (now out) ⌝ }
+    ensures { λ r. ⌜ Carries (answerZero (seat .0) (wanted .0)) (now (out .entry)) (answerOf r) (now (out .exit)) ⌝ }
+{
+    let written = record::response(out, 0, seat, ConnectionNumber(0), wanted);
+    Answer::Accepted(seat, written)
+}
+
 // A client's request for a key.
 pub(crate) fn step(
     memory: &mut [u8],
@@ -72,14 +82,14 @@ pub(crate) fn step(
     requires { ⌜ (roomWhole seats numbers (now memory) ≡ true) × Sits seats numbers (now memory) (seat .0) (key .0) × (2048 ≤ length (now out)) ⌝ }
     ensures { λ r. ⌜ Leaves seats numbers (act (routingRequest (wanted .0)) (viewRoom seats numbers (now (memory .entry))) (seat .0) (seatHeld seats numbers (now (memory .entry)) (seat .0) (key .0))) (now (memory .entry)) (now (out .entry)) (answerOf r) (now (memory .exit)) (now (out .exit)) ⌝ }
 {
+    if wanted.equals(key) {
+        return answer_zero(out, seat, wanted);
+    }
     if let FoundNumber::At(old) = lookup::number_of(memory, seats, numbers, seat, wanted) {
         return Answer::Accepted(seat, record::response(out, 0, seat, old, wanted));
     }
     let FoundNumber::At(number) = lookup::lowest_free(memory, seats, numbers, seat) else {
-        return Answer::Accepted(
-            seat,
-            record::response(out, 0, seat, ConnectionNumber(0), wanted),
-        );
+        return answer_zero(out, seat, wanted);
     };
     Answer::Accepted(
         seat,

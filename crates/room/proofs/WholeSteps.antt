@@ -12,8 +12,8 @@ use borrow.Author.Tests.{eq-eqb, ne-eqb, lt-ltb}
 use Rattle.table_laws.specs.Table.{listed, usedPlaces, keyAt, tableWhole}
 use Rattle.table_laws.proofs.KeyOrder.{rising-at}
 use Rattle.table_laws.proofs.Listed.{whole-rising}
-use Rattle.room_laws.specs.Layout.{keyBytes, seatBytes, fitsRoom, seatTable, routesTable}
-use Rattle.room_laws.specs.Whole.{headerRight, routesWhole, roomWhole}
+use Rattle.room_laws.specs.Layout.{seatBytes, fitsRoom, seatTable}
+use Rattle.room_laws.specs.Whole.{headerRight, seatRoutesWhole, routesWhole, roomWhole}
 use Rattle.room_laws.proofs.LayoutLaws.{length-seats}
 
 module _ (s n : ℕ) (b : List ℕ) where
@@ -43,12 +43,12 @@ module _ (s n : ℕ) (b : List ℕ) where
   room-routes f h t r e = rw (f, h, t) e
 
 module _ (s n : ℕ) (b is : List ℕ) (i : ℕ) (h : i < length is) where
-  routes-turn : routesWhole s n b (drop i is) ≡ (tableWhole n keyBytes (routesTable s n b (getD is i 0)) && routesWhole s n b (drop (i + 1) is))
+  routes-turn : routesWhole s n b (drop i is) ≡ (seatRoutesWhole s n b (getD is i 0) && routesWhole s n b (drop (i + 1) is))
   unfolding routesWhole
   routes-turn = rw (add-one, drop-cons is i 0 h)
 
   -- by the answer for the seat that stands there in the same list
-  module _ (is′ : List ℕ) (e : is′ ≡ is) (r : Bool) (tested : r ≡ tableWhole n keyBytes (routesTable s n b (getD is′ i 0))) where
+  module _ (is′ : List ℕ) (e : is′ ≡ is) (r : Bool) (tested : r ≡ seatRoutesWhole s n b (getD is′ i 0)) where
     turn : routesWhole s n b (drop i is) ≡ (r && routesWhole s n b (drop (i + 1) is))
     turn = rw (tested, e) routes-turn
 

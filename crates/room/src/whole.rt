@@ -1,10 +1,10 @@
-// The test of a lent room, in one pass over what is in use.
+// The test of a lent room: a pass over what is in use, and a search where a route begins like its seat's own key.
 ghost use mathlib.Core.Path.{_≡_};
 ghost use mathlib.Core.Bool.{true};
 ghost use Prim.Native.Nat.{_<_};
 ghost use Rattle.table_laws.specs.Table.{listed, tableWhole};
-ghost use Rattle.room_laws.specs.Layout.{seatBytes, fitsRoom, seatTable, routesTable};
-ghost use Rattle.room_laws.specs.Whole.{routesWhole, roomWhole};
+ghost use Rattle.room_laws.specs.Layout.{seatBytes, fitsRoom, seatTable};
+ghost use Rattle.room_laws.specs.Whole.{seatRoutesWhole, routesWhole, roomWhole};
 use crate::layout;
 use key::Key;
 
@@ -17,19 +17,28 @@ fn seats_whole(memory: &[u8], seats: usize, numbers: usize) -> bool
     table::is_whole(layout::seat_table(memory, seats, numbers), seats, width)
 }
 
-// Whether the table of routes of a seat keeps its rules.
+// Whether the table of routes of a seat keeps its rules and does not list the seat's own key: document 02, "A room where a seat names its own key is no
+// longer whole."
 fn seat_whole(memory: &[u8], seats: usize, numbers: usize, seat: usize) -> bool
     requires { ⌜ (fitsRoom seats numbers (now memory) ≡ true) × (seat < seats) ⌝ }
-    ensures { λ r. ⌜ r ≡ tableWhole numbers 32 (routesTable seats numbers (now (memory .entry)) seat) ⌝ }
+    ensures { λ r. ⌜ r ≡ seatRoutesWhole seats numbers (now (memory .entry)) seat ⌝ }
 {
-    table::is_whole(
+    let width = layout::seat_bytes(numbers);
+    let own = table::key_at(
+        layout::seat_table(memory, seats, numbers),
+        seats,
+        width,
+        seat,
+    );
+    table::is_whole_without(
         layout::routes_table(memory, seats, numbers, seat),
         numbers,
         Key::BYTES,
+        own,
     )
 }
 
-// Whether the table of routes of each seat that is taken keeps its rules.
+// Whether that is so of each seat that is taken.
 fn routes_whole(memory: &[u8], seats: usize, numbers: usize) -> bool
     requires { ⌜ (fitsRoom seats numbers (now memory) ≡ true) × (tableWhole seats (seatBytes numbers) (seatTable seats numbers (now memory)) ≡ true) ⌝ }
     ensures { λ r. ⌜ r ≡ routesWhole seats numbers (now (memory .entry)) (listed seats (seatTable seats numbers (now (memory .entry)))) ⌝ }

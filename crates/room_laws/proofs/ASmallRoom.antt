@@ -6,19 +6,20 @@
 -- What stands in brackets is not listed: seats 0 and 1 are taken, by clients that want each other, one route of each is free, and seat 2 is empty.
 -- Assumes nothing.
 use Prim.Native.Nat.{ℕ}
-use mathlib.Core.Path.{_≡_, refl}
-use mathlib.Core.Bool.{true, false}
+use mathlib.Core.Path.{_≡_, refl, sym, ap, _∙_}
+use mathlib.Core.Bool.{true, false, true≢false}
 use mathlib.Core.List.{List, [], _∷_, _++_}
 use lib.ListN.{drop, replicate}
 use Rattle.key.specs.Keys.{sameKey}
 use Rattle.table_laws.specs.Bytes.{leading, firstOf, member, keyBefore}
-use Rattle.table_laws.specs.Table.{fitsTable, listed, recordAt, keyAt, risingAfter, rising, tableWhole, findKey, found, keyOfPlace, isUsed, lowest, lowestFree}
+use Rattle.table_laws.specs.Table.{fitsTable, listed, recordAt, keyAt, risingAfter, rising, tableWhole, findKey, found, tableWithout, keyOfPlace, isUsed, lowest, lowestFree}
 use Rattle.table_laws.specs.Table.{entered, closed, put, mayPut, putIn, unlisted, freed, freedIn, tabulate, view}
-use Rattle.rules.specs.Room.{free, wants, vacant, holds, newcomer, setRoutes, setSeats, Room, emptyRoom, sizesOf, none, at, alone, joined}
+use Rattle.rules.specs.Room.{free, wants, Held, vacant, holds, seatAt, newcomer, setRoutes, setSeats, Room, emptyRoom, sizesOf, none, at, alone, joined}
 use Rattle.rules.specs.Outcome.{seatTaken, seatEmptied, routeGiven, routeFreed, joinedBy}
 use Rattle.room_laws.specs.Layout.{sizesRight, fitsRoom, seatTable, routesTable}
 use Rattle.room_laws.specs.View.{routeIn, viewRoutes, seatIn, viewRoom}
-use Rattle.room_laws.specs.Whole.{headerRight, routesWhole, roomWhole}
+use Rattle.room_laws.specs.Whole.{headerRight, seatRoutesWhole, routesWhole, roomWhole}
+use Rattle.room_laws.specs.Fits.{Fit, gives}
 use Rattle.room_laws.specs.Store.{emptied, newSeat, withSeats, withRoutes, store}
 use Rattle.room_laws.specs.Lookup.{placeIn, seatHolding, lowestEmpty, hasSeat, taken, keyIn, routeWanting, lowestRoute, routeOfPlace, routeAtPlace, peerInSeat, peerWanting}
 
@@ -103,16 +104,29 @@ other-numbers = refl
 
 -- it is whole; where seat 0, or seat 1, wants one key twice it is not
 pub whole-small : roomWhole 3 2 small ≡ true
-unfolding roomWhole fitsRoom sizesRight headerRight routesWhole tableWhole rising risingAfter listed keyAt keyBefore seatTable routesTable
+unfolding roomWhole fitsRoom sizesRight headerRight routesWhole seatRoutesWhole tableWithout tableWhole findKey rising risingAfter listed keyAt keyBefore sameKey seatTable routesTable
 whole-small = refl
 
 pub twice-wanted : roomWhole 3 2 (3 ∷ 2 ∷ 2 ∷ 1 ∷ 0 ∷ 0 ∷ (seat 9 2 0 1 5 5 ++ (other ++ unused))) ≡ false
-unfolding roomWhole fitsRoom sizesRight headerRight routesWhole tableWhole rising risingAfter listed keyAt keyBefore seatTable routesTable
+unfolding roomWhole fitsRoom sizesRight headerRight routesWhole seatRoutesWhole tableWithout tableWhole findKey rising risingAfter listed keyAt keyBefore sameKey seatTable routesTable
 twice-wanted = refl
 
 pub twice-wanted-first : roomWhole 3 2 (3 ∷ 2 ∷ 2 ∷ 1 ∷ 0 ∷ 0 ∷ (one ++ (seat 5 2 0 1 9 9 ++ unused))) ≡ false
-unfolding roomWhole fitsRoom sizesRight headerRight routesWhole tableWhole rising risingAfter listed keyAt keyBefore seatTable routesTable
+unfolding roomWhole fitsRoom sizesRight headerRight routesWhole seatRoutesWhole tableWithout tableWhole findKey rising risingAfter listed keyAt keyBefore sameKey seatTable routesTable
 twice-wanted-first = refl
+
+-- nor where seat 0, or seat 1, names its own key; an own key in the record of an empty seat, or at a place that is not listed, does not matter
+pub own-key-zero : roomWhole 3 2 (3 ∷ 2 ∷ 2 ∷ 1 ∷ 0 ∷ 0 ∷ (seat 9 1 0 0 9 4 ++ (other ++ unused))) ≡ false
+unfolding roomWhole fitsRoom sizesRight headerRight routesWhole seatRoutesWhole tableWithout tableWhole findKey rising risingAfter listed keyAt keyBefore sameKey seatTable routesTable
+own-key-zero = refl
+
+pub own-key-one : roomWhole 3 2 (3 ∷ 2 ∷ 2 ∷ 1 ∷ 0 ∷ 0 ∷ (one ++ (seat 5 2 1 0 8 5 ++ unused))) ≡ false
+unfolding roomWhole fitsRoom sizesRight headerRight routesWhole seatRoutesWhole tableWithout tableWhole findKey rising risingAfter listed keyAt keyBefore sameKey seatTable routesTable
+own-key-one = refl
+
+pub own-key-unlisted : roomWhole 3 2 (3 ∷ 2 ∷ 2 ∷ 1 ∷ 0 ∷ 0 ∷ (seat 9 1 0 0 5 9 ++ (other ++ seat 7 1 1 0 6 7))) ≡ true
+unfolding roomWhole fitsRoom sizesRight headerRight routesWhole seatRoutesWhole tableWithout tableWhole findKey rising risingAfter listed keyAt keyBefore sameKey seatTable routesTable
+own-key-unlisted = refl
 
 -- ---- lookups
 
@@ -219,3 +233,10 @@ gives-one = refl
 pub frees-one : store 3 2 small (routeFreed 1 1) ≡ 3 ∷ 2 ∷ 2 ∷ 1 ∷ 0 ∷ 0 ∷ (one ++ (seat 5 0 1 0 8 9 ++ unused))
 unfolding store withRoutes fitsRoom sizesRight freedIn freed unlisted closed firstOf listed routesTable
 frees-one = refl
+
+-- that route given to the key 5, which is the seat's own, does not fit
+pub own-key-unfit : Fit 3 2 isRoom (routeGiven 1 0 (key 5)) → ⊥
+unfolding seatAt sameKey
+own-key-unfit (gives {held = held} e within untaken apart fresh long) =
+    let own : held .key ≡ key 5 = ap (λ (h : Held). h .key) (let q : setRoutes (newcomer (sizesOf 3 2) (key 5)) (free ∷ wants (key 9) ∷ []) ≡ held = cc in sym q) in
+    true≢false (ap (sameKey (key 5)) (sym own) ∙ apart)

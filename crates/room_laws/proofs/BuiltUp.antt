@@ -9,15 +9,16 @@ use lib.Dec.{eqb}
 use lib.ListN.{length, getD, set, replicate, length-set, length-replicate, getD-replicate, List·getD-eq-default}
 use lib.Seq.{ext-getD, set-set, set-getD, getD-set-other}
 use borrow.Author.Tests.{eqb-true, eqb-false}
+use Rattle.key.specs.Keys.{sameKey}
 use Rattle.key.proofs.Same.{same-refl}
 use Rattle.rules.specs.Room.{Sizes, Key, Route, free, wants, Held, Seat, vacant, holds, Room, newcomer, setRoutes, setRoute, setSeats, setSeat, emptyRoom, seatOf, routeTo, seatAt, sizesOf}
 use Rattle.rules.specs.Outcome.{Change, seatTaken, seatEmptied, routeGiven, routeFreed, withRoute, apply}
 use Rattle.rules.specs.Whole.{Whole}
 use Rattle.rules.proofs.FindLaws.{Once, clash, set-default, set-all, once-set, find-clear, seat-set, held-within}
-use Rattle.rules.proofs.Whole.{key-once, wanted-once}
+use Rattle.rules.proofs.Whole.{key-once, wanted-once, own-unnamed}
 use Rattle.room_laws.specs.Fits.{Fit, takes, gives}
 use Rattle.room_laws.specs.Memory.{KeysAre}
-use Rattle.room_laws.proofs.RouteLaws.{wants-passes}
+use Rattle.room_laws.proofs.ViewLaws.{wants-passes}
 
 -- the key that a change brings into the room
 abbrev pub Brings : (Key → Type 0) → Change → Type 0
@@ -48,6 +49,11 @@ wanted-within [] j key e = clash (cc)
 wanted-within (r ∷ routes) zero key e = omega arith
 wanted-within (r ∷ routes) (suc j) key e = let h = wanted-within routes j key e in omega arith
 
+-- a route that does not want a key wants another
+own-apart : (own : Key) (route : Route) (other : Key) → route ≡ wants other → routeTo own route ≡ false → sameKey other own ≡ false
+unfolding routeTo
+own-apart own route other e h = ap (routeTo own) (sym e) ∙ h
+
 -- ---- what the two changes do where they fit
 
 given-sets : (sizes : Sizes) (room : Room) (i : ℕ) (held : Held) (j : ℕ) (other : Key) → i < length (room .seats) →
@@ -66,14 +72,16 @@ sits-itself room i held e = rw e (same-refl (held .key))
 
 -- ---- what is asked of one seat's routes, and of each seat
 
-record GoodRoutes (K : Key → Type 0) (n : ℕ) (routes : List Route) : Type 0 where
+-- of a seat whose own key is `own`
+record GoodRoutes (K : Key → Type 0) (n : ℕ) (own : Key) (routes : List Route) : Type 0 where
   long : length routes ≡ n
   once : (key : Key) → Once (routeTo key) free routes
   keys : (j : ℕ) (key : Key) → getD routes j free ≡ wants key → K key
+  others : (j : ℕ) → routeTo own (getD routes j free) ≡ false
 
 abbrev GoodSeat : (Key → Type 0) → ℕ → Seat → Type 0
 GoodSeat K n vacant = Unit {0}
-GoodSeat K n (holds held) = K (held .key) × GoodRoutes K n (held .routes)
+GoodSeat K n (holds held) = K (held .key) × GoodRoutes K n (held .key) (held .routes)
 
 record Good (K : Key → Type 0) (s n : ℕ) (room : Room) : Type 0 where
   long : length (room .seats) ≡ s
@@ -81,12 +89,13 @@ record Good (K : Key → Type 0) (s n : ℕ) (room : Room) : Type 0 where
   each : (i : ℕ) → GoodSeat K n (seatAt room i)
 
 -- a route freed, and a seat emptied
-good-freed : (K : Key → Type 0) (n : ℕ) (routes : List Route) (j : ℕ) → GoodRoutes K n routes → GoodRoutes K n (set routes j free)
+good-freed : (K : Key → Type 0) (n : ℕ) (own : Key) (routes : List Route) (j : ℕ) → GoodRoutes K n own routes → GoodRoutes K n own (set routes j free)
 unfolding routeTo
-good-freed K n routes j g = record {
+good-freed K n own routes j g = record {
   long = length-set routes j free ∙ g .long;
   once = λ key. once-set (routeTo key) free routes j free (g .once key) (λ e. absurd (false≢true e));
   keys = λ i key. set-all (λ (r : Route). r ≡ wants key → K key) free routes j free (λ e. clash (cc)) (λ i. g .keys i key) i;
+  others = set-all (λ (r : Route). routeTo own r ≡ false) free routes j free refl (g .others);
 }
 
 good-emptied : (K : Key → Type 0) (s n : ℕ) (room : Room) (i : ℕ) → Good K s n room → Good K s n (setSeat room i vacant)
@@ -103,12 +112,12 @@ module _ (s n : ℕ) (K : Key → Type 0) (thirty-two : (key : Key) → K key �
     (goes-on : (room : Room) (change : Change) → P room → Fit s n room change → Brings K change → P (apply (sizesOf s n) room change)) where
   -- the routes of a seat, from the lowest place on
   routes-given : (room : Room) (i : ℕ) (held : Held) → i < length (room .seats) → P (setSeat room i (holds (setRoutes held (replicate n free)))) →
-      (k : ℕ) (routes : List Route) → GoodRoutes K n routes → ((j : ℕ) → k ≤ j → getD routes j free ≡ free) → P (setSeat room i (holds (setRoutes held routes)))
+      (k : ℕ) (routes : List Route) → GoodRoutes K n (held .key) routes → ((j : ℕ) → k ≤ j → getD routes j free ≡ free) → P (setSeat room i (holds (setRoutes held routes)))
   routes-given room i held l h zero routes g past =
       let q : routes ≡ replicate n free = all-default free routes (λ j. past j (omega arith)) ∙ ap (λ (m : ℕ). replicate m free) (g .long) in
       rw q h
   routes-given room i held l h (suc k) routes g past =
-      go (getD routes k free) refl (routes-given room i held l h k (set routes k free) (good-freed K n routes k g) (cleared free routes k past))
+      go (getD routes k free) refl (routes-given room i held l h k (set routes k free) (good-freed K n (held .key) routes k g) (cleared free routes k past))
     where
       go : (r : Route) → getD routes k free ≡ r → P (setSeat room i (holds (setRoutes held (set routes k free)))) → P (setSeat room i (holds (setRoutes held routes)))
       go free e h =
@@ -118,7 +127,7 @@ module _ (s n : ℕ) (K : Key → Type 0) (thirty-two : (key : Key) → K key �
           let r : Held = setRoutes held (set routes k free) in
           let fit : Fit s n (setSeat room i (holds r)) (routeGiven i k other) =
           gives {j = k} (seat-set room i (holds r) l) (let q = g .long in let w = wanted-within routes k other e in omega arith)
-          (set-default routes k free)
+          (set-default routes k free) (own-apart (held .key) (getD routes k free) other e (g .others k))
           (find-clear (routeTo other) free routes k free (g .once other) (wants-passes other (getD routes k free) e) (unfold routeTo in refl))
           (thirty-two other (g .keys k other e)) in
           subst P
@@ -170,5 +179,6 @@ module _ (s n : ℕ) (K : Key → Type 0) (thirty-two : (key : Key) → K key �
           long = whole .numbers i held e;
           once = wanted-once (sizesOf s n) room whole i held e;
           keys = keys .wanted i held e;
+          others = own-unnamed (sizesOf s n) room whole i held e;
         },
       )

@@ -8,14 +8,14 @@ use lib.ListN.{length, drop, length-drop}
 use lib.Seq.{getD-take}
 use borrow.Author.Tests.{eq-eqb}
 use Rattle.table_laws.specs.Bytes.{member}
-use Rattle.table_laws.specs.Table.{count, listed, tableWhole}
+use Rattle.table_laws.specs.Table.{count, listed}
 use Rattle.table_laws.proofs.KeyOrder.{no}
 use Rattle.table_laws.proofs.Listed.{whole-none}
 use Rattle.table_laws.proofs.NoneListed.{listed-none, view-none}
 use Rattle.rules.specs.Room.{vacant, setSeats, emptyRoom, sizesOf}
-use Rattle.room_laws.specs.Layout.{keyBytes, seatBytes, seatsBytes, fitsRoom, seatTable, routesTable}
+use Rattle.room_laws.specs.Layout.{seatBytes, seatsBytes, fitsRoom, seatTable}
 use Rattle.room_laws.specs.View.{seatIn, viewRoom}
-use Rattle.room_laws.specs.Whole.{headerRight, roomWhole}
+use Rattle.room_laws.specs.Whole.{headerRight, seatRoutesWhole, roomWhole}
 use Rattle.room_laws.specs.Store.{emptied}
 use Rattle.room_laws.proofs.LayoutLaws.{room-long}
 use Rattle.room_laws.proofs.TablesLaws.{fits-same}
@@ -39,7 +39,7 @@ module _ (s n : ℕ) (b : List ℕ) (f : fitsRoom s n b ≡ true) where
       make-whole s n (emptied s n b) (fits-same s n (emptied s n b) b empty-length ∙ f) empty-header
       (whole-none s (seatBytes n) (seatTable s n (emptied s n b)) empty-count) none
     where
-      none : (i : ℕ) → member i (listed s (seatTable s n (emptied s n b))) ≡ true → tableWhole n keyBytes (routesTable s n (emptied s n b) i) ≡ true
+      none : (i : ℕ) → member i (listed s (seatTable s n (emptied s n b))) ≡ true → seatRoutesWhole s n (emptied s n b) i ≡ true
       none i m = absurd (no (unfold member in rw (listed-none s (seatTable s n (emptied s n b)) empty-count) at m))
 
   pub empty-view : viewRoom s n (emptied s n b) ≡ emptyRoom (sizesOf s n)

@@ -3,9 +3,10 @@ pub mod ASmallRoom
 pub mod LayoutLaws
 pub mod TablesLaws
 pub mod ViewLaws
+pub mod ViewFinds
+pub mod RouteFinds
 pub mod WholeLaws
 pub mod EmptyLaws
-pub mod ViewFinds
 pub mod LookupLaws
 pub mod ReplaceLaws
 pub mod RouteLaws

@@ -11,12 +11,12 @@ use lib.ListN.{length, take, drop, getD}
 use borrow.Author.Tests.{ltb-true, ltb-false, lt-ltb}
 use Rattle.key.specs.Keys.{sameKey}
 use Rattle.table_laws.specs.Bytes.{member}
-use Rattle.table_laws.specs.Table.{listed, recordAt, keyAt}
+use Rattle.table_laws.specs.Table.{listed, recordAt}
 use Rattle.table_laws.proofs.KeyOrder.{both}
 use Rattle.table_laws.proofs.FitsLaws.{used-in}
 use Rattle.table_laws.proofs.TableLaws.{key-record}
 use Rattle.rules.specs.Room.{Key, Route, free, vacant, holds, setRoutes, find, seatOf, isVacant, routeTo, isFree, routesOf, seatAt, Seat, Found, none, at, alone}
-use Rattle.rules.proofs.FindLaws.{vacant-no-key, free-not-to, find-hit}
+use Rattle.rules.proofs.FindLaws.{vacant-no-key, find-hit}
 use Rattle.rules.specs.Outcome.{joinedBy, peer, peerIn, peerAt}
 use Rattle.room_laws.specs.Layout.{seatBytes, fitsRoom, seatTable, seatStart, routesTable}
 use Rattle.room_laws.specs.View.{routeIn, viewRoutes, seatIn, viewRoom, seatHeld}
@@ -27,6 +27,7 @@ use Rattle.room_laws.proofs.TablesLaws.{seat-key-stands, routes-in-reco
 use Rattle.room_laws.proofs.ViewLaws.{route-at, route-past, seat-at, seat-past}
 use Rattle.room_laws.proofs.WholeLaws.{whole-fits, whole-seats, whole-seat-table, whole-routes, whole-routes-table}
 use Rattle.room_laws.proofs.ViewFinds.{finds-by-key, finds-unlisted}
+use Rattle.room_laws.proofs.RouteFinds.{free-unlisted, finds-route}
 
 -- ---- the tests, on what a place is
 
@@ -35,19 +36,9 @@ unfolding isVacant seatIn
 vacant-unlisted n true r = refl
 vacant-unlisted n false r = refl
 
-free-unlisted : (u : Bool) (r : List ℕ) → isFree (routeIn u r) ≡ not u
-unfolding isFree routeIn
-free-unlisted true r = refl
-free-unlisted false r = refl
-
 seat-keyed : (n : ℕ) (key : Key) (r : List ℕ) → seatOf key (seatIn n true r) ≡ sameKey (take 32 r) key
 unfolding seatOf seatIn
 seat-keyed n key r = refl
-
--- a route's record is its key
-route-keyed : (n : ℕ) (table : List ℕ) (key : Key) (m : ℕ) → routeTo key (routeIn true (recordAt n 32 table m)) ≡ sameKey (keyAt n 32 table m) key
-unfolding routeTo routeIn recordAt keyAt
-route-keyed n table key m = refl
 
 -- ---- THE LAWS, in a whole room
 
@@ -109,11 +100,10 @@ module _ (s n : ℕ) (b : List ℕ) (whole : roomWhole s n b ≡ true) where
     routes-are = ap routesOf taken-holds
 
     pub route-wanting-finds : (key : Key) → routeWanting s n b i key ≡ find (routeTo key) (routesOf (seatAt (viewRoom s n b) i))
-    unfolding routeWanting viewRoutes
+    unfolding routeWanting
     route-wanting-finds key =
         rw (fits, lt-ltb i s within, routes-are)
-        (sym (finds-by-key n 32 (routesTable s n b i) (whole-routes-table s n b whole i lists) (whole-routes s n b whole i lists) routeIn free (routeTo key) key
-        (λ r. free-not-to key (routeIn false r) (free-unlisted false r)) (λ m l. route-keyed n (routesTable s n b i) key m)))
+        (sym (finds-route n (routesTable s n b i) (whole-routes-table s n b whole i lists) (whole-routes s n b whole i lists) key))
 
     pub lowest-route-finds : lowestRoute s n b i ≡ find isFree (routesOf (seatAt (viewRoom s n b) i))
     unfolding lowestRoute viewRoutes

@@ -2,11 +2,12 @@
 -- bytes stay whole. The key of one who arrives has 32 bytes; that of a routing request has, by the packet's length. And what a call sends is within document
 -- 01's bound for lent output. Assumes nothing.
 use mathlib.Core.Path.{_≡_, refl, ap}
-use mathlib.Core.Bool.{true, false≢true}
+use mathlib.Core.Bool.{Bool, true, false, false≢true}
 use mathlib.Core.List.{List}
 use Prim.Native.Nat.{ℕ, _≤_, _<_}
 use native.Mathlib.Omega.{arith}
 use lib.ListN.{length, getD, length-take}
+use Rattle.key.specs.Keys.{sameKey}
 use Rattle.packet_laws.specs.Read.{Read}
 use Rattle.packet_laws.specs.Read as read
 use Rattle.packet_laws.specs.FromClient as client
@@ -55,16 +56,17 @@ module _ (s n : ℕ) (room : Room) (whole : Whole (sizesOf s n) room) where
   leave-fits seat (holds held) e = (empties e, tt)
 
   module _ (seat : ℕ) (held : Held) (sits : seatAt room seat ≡ holds held) where
-    request-fits : (wanted : Key) → length wanted ≡ 32 → (old lowest : Found) → find (routeTo wanted) (held .routes) ≡ old → find isFree (held .routes) ≡ lowest
-        → FitAll s n room (requestAt old lowest room seat (held .key) wanted .changes)
+    request-fits : (wanted : Key) → length wanted ≡ 32 → (own : Bool) (old lowest : Found) → sameKey wanted (held .key) ≡ own → find (routeTo wanted) (held .routes) ≡ old
+        → find isFree (held .routes) ≡ lowest → FitAll s n room (requestAt own old lowest room seat (held .key) wanted .changes)
     unfolding requestAt accept
-    request-fits wanted l (at place) lowest e d = tt
-    request-fits wanted l none none e d = tt
-    request-fits wanted l none (at place) e d =
+    request-fits wanted l true old lowest o e d = tt
+    request-fits wanted l false (at place) lowest o e d = tt
+    request-fits wanted l false none none o e d = tt
+    request-fits wanted l false none (at place) o e d =
         let w = find-within isFree (held .routes) place d in
         let q = whole .numbers seat held sits in
         let below : place < n = omega arith in
-        (gives sits below (is-free (getD (held .routes) place free) (find-hit isFree free (held .routes) place d)) e l, tt)
+        (gives sits below (is-free (getD (held .routes) place free) (find-hit isFree free (held .routes) place d)) o e l, tt)
 
     drop-fits : (number : ℕ) (route : Route) → routeAt (held .routes) number ≡ route → FitAll s n room (dropAt route room seat (held .key) number .changes)
     unfolding dropAt accept refuse
@@ -89,7 +91,7 @@ module _ (s n : ℕ) (room : Room) (whole : Whole (sizesOf s n) room) where
     act-fits : (bytes : List ℕ) (p : client.FromClient) → client.relayRead bytes ≡ read.packet p → FitAll s n room (act p room seat held .changes)
     unfolding act accept
     act-fits bytes (client.routingRequest wanted) e =
-        request-fits wanted (request-key-long bytes wanted e) (find (routeTo wanted) (held .routes)) (find isFree (held .routes)) refl refl
+        request-fits wanted (request-key-long bytes wanted e) (sameKey wanted (held .key)) (find (routeTo wanted) (held .routes)) (find isFree (held .routes)) refl refl refl
     act-fits bytes (client.dropRoute number) e = drop-fits number (routeAt (held .routes) number) refl
     act-fits bytes (client.ping m) e = tt
     act-fits bytes (client.pong m) e = tt

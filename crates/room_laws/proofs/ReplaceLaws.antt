@@ -1,6 +1,6 @@
 -- A table of a room replaced by one as long. The table of seats: the header and the length stay, and the room is the new table's. The table of
 -- routes of a seat that holds a key: that seat has the new routes, every other seat stays, and the room is whole where the new table is.
-use mathlib.Core.Path.{_≡_, refl, sym, ap, ap₂, _∙_}
+use mathlib.Core.Path.{_≡_, refl, sym, ap, ap₂, subst, _∙_}
 use mathlib.Core.Bool.{Bool, true, false}
 use mathlib.Core.List.{List, _++_, append-nil}
 use Prim.Native.Nat.{ℕ, _+_, _*_, _≤_, _<_}
@@ -10,21 +10,21 @@ use lib.Seq.{length-take-le, take-at, drop-at, take-take, take-append-le, getD-t
 use lib.Dec.{eqb}
 use borrow.Author.Tests.{eqb-true, eqb-false}
 use Rattle.table_laws.specs.Bytes.{splice, member}
-use Rattle.table_laws.specs.Table.{Table, listed, recordAt, tableWhole, view}
+use Rattle.table_laws.specs.Table.{Table, listed, recordAt, tableWhole, tableWithout, view}
 use Rattle.table_laws.proofs.Listed.{row-fits}
 use Rattle.table_laws.proofs.Stores.{length-splice}
 use Rattle.table_laws.proofs.Places.{splice-inner}
-use Rattle.table_laws.proofs.TableLaws.{length-record}
+use Rattle.table_laws.proofs.TableLaws.{length-record, key-record}
 use Rattle.table_laws.proofs.RecordLaws.{refilled, refilled-length, refilled-listed, refilled-other, refilled-same, view-refilled, refilled-whole}
 use Rattle.rules.specs.Room.{Key, Route, Held, Seat, holds, setKey, setRoutes, setSeats, setSeat, seatAt}
-use Rattle.room_laws.specs.Layout.{roomHeader, keyBytes, routesBytes, routesInSeat, seatBytes, seatsBytes, fitsRoom, seatTable, routesStart, routesTable}
+use Rattle.room_laws.specs.Layout.{roomHeader, keyBytes, routesBytes, routesInSeat, seatBytes, seatsBytes, fitsRoom, seatTable, routesStart}
 use Rattle.room_laws.specs.View.{seatIn, viewRoutes, viewRoom}
-use Rattle.room_laws.specs.Whole.{headerRight, roomWhole}
+use Rattle.room_laws.specs.Whole.{headerRight, seatRoutesWhole, roomWhole}
 use Rattle.room_laws.specs.Store.{withSeats, withRoutes}
 use Rattle.room_laws.proofs.LayoutLaws.{room-long}
 use Rattle.room_laws.proofs.TablesLaws.{fits-same, routes-in-record}
 use Rattle.room_laws.proofs.ViewLaws.{view-is, seat-holds}
-use Rattle.room_laws.proofs.WholeLaws.{make-whole, whole-fits, whole-header, whole-seats, whole-seat-table, listed-below, whole-record-routes}
+use Rattle.room_laws.proofs.WholeLaws.{SeatRecordWhole, make-whole, whole-fits, whole-header, whole-seats, whole-seat-table, listed-below, whole-record}
 
 -- ---- the table of seats
 
@@ -60,18 +60,17 @@ module _ (s n : ℕ) (b : List ℕ) (f : fitsRoom s n b ≡ true) (table : List 
   seats-view = ap (λ (x : List ℕ). setSeats (viewRoom s n b) (view s (seatBytes n) (seatIn n) x)) seats-replaced
 
   pub seats-whole : headerRight s n b ≡ true → tableWhole s (seatBytes n) table ≡ true
-      → ((i : ℕ) → member i (listed s table) ≡ true → (i < s) × (tableWhole n keyBytes (drop routesInSeat (recordAt s (seatBytes n) table i)) ≡ true))
+      → ((i : ℕ) → member i (listed s table) ≡ true → (i < s) × SeatRecordWhole n (recordAt s (seatBytes n) table i))
       → roomWhole s n (withSeats s n b table) ≡ true
+  unfolding seatRoutesWhole
   seats-whole h o r =
       make-whole s n (withSeats s n b table) seats-fits (seats-header ∙ h) (ap (tableWhole s (seatBytes n)) seats-replaced ∙ o) routes
     where
-      routes : (i : ℕ) → member i (listed s (seatTable s n (withSeats s n b table))) ≡ true → tableWhole n keyBytes (routesTable s n (withSeats s n b table) i) ≡ true
+      routes : (i : ℕ) → member i (listed s (seatTable s n (withSeats s n b table))) ≡ true → seatRoutesWhole s n (withSeats s n b table) i ≡ true
       routes i m =
           let q = r i (ap (λ (x : List ℕ). member i (listed s x)) (sym seats-replaced) ∙ m) in
-          ap (tableWhole n keyBytes)
-          (routes-in-record s n (withSeats s n b table) i (q .0)
-          ∙ ap (λ (x : List ℕ). drop routesInSeat (recordAt s (seatBytes n) x i)) seats-replaced)
-          ∙ q .1
+          ap₂ (tableWithout n keyBytes) (routes-in-record s n (withSeats s n b table) i (q .0)) (key-record s (seatBytes n) (seatTable s n (withSeats s n b table)) i (omega arith))
+          ∙ subst (λ (x : List ℕ). SeatRecordWhole n (recordAt s (seatBytes n) x i)) (sym seats-replaced) (q .1)
 
 -- ---- the table of routes of one seat
 
@@ -120,14 +119,15 @@ module _ (s n : ℕ) (b : List ℕ) (o : roomWhole s n b ≡ true) (i : ℕ) (he
   behind : drop routesInSeat (take routesInSeat (recordAt s (seatBytes n) (seatTable s n b) i) ++ new) ≡ new
   behind = drop-at (take routesInSeat (recordAt s (seatBytes n) (seatTable s n b) i)) new routesInSeat front
 
+  before : take keyBytes (take routesInSeat (recordAt s (seatBytes n) (seatTable s n b) i) ++ new) ≡ held .key
+  before =
+      take-append-le keyBytes (take routesInSeat (recordAt s (seatBytes n) (seatTable s n b) i)) new (let q = front in omega arith)
+      ∙ take-take keyBytes routesInSeat (recordAt s (seatBytes n) (seatTable s n b) i) (omega arith)
+      ∙ ap (λ (h : Held). h .key) (seat-holds s n b i held e .2)
+
   seat : seatIn n true (take routesInSeat (recordAt s (seatBytes n) (seatTable s n b) i) ++ new) ≡ holds (setRoutes held (viewRoutes n new))
   unfolding seatIn
-  seat =
-      ap₂ (λ (k : Key) (t : List Route). holds (setRoutes (setKey held k) t))
-      (take-append-le keyBytes (take routesInSeat (recordAt s (seatBytes n) (seatTable s n b) i)) new (let q = front in omega arith)
-      ∙ take-take keyBytes routesInSeat (recordAt s (seatBytes n) (seatTable s n b) i) (omega arith)
-      ∙ ap (λ (h : Held). h .key) (seat-holds s n b i held e .2))
-      (ap (viewRoutes n) behind)
+  seat = ap₂ (λ (k : Key) (t : List Route). holds (setRoutes (setKey held k) t)) before (ap (viewRoutes n) behind)
 
   -- THE LAW: that seat has the new routes
   pub routes-view : viewRoom s n (withRoutes s n b i new) ≡ setSeat (viewRoom s n b) i (holds (setRoutes held (viewRoutes n new)))
@@ -150,8 +150,8 @@ module _ (s n : ℕ) (b : List ℕ) (o : roomWhole s n b ≡ true) (i : ℕ) (he
   pub routes-length : length (withRoutes s n b i new) ≡ length b
   routes-length = ap length routes-as-seats ∙ seats-length s n b f (refilled s (seatBytes n) (seatTable s n b) i routesInSeat new) long
 
-  -- and the room is whole
-  pub routes-whole : tableWhole n keyBytes new ≡ true → roomWhole s n (withRoutes s n b i new) ≡ true
+  -- and the room is whole, where they do not have its key
+  pub routes-whole : tableWithout n keyBytes new (held .key) ≡ true → roomWhole s n (withRoutes s n b i new) ≡ true
   routes-whole w =
       ap (roomWhole s n) routes-as-seats
       ∙ seats-whole s n b f (refilled s (seatBytes n) (seatTable s n b) i routesInSeat new) long (whole-header s n b o)
@@ -161,9 +161,9 @@ module _ (s n : ℕ) (b : List ℕ) (o : roomWhole s n b ≡ true) (i : ℕ) (he
       (listed-below s n b o j d, each j (eqb j i) refl d))
     where
       each : (j : ℕ) (u : Bool) → eqb j i ≡ u → member j (listed s (seatTable s n b)) ≡ true
-          → tableWhole n keyBytes (drop routesInSeat (recordAt s (seatBytes n) (refilled s (seatBytes n) (seatTable s n b) i routesInSeat new) j)) ≡ true
-      each j true q m = rw (eqb-true j i q) (ap (tableWhole n keyBytes) (ap (drop routesInSeat) same ∙ behind) ∙ w)
+          → SeatRecordWhole n (recordAt s (seatBytes n) (refilled s (seatBytes n) (seatTable s n b) i routesInSeat new) j)
+      each j true q m = rw (eqb-true j i q) (rw same (ap₂ (tableWithout n keyBytes) behind before ∙ w))
       each j false q m =
-          ap (tableWhole n keyBytes)
-          (ap (drop routesInSeat) (refilled-other s (seatBytes n) (seatTable s n b) t i below routesInSeat new most j (listed-below s n b o j m) (eqb-false j i q)))
-          ∙ whole-record-routes s n b o j m
+          subst (SeatRecordWhole n)
+          (sym (refilled-other s (seatBytes n) (seatTable s n b) t i below routesInSeat new most j (listed-below s n b o j m) (eqb-false j i q)))
+          (whole-record s n b o j m)

@@ -6,7 +6,6 @@ use Prim.Native.Nat.{ℕ, _<_}
 use native.Mathlib.Omega.{arith}
 use lib.ListN.{length, take, drop, getD, set, drop-of-length-le}
 use lib.Seq.{take-all}
-use Rattle.key.proofs.Same.{same-refl}
 use Rattle.table_laws.specs.Bytes.{member}
 use Rattle.table_laws.specs.Table.{Table, count, listed, recordAt, keyAt, tableWhole, put, putIn, freedIn}
 use Rattle.table_laws.proofs.KeyOrder.{rising-below}
@@ -15,16 +14,11 @@ use Rattle.table_laws.proofs.TableLaws.{length-record, key-record, view-put, wh
 use Rattle.table_laws.proofs.FitsLaws.{freed-in}
 use Rattle.table_laws.proofs.Distinct.{unlisted-leaves-room}
 use Rattle.table_laws.proofs.PutLaws.{put-in-is-put}
-use Rattle.rules.specs.Room.{Key, Route, free, wants, none, find, routeTo}
+use Rattle.rules.specs.Room.{Key, free, wants, none, find, routeTo}
 use Rattle.rules.proofs.FindLaws.{find-miss}
 use Rattle.room_laws.specs.Layout.{keyBytes}
 use Rattle.room_laws.specs.View.{routeIn, viewRoutes}
-use Rattle.room_laws.proofs.ViewLaws.{route-at, route-free, route-wants}
-
--- a route that wants a key passes the test for it
-pub wants-passes : (key : Key) (y : Route) → y ≡ wants key → routeTo key y ≡ true
-unfolding routeTo
-wants-passes key y e = rw e (same-refl key)
+use Rattle.room_laws.proofs.ViewLaws.{wants-passes, route-at, route-free, route-wants}
 
 module _ (n : ℕ) (r : List ℕ) (t : Table n keyBytes r) (o : tableWhole n keyBytes r ≡ true) (j : ℕ) where
   long : n < length r

@@ -1,5 +1,5 @@
 -- A seat of a whole room taken or emptied in its table of seats: the room changes at that seat alone, and stays whole.
-use mathlib.Core.Path.{_≡_, refl, sym, ap, ap₂, _∙_}
+use mathlib.Core.Path.{_≡_, refl, sym, ap, ap₂, subst, _∙_}
 use mathlib.Core.Bool.{Bool, true, false, _||_, true≢false}
 use mathlib.Core.List.{List, [], _∷_, _++_, append-assoc}
 use Prim.Native.Nat.{ℕ, _≤_, _<_}
@@ -10,8 +10,9 @@ use lib.Dec.{eqb}
 use borrow.Author.Tests.{eqb-true, eqb-false}
 use Rattle.key.proofs.Same.{same-refl}
 use Rattle.table_laws.specs.Bytes.{member, indexOf}
-use Rattle.table_laws.specs.Table.{Table, count, listed, recordAt, keyAt, tableWhole, placeOf, put, putIn, freed, freedIn}
-use Rattle.table_laws.proofs.Listed.{whole-count, whole-none}
+use Rattle.table_laws.specs.Table.{Table, count, listed, recordAt, keyAt, tableWithout, placeOf, put, putIn, freed, freedIn}
+use Rattle.table_laws.proofs.Listed.{whole-count}
+use Rattle.table_laws.proofs.WithoutLaws.{without-none}
 use Rattle.table_laws.proofs.Places.{member-in}
 use Rattle.table_laws.proofs.TableLaws.{key-record, put-listed, put-other, put-same, length-put, view-put, whole-put, freed-listed, freed-record, length-freed, view-freed, whole-freed}
 use Rattle.table_laws.proofs.Distinct.{member-less, unlisted-leaves-room}
@@ -25,7 +26,7 @@ use Rattle.room_laws.specs.View.{routeIn, viewRoutes, seatIn, viewRoom}
 use Rattle.room_laws.specs.Whole.{roomWhole}
 use Rattle.room_laws.specs.Store.{newSeat, withSeats}
 use Rattle.room_laws.proofs.ViewLaws.{view-is, seat-at, seat-vacant, seat-holds}
-use Rattle.room_laws.proofs.WholeLaws.{whole-fits, whole-header, whole-seats, whole-seat-table, listed-below, whole-record-routes}
+use Rattle.room_laws.proofs.WholeLaws.{whole-fits, whole-header, whole-seats, whole-seat-table, listed-below, SeatRecordWhole, whole-record}
 use Rattle.room_laws.proofs.ReplaceLaws.{seats-view, seats-length, seats-whole}
 
 -- ---- how a seat's record begins
@@ -56,6 +57,10 @@ module _ (key : Key) (e : length key ≡ 32) where
     first-key =
         ap (take 32) (append-assoc key (replicate 8 0 ++ (0 ∷ [])) x)
         ∙ take-at key ((replicate 8 0 ++ (0 ∷ [])) ++ x) 32 e
+
+    -- which lists no key, so not its own
+    new-whole : (n : ℕ) → SeatRecordWhole n (newSeat key ++ x)
+    new-whole n = ap (λ (t : List ℕ). tableWithout n keyBytes t (take keyBytes (newSeat key ++ x))) new-routes ∙ without-none n keyBytes (0 ∷ x) (take keyBytes (newSeat key ++ x)) refl
 
     new-seat : (s n : ℕ) → seatIn n true (newSeat key ++ x) ≡ holds (newcomer (sizesOf s n) key)
     unfolding seatIn
@@ -109,19 +114,17 @@ module _ (s n : ℕ) (b : List ℕ) (o : roomWhole s n b ≡ true) (i : ℕ) whe
         missed = unfold seatAt in find-miss (seatOf key) vacant (viewRoom s n b .seats) (unfold seatOf in refl) fresh x
 
     put-routes : (j : ℕ) (u : Bool) → eqb i j ≡ u → (u || member j (listed s (seatTable s n b))) ≡ true
-        → (j < s) × (tableWhole n keyBytes (drop routesInSeat (recordAt s (seatBytes n) (put s (seatBytes n) (seatTable s n b) i (newSeat key)) j)) ≡ true)
+        → (j < s) × SeatRecordWhole n (recordAt s (seatBytes n) (put s (seatBytes n) (seatTable s n b) i (newSeat key)) j)
     put-routes j true q m = rw (← eqb-true i j q) (
       h,
-      ap (tableWhole n keyBytes)
-          (ap (drop routesInSeat) (put-same s (seatBytes n) (seatTable s n b) i (newSeat key) t left-room h most)
-          ∙ new-routes key e (drop (length (newSeat key)) (recordAt s (seatBytes n) (seatTable s n b) i)))
-          ∙ whole-none n keyBytes (0 ∷ drop (length (newSeat key)) (recordAt s (seatBytes n) (seatTable s n b) i)) refl,
+      subst (SeatRecordWhole n) (sym (put-same s (seatBytes n) (seatTable s n b) i (newSeat key) t left-room h most))
+          (new-whole key e (drop (length (newSeat key)) (recordAt s (seatBytes n) (seatTable s n b) i)) n),
     )
     put-routes j false q m = (
       listed-below s n b o j m,
-      ap (λ (x : List ℕ). tableWhole n keyBytes (drop routesInSeat x))
-          (put-other s (seatBytes n) (seatTable s n b) i (newSeat key) t left-room h most j (listed-below s n b o j m) (λ d. eqb-false i j q (sym d)))
-          ∙ whole-record-routes s n b o j m,
+      subst (SeatRecordWhole n)
+          (sym (put-other s (seatBytes n) (seatTable s n b) i (newSeat key) t left-room h most j (listed-below s n b o j m) (λ d. eqb-false i j q (sym d))))
+          (whole-record s n b o j m),
     )
 
     pub seat-taken : (viewRoom s n (withSeats s n b (putIn s (seatBytes n) (seatTable s n b) i (newSeat key))) ≡ setSeat (viewRoom s n b) i (holds (newcomer (sizesOf s n) key)))
@@ -150,13 +153,12 @@ module _ (s n : ℕ) (b : List ℕ) (o : roomWhole s n b ≡ true) (i : ℕ) whe
     freed-long = length-freed s (seatBytes n) (seatTable s n b) i t (whole-seats s n b o) present ∙ t .long
 
     freed-routes : (j : ℕ) → member j (listed s (freed s (seatTable s n b) i)) ≡ true
-        → (j < s) × (tableWhole n keyBytes (drop routesInSeat (recordAt s (seatBytes n) (freed s (seatTable s n b) i) j)) ≡ true)
+        → (j < s) × SeatRecordWhole n (recordAt s (seatBytes n) (freed s (seatTable s n b) i) j)
     freed-routes j m =
         let d = member-less j (indexOf i (listed s (seatTable s n b))) (listed s (seatTable s n b))
         (ap (member j) (sym (freed-listed s (seatBytes n) (seatTable s n b) i t (whole-seats s n b o) present)) ∙ m) in (
           listed-below s n b o j d,
-          ap (λ (x : List ℕ). tableWhole n keyBytes (drop routesInSeat x)) (freed-record s (seatBytes n) (seatTable s n b) i t (whole-seats s n b o) present j)
-              ∙ whole-record-routes s n b o j d,
+          subst (SeatRecordWhole n) (sym (freed-record s (seatBytes n) (seatTable s n b) i t (whole-seats s n b o) present j)) (whole-record s n b o j d),
         )
 
     pub seat-emptied : (viewRoom s n (withSeats s n b (freedIn s (seatTable s n b) i)) ≡ setSeat (viewRoom s n b) i vacant)

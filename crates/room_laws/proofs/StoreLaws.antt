@@ -1,15 +1,16 @@
 -- THE LAW of the stores: a change that fits the room that whole bytes are, stored in the bytes, is the rules' change of that room; the bytes stay
 -- whole and keep their length. A change fits when it takes an empty seat for a key that has none, empties a seat that holds a key, gives a free
--- route of such a seat to a key that it does not want yet, or frees one that wants a key.
+-- route of such a seat to a key that is not its own and that it does not want yet, or frees one that wants a key.
 use mathlib.Core.Path.{_≡_, refl, sym, ap, _∙_, subst}
-use mathlib.Core.Bool.{true, _&&_}
+use mathlib.Core.Bool.{true, false, _&&_}
 use mathlib.Core.List.{List, [], _∷_}
 use Prim.Native.Nat.{ℕ, _<_}
 use lib.ListN.{length, getD, set}
 use lib.Dec.{ltb}
 use borrow.Author.Tests.{lt-ltb}
 use Rattle.table_laws.specs.Table.{Table, tableWhole, putIn, freedIn}
-use Rattle.rules.specs.Room.{Route, free, wants, Held, Seat, holds, Room, setRoutes, setSeat, find, routeTo, seatAt, sizesOf}
+use Rattle.rules.specs.Room.{Route, free, wants, Held, Seat, holds, Room, setRoutes, setSeat, none, find, routeTo, seatAt, sizesOf}
+use Rattle.rules.proofs.FindLaws.{find-miss, set-all}
 use Rattle.rules.specs.Outcome.{Change, seatTaken, seatEmptied, routeGiven, routeFreed, withRoute, apply, applyAll}
 use Rattle.room_laws.specs.Layout.{keyBytes, routesBytes, fitsRoom, routesTable}
 use Rattle.room_laws.specs.View.{viewRoutes, viewRoom}
@@ -18,7 +19,9 @@ use Rattle.room_laws.specs.Store.{withRoutes, store, storeAll}
 use Rattle.room_laws.proofs.LayoutLaws.{length-routes}
 use Rattle.room_laws.specs.Fits.{Fit, takes, empties, gives, frees, FitAll}
 use Rattle.room_laws.proofs.ViewLaws.{seat-holds}
-use Rattle.room_laws.proofs.WholeLaws.{whole-fits, whole-routes-table, held-routes}
+use Rattle.room_laws.proofs.ViewFinds.{none-found}
+use Rattle.room_laws.proofs.RouteFinds.{none-without}
+use Rattle.room_laws.proofs.WholeLaws.{whole-fits, whole-routes-table, held-routes, held-others}
 use Rattle.room_laws.proofs.ReplaceLaws.{routes-view, routes-whole, routes-length}
 use Rattle.room_laws.proofs.RouteLaws.{route-put, route-out}
 use Rattle.room_laws.proofs.SeatLaws.{seat-taken, seat-emptied}
@@ -28,14 +31,29 @@ module _ (s n : ℕ) (b : List ℕ) (o : roomWhole s n b ≡ true) where
   fits-at : (i : ℕ) → i < s → (fitsRoom s n b && ltb i s) ≡ true
   fits-at i h = rw (whole-fits s n b o, lt-ltb i s h)
 
-  -- a seat's routes replaced by a whole table that has one of them changed
-  module _ (i : ℕ) (held : Held) (e : seatAt (viewRoom s n b) i ≡ holds held) (j : ℕ) (route : Route) (new : List ℕ)
+  -- a seat's routes replaced by a whole table that has one of them changed, to one that does not want the seat's own key
+  module _ (i : ℕ) (held : Held) (e : seatAt (viewRoom s n b) i ≡ holds held) (j : ℕ) (route : Route) (apart : routeTo (held .key) route ≡ false) (new : List ℕ)
       (q : (viewRoutes n new ≡ set (viewRoutes n (routesTable s n b i)) j route) × (tableWhole n keyBytes new ≡ true) × (length new ≡ length (routesTable s n b i))) where
     below : i < s
     below = seat-holds s n b i held e .0
 
     long : length new ≡ routesBytes n
     long = q .2 ∙ length-routes s n b (whole-fits s n b o) i below
+
+    new-table : Table n keyBytes new
+    new-table =
+        let t = whole-routes-table s n b o i (seat-holds s n b i held e .1) in
+        record { small = t .small; key = t .key; narrow = t .narrow; long = long }
+
+    -- none of the new routes wants the seat's own key
+    others : find (routeTo (held .key)) (viewRoutes n new) ≡ none
+    others =
+        let k = held .key in
+        let old = viewRoutes n (routesTable s n b i) in
+        let unwanted = ap (find (routeTo k)) (held-routes s n b o i held e .1) ∙ held-others s n b o i held e in
+        ap (find (routeTo k)) (q .0)
+        ∙ none-found (routeTo k) free (set old j route)
+        (λ x l. set-all (λ (r : Route). routeTo k r ≡ false) free old j route apart (find-miss (routeTo k) free old (unfold routeTo in refl) unwanted) x)
 
     route-changed : (viewRoom s n (withRoutes s n b i new) ≡ setSeat (viewRoom s n b) i (withRoute (seatAt (viewRoom s n b) i) j route))
         × (roomWhole s n (withRoutes s n b i new) ≡ true) × (length (withRoutes s n b i new) ≡ length b)
@@ -44,7 +62,7 @@ module _ (s n : ℕ) (b : List ℕ) (o : roomWhole s n b ≡ true) where
       routes-view s n b o i held e new long
           ∙ ap (λ (x : List Route). setSeat (viewRoom s n b) i (holds (setRoutes held x))) (q .0 ∙ ap (λ (x : List Route). set x j route) (held-routes s n b o i held e .1))
           ∙ ap (λ (x : Seat). setSeat (viewRoom s n b) i (withRoute x j route)) (sym e),
-      routes-whole s n b o i held e new long (q .1),
+      routes-whole s n b o i held e new long (none-without n new new-table (q .1) (held .key) others),
       routes-length s n b o i held e new long,
     )
 
@@ -68,15 +86,15 @@ module _ (s n : ℕ) (b : List ℕ) (o : roomWhole s n b ≡ true) where
       rw (whole-fits s n b o) (seat-taken s n b o i h key long unused fresh)
   store-is-apply (seatEmptied i) (empties {held = held} e) =
       rw (whole-fits s n b o) (seat-emptied s n b o i held e)
-  store-is-apply (routeGiven i j key) (gives {held = held} e h unused fresh long) =
+  store-is-apply (routeGiven i j key) (gives {held = held} e h unused apart fresh long) =
       rw (fits-at i (seat-holds s n b i held e .0))
-      (route-changed i held e j (wants key) (putIn n keyBytes (routesTable s n b i) j key)
+      (route-changed i held e j (wants key) (unfold routeTo in apart) (putIn n keyBytes (routesTable s n b i) j key)
       (route-put n (routesTable s n b i) (held-table i held e) (held-whole i held e) j h key long
       (ap (λ (x : List Route). getD x j free) (held-view i held e) ∙ unused)
       (ap (find (routeTo key)) (held-view i held e) ∙ fresh)))
   store-is-apply (routeFreed i j) (frees {w = w} {held = held} e h) =
       rw (fits-at i (seat-holds s n b i held e .0))
-      (route-changed i held e j free (freedIn n (routesTable s n b i) j)
+      (route-changed i held e j free (unfold routeTo in refl) (freedIn n (routesTable s n b i) j)
       (route-out n (routesTable s n b i) (held-table i held e) (held-whole i held e) j w
       (ap (λ (x : List Route). getD x j free) (held-view i held e) ∙ h)))
 

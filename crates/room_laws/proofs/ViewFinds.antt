@@ -9,7 +9,7 @@ use lib.Dec.{ltb}
 use lib.ListN.{length, getD}
 use borrow.Author.Tests.{ltb-true, ltb-false}
 use Rattle.key.specs.Keys.{sameKey}
-use Rattle.key.proofs.Same.{same-refl, same-sound}
+use Rattle.key.proofs.Same.{same-refl, same-sound, not-so}
 use Rattle.table_laws.specs.Bytes.{member}
 use Rattle.table_laws.specs.Table.{Table, listed, recordAt, keyAt, rising, tableWhole, findKey, found, lowest, lowestFree, view}
 use Rattle.table_laws.proofs.KeyOrder.{clash, rising-apart, rising-below}
@@ -36,14 +36,6 @@ module _ {A : Type 0} (test : A → Bool) (d : A) where
   unfolding find orLater
   none-found [] f = refl
   none-found (x ∷ l) f = rw (f 0 (omega arith), none-found l (λ i k. f (suc i) (omega arith)))
-
--- a test that passes nowhere
-not-so : {t : Bool} → (t ≡ true → ⊥) → t ≡ false
-not-so {t} h = go t refl
-  where
-    go : (u : Bool) → t ≡ u → u ≡ false
-    go true e = absurd (h e)
-    go false e = refl
 
 -- ---- in what a table says
 

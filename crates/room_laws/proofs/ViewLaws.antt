@@ -7,15 +7,21 @@ use Prim.Native.Nat.{ℕ, _≤_, _<_}
 use lib.ListN.{length, getD}
 use lib.Dec.{ltb}
 use borrow.Author.Tests.{ltb-true, ltb-false}
+use Rattle.key.proofs.Same.{same-refl}
 use Rattle.table_laws.specs.Bytes.{member}
 use Rattle.table_laws.specs.Table.{listed, recordAt, view}
 use Rattle.table_laws.proofs.TableLaws.{view-at, length-view, view-past}
-use Rattle.rules.specs.Room.{Key, free, wants, Held, vacant, holds, seatAt}
+use Rattle.rules.specs.Room.{Key, Route, free, wants, Held, vacant, holds, routeTo, seatAt}
 use Rattle.rules.proofs.FindLaws.{clash}
 use Rattle.room_laws.specs.Layout.{keyBytes, seatBytes, seatTable}
 use Rattle.room_laws.specs.View.{routeIn, viewRoutes, heldIn, seatIn, viewRoom}
 
 -- ---- one route and one seat, by whether it is listed
+
+-- a route that wants a key passes the test for it
+pub wants-passes : (key : Key) (y : Route) → y ≡ wants key → routeTo key y ≡ true
+unfolding routeTo
+wants-passes key y e = rw e (same-refl key)
 
 route-listed : (t : Bool) (r : List ℕ) (k : Key) → routeIn t r ≡ wants k → (t ≡ true) × (r ≡ k)
 unfolding routeIn

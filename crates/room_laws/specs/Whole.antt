@@ -1,21 +1,25 @@
 -- When bytes are a whole room. "A room is whole when seated keys differ, the wanted keys of one seat differ, empty seats hold no routes, and anything
 -- else the team keeps agrees with these": the listed keys of each table strictly rise, so they differ; what is not listed is no part of the room, so
--- an empty seat holds no route; and the header has the room's sizes.
+-- an empty seat holds no route; and the header has the room's sizes. And document 02: "A room where a seat names its own key is no longer whole."
 use mathlib.Core.Bool.{Bool, true, _&&_}
 use mathlib.Core.List.{List, [], _∷_}
 use Prim.Native.Nat.{ℕ}
 use lib.Dec.{eqb}
 use lib.ListN.{getD}
-use Rattle.table_laws.specs.Table.{listed, tableWhole}
+use Rattle.table_laws.specs.Table.{listed, keyAt, tableWhole, tableWithout}
 use Rattle.room_laws.specs.Layout.{keyBytes, seatBytes, fitsRoom, seatTable, routesTable}
 
 unfoldable pub headerRight : ℕ → ℕ → List ℕ → Bool
 headerRight s n b = eqb (getD b 0 0) s && eqb (getD b 1 0) n
 
--- the routes of each of these seats are a whole table
+-- the routes of seat i are a whole table that does not list the seat's own key
+unfoldable pub seatRoutesWhole : ℕ → ℕ → List ℕ → ℕ → Bool
+seatRoutesWhole s n b i = tableWithout n keyBytes (routesTable s n b i) (keyAt s (seatBytes n) (seatTable s n b) i)
+
+-- and so those of each of these seats
 unfoldable pub routesWhole : ℕ → ℕ → List ℕ → List ℕ → Bool
 routesWhole s n b [] = true
-routesWhole s n b (i ∷ is) = tableWhole n keyBytes (routesTable s n b i) && routesWhole s n b is
+routesWhole s n b (i ∷ is) = seatRoutesWhole s n b i && routesWhole s n b is
 
 unfoldable pub roomWhole : ℕ → ℕ → List ℕ → Bool
 roomWhole s n b =

@@ -72,13 +72,13 @@ p10-and-p11 = refl
 
 -- ---- "32nd request numbered 47; 33rd answered 0."
 
--- requests of seat 0 for so many keys, all of bytes 0, all of bytes 1, ..
+-- requests of seat 0 for so many keys: 32 bytes of the first number, 32 of the next, .. From 64 on none of them is KA's own, whose bytes are 17
 askAll : ℕ → ℕ → List Call
 askAll first zero = []
 askAll first (suc many) = ask 0 (replicate 32 first) ∷ askAll (suc first) many
 
-request-33 : drop 32 (shows (arrive ka ∷ askAll 0 33))
-    ≡ wrote 0 37 (0 ∷ 0 ∷ 0x22 ∷ 1 ∷ 47 ∷ replicate 32 31) ∷ wrote 0 37 (0 ∷ 0 ∷ 0x22 ∷ 1 ∷ 0 ∷ replicate 32 32) ∷ []
+request-33 : drop 32 (shows (arrive ka ∷ askAll 64 33))
+    ≡ wrote 0 37 (0 ∷ 0 ∷ 0x22 ∷ 1 ∷ 47 ∷ replicate 32 95) ∷ wrote 0 37 (0 ∷ 0 ∷ 0x22 ∷ 1 ∷ 0 ∷ replicate 32 96) ∷ []
 unfolding opened shows showAll show ask askAll
 request-33 = refl
 
@@ -127,11 +127,32 @@ asked-twice : drop 4 (shows (arrive ka ∷ arrive kb ∷ ask 0 kb ∷ ask 1 ka �
 unfolding opened shows showAll show ask
 asked-twice = refl
 
--- ---- "a client that asks for its own key gets a number that waits for ever"
+-- ---- a client that asks for its own key: "The answer becomes 0 and no route is taken"
 
-own-key-waits : shows (arrive ka ∷ ask 0 ka ∷ data10 0 ∷ []) ≡ took 0 ∷ wrote 0 37 (0 ∷ 0 ∷ 0x22 ∷ 1 ∷ 0x10 ∷ ka) ∷ gets 9 ∷ []
-unfolding opened shows showAll show took gets ask data10
-own-key-waits = refl
+answeredZero : Shown
+answeredZero = wrote 0 37 (0 ∷ 0 ∷ 0x22 ∷ 1 ∷ 0 ∷ ka)
+
+-- on an empty table, and again: number 16 stays free, data on it is 8, and the next key gets it
+own-key-on-empty : drop 1 (shows (arrive ka ∷ ask 0 ka ∷ ask 0 ka ∷ data10 0 ∷ ask 0 kb ∷ []))
+    ≡ answeredZero ∷ answeredZero ∷ gets 8 ∷ wrote 0 37 (0 ∷ 0 ∷ 0x22 ∷ 1 ∷ 0x10 ∷ kb) ∷ []
+unfolding opened shows showAll show gets ask data10 answeredZero
+own-key-on-empty = refl
+
+-- between two others, which get 16 and 17
+own-key-on-thin : drop 2 (shows (arrive ka ∷ ask 0 kb ∷ ask 0 ka ∷ ask 0 kc ∷ [])) ≡ answeredZero ∷ wrote 0 37 (0 ∷ 0 ∷ 0x22 ∷ 1 ∷ 0x11 ∷ kc) ∷ []
+unfolding opened shows showAll show ask answeredZero
+own-key-on-thin = refl
+
+-- on a full table, where a key that it names still gets its old number
+own-key-on-full : drop 33 (shows (arrive ka ∷ askAll 64 32 ++ (ask 0 ka ∷ ask 0 (replicate 32 64) ∷ [])))
+    ≡ answeredZero ∷ wrote 0 37 (0 ∷ 0 ∷ 0x22 ∷ 1 ∷ 0x10 ∷ replicate 32 64) ∷ []
+unfolding opened shows showAll show ask askAll answeredZero
+own-key-on-full = refl
+
+-- another client's key is not its own: KB, which asks for KA's while KA asks for its own, gets a number
+anothers-key : drop 2 (shows (arrive ka ∷ arrive kb ∷ ask 0 ka ∷ ask 1 ka ∷ [])) ≡ answeredZero ∷ wrote 1 37 (1 ∷ 0 ∷ 0x22 ∷ 1 ∷ 0x10 ∷ ka) ∷ []
+unfolding opened shows showAll show ask answeredZero
+anothers-key = refl
 
 -- ---- "each with its own number", "with the peer's own number", where the two numbers differ: KA's for KB is 18, KB's for KA is 17
 

@@ -1,9 +1,11 @@
 -- A call changes at most the seat it is made at: every other seat keeps its key and its routes. So a disconnect, by a drop or by a leave, leaves the peer's
 -- request standing: "its route goes on waiting". Assumes nothing.
 use mathlib.Core.Path.{_≡_, refl, _∙_}
+use mathlib.Core.Bool.{Bool, true, false}
 use mathlib.Core.List.{List}
 use mathlib.Core.Logic.{_≢_}
 use Prim.Native.Nat.{ℕ, _-_}
+use Rattle.key.specs.Keys.{sameKey}
 use Rattle.packet_laws.specs.Read.{Read}
 use Rattle.packet_laws.specs.Read as read
 use Rattle.packet_laws.specs.FromClient as client
@@ -17,11 +19,12 @@ module _ (sizes : Sizes) (room : Room) (seat other : ℕ) (ne : other ≢ seat) 
   abbrev Stays : Outcome → Type 0
   Stays o = seatAt (roomAfter sizes room o) other ≡ seatAt room other
 
-  request-stays : (old lowest : Found) (key wanted : Key) → Stays (requestAt old lowest room seat key wanted)
+  request-stays : (own : Bool) (old lowest : Found) (key wanted : Key) → Stays (requestAt own old lowest room seat key wanted)
   unfolding requestAt accept roomAfter applyAll apply
-  request-stays (at place) lowest key wanted = refl
-  request-stays none none key wanted = refl
-  request-stays none (at place) key wanted = seat-set-other room seat (withRoute (seatAt room seat) place (wants wanted)) other ne
+  request-stays true old lowest key wanted = refl
+  request-stays false (at place) lowest key wanted = refl
+  request-stays false none none key wanted = refl
+  request-stays false none (at place) key wanted = seat-set-other room seat (withRoute (seatAt room seat) place (wants wanted)) other ne
 
   drop-stays : (route : Route) (key : Key) (number : ℕ) → Stays (dropAt route room seat key number)
   unfolding dropAt accept refuse roomAfter applyAll apply
@@ -45,7 +48,8 @@ module _ (sizes : Sizes) (room : Room) (seat other : ℕ) (ne : other ≢ seat) 
 
   read-stays : (r : Read client.FromClient) (held : Held) → Stays (actOn r room seat held)
   unfolding actOn act accept refuse roomAfter applyAll
-  read-stays (read.packet (client.routingRequest wanted)) held = request-stays (find (routeTo wanted) (held .routes)) (find isFree (held .routes)) (held .key) wanted
+  read-stays (read.packet (client.routingRequest wanted)) held =
+      request-stays (sameKey wanted (held .key)) (find (routeTo wanted) (held .routes)) (find isFree (held .routes)) (held .key) wanted
   read-stays (read.packet (client.dropRoute number)) held = drop-stays (routeAt (held .routes) number) (held .key) number
   read-stays (read.packet (client.ping n)) held = refl
   read-stays (read.packet (client.pong n)) held = refl

@@ -1,10 +1,11 @@
 -- Every outcome is a refusal or an acceptance: it answers a refusal, changes nothing and sends nothing, or it is accepted with the count of the bytes it
 -- sends. "A refusal answers its number with 0 bytes written; room [..] as before the call." In every room for every call. Assumes nothing.
 use mathlib.Core.Path.{_≡_, refl, sym, ap, _∙_}
-use mathlib.Core.Bool.{false, true≢false}
+use mathlib.Core.Bool.{Bool, true, false, true≢false}
 use mathlib.Core.List.{List, [], _∷_}
 use Prim.Native.Nat.{ℕ}
 use Rattle.refusal.specs.declared.Refusal.the-variants.{RoomFull, AlreadySeated, NotSeated, NoSuchRoute, NotConnected}
+use Rattle.key.specs.Keys.{sameKey}
 use Rattle.packet_laws.specs.Read.{Read}
 use Rattle.packet_laws.specs.Read as read
 use Rattle.packet_laws.specs.FromClient as client
@@ -30,11 +31,12 @@ module _ (room : Room) where
   leave-made vacant seat = refusal NotSeated refl
   leave-made (holds held) seat = acceptance _ _ refl
 
-  request-made : (old lowest : Found) (seat : ℕ) (key wanted : Key) → MadeAt seat (requestAt old lowest room seat key wanted)
+  request-made : (own : Bool) (old lowest : Found) (seat : ℕ) (key wanted : Key) → MadeAt seat (requestAt own old lowest room seat key wanted)
   unfolding requestAt
-  request-made (at place) lowest seat key wanted = acceptance _ _ refl
-  request-made none none seat key wanted = acceptance _ _ refl
-  request-made none (at place) seat key wanted = acceptance _ _ refl
+  request-made true old lowest seat key wanted = acceptance _ _ refl
+  request-made false (at place) lowest seat key wanted = acceptance _ _ refl
+  request-made false none none seat key wanted = acceptance _ _ refl
+  request-made false none (at place) seat key wanted = acceptance _ _ refl
 
   drop-made : (route : Route) (seat : ℕ) (key : Key) (number : ℕ) → MadeAt seat (dropAt route room seat key number)
   unfolding dropAt
@@ -58,7 +60,8 @@ module _ (room : Room) where
 
   act-made : (r : Read client.FromClient) (seat : ℕ) (held : Held) → MadeAt seat (actOn r room seat held)
   unfolding actOn act
-  act-made (read.packet (client.routingRequest wanted)) seat held = request-made (find (routeTo wanted) (held .routes)) (find isFree (held .routes)) seat (held .key) wanted
+  act-made (read.packet (client.routingRequest wanted)) seat held =
+      request-made (sameKey wanted (held .key)) (find (routeTo wanted) (held .routes)) (find isFree (held .routes)) seat (held .key) wanted
   act-made (read.packet (client.dropRoute number)) seat held = drop-made (routeAt (held .routes) number) seat (held .key) number
   act-made (read.packet (client.ping n)) seat held = acceptance _ _ refl
   act-made (read.packet (client.pong n)) seat held = acceptance _ _ refl

@@ -16,11 +16,12 @@ use Rattle.refusal.specs.declared.Refusal.{Refusal}
 use Rattle.packet_laws.specs.Read.{Read}
 use Rattle.packet_laws.specs.Read as read
 use Rattle.packet_laws.specs.FromClient as client
+use Rattle.packet_laws.specs.FromRelay as relay
 use Rattle.packet_laws.proofs.ReadBounds.{request-key-long}
 use Rattle.rules.specs.Room.{Sizes, Key, Route, free, wants, Held, Seat, vacant, holds, Room, newcomer, setKey, setRoute, setSeats, setSeat, emptyRoom, Found, none, at, find, seatOf, isVacant, routeTo, isFree, routesOf, seatAt, routeAt, firstNumber, numberOfPlace, Peer, alone, joined}
 use Rattle.rules.specs.Whole.{Whole}
 use Rattle.rules.specs.Call.{Call, arrive, leave, packetCall, refused}
-use Rattle.rules.specs.Outcome.{withRoute, apply, applyAll, refuse, accept, Outcome, roomAfter, peer, arriveAt, leaveFrom, requestAt, dropAt, oobTo, carryTo, dataAt, act, actOn, packetFrom, outcome}
+use Rattle.rules.specs.Outcome.{withRoute, apply, applyAll, refuse, accept, to, Outcome, roomAfter, peer, arriveAt, leaveFrom, requestAt, dropAt, oobTo, carryTo, dataAt, act, actOn, packetFrom, outcome}
 use Rattle.rules.specs.History.{event, transcript}
 use Rattle.rules.specs.Transcript.{Past, Maker, nobody, clientOf, Start, fromEmpty, isAccepted, sitsAfterArrival, sitsAfter, sitter, maker, numberAnswered, standsAfterPacket, standsAfterOwn, standsAfter, stands}
 use Rattle.rules.specs.After.{roomAfterAll, pastAfter, clientIn, routesIn, routesBy, Tied, startOf}
@@ -211,11 +212,24 @@ module _ (sizes : Sizes) (start : Start) (past : Past) (room : Room) (whole : Wh
       abbrev Asked : ℕ → ℕ → Key → Bool
       Asked answered number w = (not (eqb number 0) && eqb answered number) && sameKey wanted w
 
-      tied-request : (old lowest : Found) → find (routeTo wanted) (held .routes) ≡ old → find isFree (held .routes) ≡ lowest
-          → Keeps (packetCall seat bytes) (requestAt old lowest room seat (held .key) wanted)
+      -- an answer of 0 that changes nothing
+      tied-zero : (o : Outcome) → roomAfter sizes room o ≡ room → o .sent ≡ to seat (relay.routingResponse 0 wanted) ∷ [] → Keeps (packetCall seat bytes) o
+      unfolding standsAfterPacket
+      tied-zero o after s =
+          keeps-same bytes _ e o after (λ number w. rw (s, zero-answered seat wanted long []) (absorb (Asked 0 number w) _ (on number w)))
+        where
+          on : (number : ℕ) (w : Key) → Asked 0 number w ≡ true → routeTo w (routeAt (held .routes) number) ≡ true
+          on number w t =
+              let a = both-true (not (eqb number 0) && eqb 0 number) (sameKey wanted w) t in
+              let b = both-true (not (eqb number 0)) (eqb 0 number) (a .0) in
+              absurd (eqb-false number 0 (not-true (eqb number 0) (b .0)) (sym (eqb-true 0 number (b .1))))
+
+      tied-request : (own : Bool) (old lowest : Found) → find (routeTo wanted) (held .routes) ≡ old → find isFree (held .routes) ≡ lowest
+          → Keeps (packetCall seat bytes) (requestAt own old lowest room seat (held .key) wanted)
       unfolding roomAfter applyAll apply withRoute requestAt accept standsAfterPacket routeTo
-      tied-request (at place) lowest hf hg =
-          keeps-same bytes _ e (requestAt (at place) lowest room seat (held .key) wanted) refl
+      tied-request true old lowest hf hg = tied-zero (requestAt true old lowest room seat (held .key) wanted) refl refl
+      tied-request false (at place) lowest hf hg =
+          keeps-same bytes _ e (requestAt false (at place) lowest room seat (held .key) wanted) refl
           (λ number w. rw (place-answered seat wanted long [] place) (absorb (Asked (numberOfPlace place) number w) _ (on number w)))
         where
           on : (number : ℕ) (w : Key) → Asked (numberOfPlace place) number w ≡ true → routeTo w (routeAt (held .routes) number) ≡ true
@@ -223,17 +237,9 @@ module _ (sizes : Sizes) (start : Start) (past : Past) (room : Room) (whole : Wh
               let a = both-true (not (eqb number 0) && eqb (numberOfPlace place) number) (sameKey wanted w) t in
               let b = both-true (not (eqb number 0)) (eqb (numberOfPlace place) number) (a .0) in
               rw (← (eqb-true (numberOfPlace place) number (b .1)), ← (same-sound wanted w (a .1)), route-at-place (held .routes) place) (find-hit (routeTo wanted) free (held .routes) place hf)
-      tied-request none none hf hg =
-          keeps-same bytes _ e (requestAt none none room seat (held .key) wanted) refl
-          (λ number w. rw (zero-answered seat wanted long []) (absorb (Asked 0 number w) _ (on number w)))
-        where
-          on : (number : ℕ) (w : Key) → Asked 0 number w ≡ true → routeTo w (routeAt (held .routes) number) ≡ true
-          on number w t =
-              let a = both-true (not (eqb number 0) && eqb 0 number) (sameKey wanted w) t in
-              let b = both-true (not (eqb number 0)) (eqb 0 number) (a .0) in
-              absurd (eqb-false number 0 (not-true (eqb number 0) (b .0)) (sym (eqb-true 0 number (b .1))))
-      tied-request none (at place) hf hg =
-          keeps-with bytes _ e (requestAt none (at place) room seat (held .key) wanted) (setRoute held place (wants wanted)) refl (rw sits)
+      tied-request false none none hf hg = tied-zero (requestAt false none none room seat (held .key) wanted) refl refl
+      tied-request false none (at place) hf hg =
+          keeps-with bytes _ e (requestAt false none (at place) room seat (held .key) wanted) (setRoute held place (wants wanted)) refl (rw sits)
           (λ number w. rw (place-answered seat wanted long _ place) (on number w (eqb (numberOfPlace place) number) refl))
         where
           on : (number : ℕ) (w : Key) (t : Bool) → eqb (numberOfPlace place) number ≡ t
@@ -284,7 +290,8 @@ module _ (sizes : Sizes) (start : Start) (past : Past) (room : Room) (whole : Wh
 
     tied-act : (bytes : List ℕ) (p : client.FromClient) → client.relayRead bytes ≡ read.packet p → Keeps (packetCall seat bytes) (act p room seat held)
     unfolding roomAfter applyAll act accept standsAfterPacket
-    tied-act bytes (client.routingRequest wanted) e = tied-request bytes wanted e (find (routeTo wanted) (held .routes)) (find isFree (held .routes)) refl refl
+    tied-act bytes (client.routingRequest wanted) e =
+        tied-request bytes wanted e (sameKey wanted (held .key)) (find (routeTo wanted) (held .routes)) (find isFree (held .routes)) refl refl
     tied-act bytes (client.dropRoute number) e = tied-drop bytes number e (routeAt (held .routes) number) refl
     tied-act bytes (client.ping n) e = keeps-same bytes _ e (act (client.ping n) room seat held) refl (λ n w. refl)
     tied-act bytes (client.pong n) e = keeps-same bytes _ e (act (client.pong n) room seat held) refl (λ n w. refl)

@@ -1,7 +1,7 @@
 -- The empty room is whole, and every call leaves a whole room whole: a key is seated only where it sits nowhere, and a wanted key is given a
--- number only where it has none. Assumes nothing.
+-- number only where it has none and is not the asker's own. Assumes nothing.
 use mathlib.Core.Path.{_≡_, refl, sym, ap, _∙_, subst}
-use mathlib.Core.Bool.{true, false, true≢false, false≢true}
+use mathlib.Core.Bool.{Bool, true, false, true≢false, false≢true}
 use mathlib.Core.List.{List, [], _∷_}
 use mathlib.Core.Logic.{_↔_, _≢_}
 use Prim.Native.Nat.{ℕ, _-_}
@@ -10,7 +10,8 @@ use lib.ListN.{getD, length, length-set, length-replicate}
 use Rattle.packet_laws.specs.Read.{Read}
 use Rattle.packet_laws.specs.Read as read
 use Rattle.packet_laws.specs.FromClient as client
-use Rattle.key.proofs.Same.{same-refl, same-sound}
+use Rattle.key.specs.Keys.{sameKey}
+use Rattle.key.proofs.Same.{same-refl, same-sound, not-so}
 use Rattle.rules.specs.Room.{Sizes, Key, Route, free, wants, Held, Seat, vacant, holds, Room, newcomer, setRoute, setSeat, emptyRoom, Found, none, at, find, seatOf, isVacant, routeTo, isFree, seatAt, routeAt, firstNumber, numberOfPlace, Peer, alone, joined}
 use Rattle.rules.specs.Whole.{Whole}
 use Rattle.rules.specs.Call.{Call, arrive, leave, packetCall}
@@ -23,7 +24,9 @@ use Rattle.rules.proofs.FindLaws.{Once, find-miss, find-once, getD-all,
 -- what a whole room asks of one seat
 abbrev pub WholeSeat : Sizes → Seat → Type 0
 WholeSeat sizes vacant = Unit {0}
-WholeSeat sizes (holds held) = (length (held .routes) ≡ sizes .numbers) × ((wanted : Key) → Once (routeTo wanted) free (held .routes))
+WholeSeat sizes (holds held) =
+    (length (held .routes) ≡ sizes .numbers) × ((wanted : Key) → Once (routeTo wanted) free (held .routes))
+    × ((place : ℕ) → routeTo (held .key) (getD (held .routes) place free) ≡ false)
 
 module _ (sizes : Sizes) (room : Room) (whole : Whole sizes room) where
   pub key-once : (key : Key) → Once (seatOf key) vacant (room .seats)
@@ -36,6 +39,11 @@ module _ (sizes : Sizes) (room : Room) (whole : Whole sizes room) where
         let q : numberOfPlace i ≡ numberOfPlace j =
         whole .wanted seat held sits other (numberOfPlace i) (numberOfPlace j) (route-at-place (held .routes) i ∙ route-to-wants other _ hi) (route-at-place (held .routes) j ∙ route-to-wants other _ hj)
         in omega arith
+
+    -- none of its routes names its own key
+    pub own-unnamed : (place : ℕ) → routeTo (held .key) (getD (held .routes) place free) ≡ false
+    own-unnamed place =
+        not-so (λ h. whole .notOwn seat held sits (numberOfPlace place) (route-at-place (held .routes) place ∙ route-to-wants (held .key) _ h))
 
     -- its key is found there
     pub key-found : find (seatOf (held .key)) (room .seats) ≡ at seat
@@ -54,7 +62,7 @@ module _ (sizes : Sizes) (room : Room) (whole : Whole sizes room) where
     where
       go : (s : Seat) → seatAt room seat ≡ s → WholeSeat sizes s
       go vacant e = tt
-      go (holds held) e = (whole .numbers seat held e, wanted-once seat held e)
+      go (holds held) e = (whole .numbers seat held e, wanted-once seat held e, own-unnamed seat held e)
 
 module _ (sizes : Sizes) (room : Room) where
   pub make-whole : length (room .seats) ≡ sizes .seats → ((seat : ℕ) → WholeSeat sizes (seatAt room seat)) → ((key : Key) → Once (seatOf key) vacant (room .seats)) → Whole sizes room
@@ -70,6 +78,9 @@ module _ (sizes : Sizes) (room : Room) where
         (rw e at (each seat)) .1 other (i - firstNumber) (j - firstNumber) (rw (wanted-place (held .routes) i other hi) (same-refl other))
         (rw (wanted-place (held .routes) j other hj) (same-refl other)) in
         omega arith);
+    notOwn = λ seat held e number h.
+        true≢false (sym (same-refl (held .key)) ∙ sym (ap (routeTo (held .key)) (wanted-place (held .routes) number (held .key) h))
+        ∙ (rw e at (each seat)) .2 (number - firstNumber));
   }
 
 -- ---- the empty room
@@ -97,8 +108,11 @@ module _ (sizes : Sizes) (room : Room) (whole : Whole sizes room) where
   whole-arrive key none none e = whole
   whole-arrive key none (at seat) e =
       whole-set seat (holds (newcomer sizes key))
-      (λ k h j hj. absurd (true≢false (sym hj ∙ subst (λ (x : Key). seatOf x (getD (room .seats) j vacant) ≡ false) (same-sound key k h) (find-miss (seatOf key) vacant (room .seats) refl e j))))
-      (length-replicate (sizes .numbers) free, λ w i j h. absurd (false≢true (sym (ap (routeTo w) (getD-all (sizes .numbers) i free)) ∙ h)))
+      (λ k h j hj. absurd (true≢false (sym hj ∙ subst (λ (x : Key). seatOf x (getD (room .seats) j vacant) ≡ false) (same-sound key k h) (find-miss (seatOf key) vacant (room .seats) refl e j)))) (
+        length-replicate (sizes .numbers) free,
+        λ w i j h. absurd (false≢true (sym (ap (routeTo w) (getD-all (sizes .numbers) i free)) ∙ h)),
+        λ i. ap (routeTo key) (getD-all (sizes .numbers) i free),
+      )
 
   whole-leave : (seat : ℕ) (s : Seat) → Whole sizes (roomAfter sizes room (leaveFrom s room seat))
   unfolding roomAfter applyAll apply leaveFrom refuse accept seatOf
@@ -108,25 +122,31 @@ module _ (sizes : Sizes) (room : Room) (whole : Whole sizes room) where
   module _ (seat : ℕ) (held : Held) (sits : seatAt room seat ≡ holds held) where
     -- one of its routes is replaced
     whole-route : (place : ℕ) (route : Route) → ((w : Key) → routeTo w route ≡ true → (j : ℕ) → routeTo w (getD (held .routes) j free) ≡ true → j ≡ place)
-        → Whole sizes (setSeat room seat (withRoute (seatAt room seat) place route))
+        → routeTo (held .key) route ≡ false → Whole sizes (setSeat room seat (withRoute (seatAt room seat) place route))
     unfolding withRoute seatOf seatAt
-    whole-route place route only =
+    whole-route place route only others =
         rw sits
-        (whole-set seat (holds (setRoute held place route)) (λ k h j hj. key-once sizes room whole k j seat hj (rw sits h))
-        (length-set (held .routes) place route ∙ whole .numbers seat held sits, λ w. once-set (routeTo w) free (held .routes) place route (wanted-once sizes room whole seat held sits w) (only w)))
+        (whole-set seat (holds (setRoute held place route)) (λ k h j hj. key-once sizes room whole k j seat hj (rw sits h)) (
+          length-set (held .routes) place route ∙ whole .numbers seat held sits,
+          λ w. once-set (routeTo w) free (held .routes) place route (wanted-once sizes room whole seat held sits w) (only w),
+          set-all (λ (r : Route). routeTo (held .key) r ≡ false) free (held .routes) place route others (own-unnamed sizes room whole seat held sits),
+        ))
 
-    whole-request : (wanted : Key) (old lowest : Found) → find (routeTo wanted) (held .routes) ≡ old → Whole sizes (roomAfter sizes room (requestAt old lowest room seat (held .key) wanted))
+    whole-request : (wanted : Key) (own : Bool) (old lowest : Found) → sameKey wanted (held .key) ≡ own → find (routeTo wanted) (held .routes) ≡ old
+        → Whole sizes (roomAfter sizes room (requestAt own old lowest room seat (held .key) wanted))
     unfolding roomAfter applyAll apply requestAt accept routeTo
-    whole-request wanted (at place) lowest e = whole
-    whole-request wanted none none e = whole
-    whole-request wanted none (at place) e =
+    whole-request wanted true old lowest o e = whole
+    whole-request wanted false (at place) lowest o e = whole
+    whole-request wanted false none none o e = whole
+    whole-request wanted false none (at place) o e =
         whole-route place (wants wanted)
         (λ w h j hj. absurd (true≢false (sym hj ∙ subst (λ (x : Key). routeTo x (getD (held .routes) j free) ≡ false) (same-sound wanted w h) (find-miss (routeTo wanted) free (held .routes) refl e j))))
+        o
 
     whole-drop : (number : ℕ) (route : Route) → Whole sizes (roomAfter sizes room (dropAt route room seat (held .key) number))
     unfolding roomAfter applyAll apply dropAt accept refuse routeTo
     whole-drop number free = whole
-    whole-drop number (wants wanted) = whole-route (number - firstNumber) free (λ w h. absurd (false≢true h))
+    whole-drop number (wants wanted) = whole-route (number - firstNumber) free (λ w h. absurd (false≢true h)) refl
 
     whole-oob : (other : Found) (bytes : List ℕ) → Whole sizes (roomAfter sizes room (oobTo other seat (held .key) bytes))
     unfolding roomAfter applyAll oobTo accept
@@ -145,7 +165,8 @@ module _ (sizes : Sizes) (room : Room) (whole : Whole sizes room) where
 
     whole-act : (p : client.FromClient) → Whole sizes (roomAfter sizes room (act p room seat held))
     unfolding roomAfter applyAll act accept
-    whole-act (client.routingRequest wanted) = whole-request wanted (find (routeTo wanted) (held .routes)) (find isFree (held .routes)) refl
+    whole-act (client.routingRequest wanted) =
+        whole-request wanted (sameKey wanted (held .key)) (find (routeTo wanted) (held .routes)) (find isFree (held .routes)) refl refl
     whole-act (client.dropRoute number) = whole-drop number (routeAt (held .routes) number)
     whole-act (client.ping n) = whole
     whole-act (client.pong n) = whole

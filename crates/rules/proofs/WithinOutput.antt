@@ -10,6 +10,7 @@ use native.Mathlib.Omega.{arith}
 use lib.Dec.{eqb}
 use lib.ListN.{length, length-append}
 use Rattle.wire.proofs.Numbers.{length-bytesOf}
+use Rattle.key.specs.Keys.{sameKey}
 use Rattle.packet_laws.specs.Read.{Read}
 use Rattle.packet_laws.specs.Read as read
 use Rattle.packet_laws.specs.FromClient as client
@@ -66,11 +67,12 @@ module _ (room : Room) where
       let g = tell-within seat key route in
       omega (arith, count-append (tellPeer room seat key route) (tellPeers room seat key routes))
 
-  request-within : (old lowest : Found) (seat : ℕ) (key wanted : Key) → length wanted ≡ 32 → size (requestAt old lowest room seat key wanted .sent) ≤ 47
+  request-within : (own : Bool) (old lowest : Found) (seat : ℕ) (key wanted : Key) → length wanted ≡ 32 → size (requestAt own old lowest room seat key wanted .sent) ≤ 47
   unfolding requestAt accept to relay.relayBytes
-  request-within (at place) lowest seat key wanted l = omega (arith, count-one (to seat (relay.routingResponse (numberOfPlace place) wanted)))
-  request-within none none seat key wanted l = omega (arith, count-one (to seat (relay.routingResponse 0 wanted)))
-  request-within none (at place) seat key wanted l =
+  request-within true old lowest seat key wanted l = omega (arith, count-one (to seat (relay.routingResponse 0 wanted)))
+  request-within false (at place) lowest seat key wanted l = omega (arith, count-one (to seat (relay.routingResponse (numberOfPlace place) wanted)))
+  request-within false none none seat key wanted l = omega (arith, count-one (to seat (relay.routingResponse 0 wanted)))
+  request-within false none (at place) seat key wanted l =
       let told = tellBoth seat (numberOfPlace place) (peer room seat key wanted) in
       let h = both-within seat (numberOfPlace place) (peer room seat key wanted) in
       omega (arith, count-more (to seat (relay.routingResponse (numberOfPlace place) wanted)) told)
@@ -98,7 +100,7 @@ module _ (room : Room) where
   act-within : (p : client.FromClient) → Within p → (seat : ℕ) (held : Held) → length (held .key) ≤ 32 → size (act p room seat held .sent) ≤ 2035
   unfolding act accept to relay.relayBytes Within
   act-within (client.routingRequest wanted) w seat held k =
-      let h = request-within (find (routeTo wanted) (held .routes)) (find isFree (held .routes)) seat (held .key) wanted w in omega arith
+      let h = request-within (sameKey wanted (held .key)) (find (routeTo wanted) (held .routes)) (find isFree (held .routes)) seat (held .key) wanted w in omega arith
   act-within (client.dropRoute number) w seat held k = let h = drop-within (routeAt (held .routes) number) seat (held .key) number in omega arith
   act-within (client.ping n) w seat held k = omega (arith, count-one (to seat (relay.pong n)), length-bytesOf 8 n)
   act-within (client.pong n) w seat held k = none-within _

@@ -1,5 +1,6 @@
--- What each call does: document 01, "The room", sentence by sentence. An outcome is an answer, the changes that it makes to the room, and what
--- it sends. To be read for whole rooms (`Whole`): refusal 11, and 10, belong to lent memory and stand where the lent room and output do.
+-- What each call does: document 01, "The room", sentence by sentence, with document 02's "A client that asks for itself". An outcome is an answer, the changes
+-- that it makes to the room, and what it sends. To be read for whole rooms (`Whole`): refusal 11, and 10, belong to lent memory and stand where the lent room
+-- and output do.
 use mathlib.Core.Bool.{Bool, true, false}
 use mathlib.Core.List.{List, [], _∷_, _++_}
 use Prim.Native.Nat.{ℕ, _+_, _-_}
@@ -8,6 +9,7 @@ use lib.ListN.{length}
 use Rattle.refusal.specs.declared.Refusal.{Refusal}
 use Rattle.refusal.specs.declared.Refusal.the-variants.{RoomFull, AlreadySeated, NotSeated, NoSuchRoute, NotConnected}
 use Rattle.wire.specs.Numbers.{bytesOf}
+use Rattle.key.specs.Keys.{sameKey}
 use Rattle.packet_laws.specs.Read.{Read}
 use Rattle.packet_laws.specs.Read as read
 use Rattle.packet_laws.specs.FromClient as client
@@ -131,12 +133,19 @@ unfoldable pub tellBoth : ℕ → ℕ → Peer → List Sent
 tellBoth seat number alone = []
 tellBoth seat number (joined other place) = to seat (relay.connectNotice number) ∷ to other (relay.connectNotice (numberOfPlace place)) ∷ []
 
--- Request: "a key already named by this seat gets its old number again and nothing else happens. Otherwise the lowest free number is taken, or, with
--- none free, the answer is 0 and nothing changes. Then, if the two are now connected, connected is sent"
-unfoldable pub requestAt : Found → Found → Room → ℕ → Key → Key → Outcome
-requestAt (at place) lowest room seat key wanted = accept seat [] (to seat (relay.routingResponse (numberOfPlace place) wanted) ∷ [])
-requestAt none none room seat key wanted = accept seat [] (to seat (relay.routingResponse 0 wanted) ∷ [])
-requestAt none (at place) room seat key wanted =
+-- a request that is given no number: "the answer is 0 and nothing changes"
+abbrev pub answerZero : ℕ → Key → Outcome
+answerZero seat wanted = accept seat [] (to seat (relay.routingResponse 0 wanted) ∷ [])
+
+-- Request, first of a client's own key: document 02, "The answer becomes 0 and no route is taken, tested before the search for an old number." Of another's:
+-- "a key already named by this seat gets its old number again and nothing else happens. Otherwise the lowest free number is taken, or, with none free, the
+-- answer is 0 and nothing changes. Then, if the two are now connected, connected is sent". It goes by whether the key is the client's own, where it has an
+-- old number, and which is the lowest free
+unfoldable pub requestAt : Bool → Found → Found → Room → ℕ → Key → Key → Outcome
+requestAt true old lowest room seat key wanted = answerZero seat wanted
+requestAt false (at place) lowest room seat key wanted = accept seat [] (to seat (relay.routingResponse (numberOfPlace place) wanted) ∷ [])
+requestAt false none none room seat key wanted = answerZero seat wanted
+requestAt false none (at place) room seat key wanted =
     accept seat (routeGiven seat place wanted ∷ [])
     (to seat (relay.routingResponse (numberOfPlace place) wanted) ∷ tellBoth seat (numberOfPlace place) (peer room seat key wanted))
 
@@ -162,7 +171,8 @@ dataAt free room seat key bytes = refuse NoSuchRoute
 dataAt (wants wanted) room seat key bytes = carryTo (peer room seat key wanted) seat bytes
 
 unfoldable pub act : client.FromClient → Room → ℕ → Held → Outcome
-act (client.routingRequest wanted) room seat held = requestAt (find (routeTo wanted) (held .routes)) (find isFree (held .routes)) room seat (held .key) wanted
+act (client.routingRequest wanted) room seat held =
+    requestAt (sameKey wanted (held .key)) (find (routeTo wanted) (held .routes)) (find isFree (held .routes)) room seat (held .key) wanted
 act (client.dropRoute number) room seat held = dropAt (routeAt (held .routes) number) room seat (held .key) number
 -- "Ping sends the asker a pong with the same number. Pong does nothing."
 act (client.ping n) room seat held = accept seat [] (to seat (relay.pong n) ∷ [])

@@ -2,10 +2,10 @@
 //
 //     count (1) | order (one byte a place) | record 0 | record 1 | ..
 //
-// A place is used exactly when the order lists it; what is not listed is never read. So neighbours decide that all keys differ, one pass tests a
-// table, and there is no mark that could disagree with it. A room is a table of seats, and each seat has a table of routes.
+// A place is used exactly when the order lists it; what is not listed is never read. So neighbours decide that all keys differ, one pass tests
+// that, and there is no mark that could disagree with it. A room is a table of seats, and each seat has a table of routes.
 ghost use mathlib.Core.Path.{_≡_};
-ghost use Rattle.table_laws.specs.Table.{fitsTable, isTable, found, keyOfPlace, isUsed, usedPlaces, lowestFree, mayPut, putIn, freedIn, mayOverwrite, overwrittenIn};
+ghost use Rattle.table_laws.specs.Table.{fitsTable, isTable, isTableWithout, found, keyOfPlace, isUsed, usedPlaces, lowestFree, mayPut, putIn, freedIn, mayOverwrite, overwrittenIn};
 
 mod order;
 mod records;
@@ -41,6 +41,17 @@ pub fn is_whole(table: &[u8], places: usize, width: usize) -> bool
         return false;
     }
     records::all_rise(table, places, width)
+}
+
+// Whether the bytes are such a table, and no place listed has the key.
+pub fn is_whole_without(table: &[u8], places: usize, width: usize, key: Key) -> bool
+    ensures { λ r. ⌜ r ≡ isTableWithout places width (now (table .entry)) (key .0) ⌝ }
+{
+    if !fits(table, places, width) {
+        return false;
+    }
+    let bytes = key.0;
+    records::all_rise_without(table, places, width, &bytes)
 }
 
 // The place that has the key, or `places` where none has.

@@ -1,10 +1,11 @@
 // The records of a table: where each stands, how their keys compare, and the passes over those that are listed.
 ghost use mathlib.Core.Path.{_≡_};
 ghost use Prim.Native.Nat.{_+_, _<_, _≤_};
-ghost use lib.ListN.{length};
+ghost use lib.Dec.{eqb};
+ghost use lib.ListN.{length, getD};
 ghost use Rattle.key.specs.Keys.{sameKey};
 ghost use Rattle.table_laws.specs.Bytes.{keyBefore};
-ghost use Rattle.table_laws.specs.Table.{Table, Spot, count, listed, keyAt, tableWhole, findKey, position, put, refilled};
+ghost use Rattle.table_laws.specs.Table.{Table, Spot, count, listed, keyAt, tableWhole, tableWithout, findKey, position, put, refilled};
 use crate::order;
 use key::Key;
 
@@ -158,6 +159,55 @@ pub(crate) fn place_of(table: &[u8], places: usize, width: usize, key: &[u8]) ->
         i += 1;
     }
     places
+}
+
+// Whether the key of a place begins with the same byte as `key`: one that does not is another key.
+fn begins_alike(table: &[u8], places: usize, width: usize, place: usize, key: &[u8]) -> bool
+    requires { ⌜ Table places width (now table) × (place < places) × (length (now key) ≡ 32) ⌝ }
+    ensures { λ r. ⌜ r ≡ eqb (getD (keyAt places width (now (table .entry)) place) 0 0) (getD (now (key .entry)) 0 0) ⌝ }
+{
+    let at = spot(table, places, width, place);
+    table[at] == key[0]
+}
+
+// Whether the places listed are places, their keys strictly rise, and none of them is `key`. The pass compares the first byte of each key with that of `key`;
+// only where one is alike, as 1 in 256 of random keys is, is `key` searched for. It has a loop of its own beside `all_rise`, for speed: DECISIONS.md, "How is
+// that tested in lent memory?"
+pub(crate) fn all_rise_without(table: &[u8], places: usize, width: usize, key: &[u8]) -> bool
+    requires { ⌜ Table places width (now table) × (length (now key) ≡ 32) ⌝ }
+    ensures { λ r. ⌜ r ≡ tableWithout places width (now (table .entry)) (now (key .entry)) ⌝ }
+{
+    let count = table[0] as usize;
+    if places < count {
+        return false;
+    }
+    if count == 0 {
+        return true;
+    }
+    let mut last = table[1] as usize;
+    if places <= last {
+        return false;
+    }
+    let mut alike = begins_alike(table, places, width, last, key);
+    let mut i = 1;
+    while i < count {
+        let next = table[1 + i] as usize;
+        if places <= next {
+            return false;
+        }
+        if !rises(table, places, width, last, next) {
+            return false;
+        }
+        if begins_alike(table, places, width, next, key) {
+            alike = true;
+        }
+        last = next;
+        i += 1;
+    }
+    if !alike {
+        return true;
+    }
+    place_of(table, places, width, key) == places
 }
 
 // How many of the places listed, from the front, come before the key.

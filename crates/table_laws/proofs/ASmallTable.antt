@@ -8,11 +8,11 @@ use Prim.Native.Nat.{ℕ}
 use mathlib.Core.Path.{_≡_, refl}
 use mathlib.Core.Bool.{true, false}
 use mathlib.Core.List.{List, [], _∷_, _++_}
-use lib.ListN.{drop, replicate}
+use lib.ListN.{take, drop, replicate}
 use Rattle.key.specs.Keys.{sameKey}
 use Rattle.lists.specs.Find.{leading, firstOf, member}
 use Rattle.table_laws.specs.Bytes.{keyBefore}
-use Rattle.table_laws.specs.Table.{fitsTable, listed, keyAt, risingAfter, rising, tableWhole, isTable, findKey, found, keyOfPlace, isUsed, usedPlaces, lowest, lowestFree}
+use Rattle.table_laws.specs.Table.{fitsTable, listed, keyAt, risingAfter, rising, tableWhole, isTable, findKey, found, tableWithout, isTableWithout, keyOfPlace, isUsed, usedPlaces, lowest, lowestFree}
 use Rattle.table_laws.specs.Table.{entered, closed, put, mayPut, putIn, unlisted, freed, freedIn, refilled, mayOverwrite, overwrittenIn}
 
 abbrev key : ℕ → List ℕ
@@ -68,6 +68,28 @@ listed-twice = refl
 pub too-many-listed : isTable 4 33 (5 ∷ drop 1 small) ≡ false
 unfolding isTable fitsTable tableWhole
 too-many-listed = refl
+
+-- it is whole without the key 7, whose place is not listed; it is not without the key 5, the first listed, or the key 9, the last; a table that is not whole,
+-- or a byte short, is not whole without any key either
+pub without-free : isTableWithout 4 33 small (key 7) ≡ true
+unfolding isTableWithout tableWithout fitsTable tableWhole findKey listed rising risingAfter keyAt keyBefore sameKey
+without-free = refl
+
+pub without-first : isTableWithout 4 33 small (key 5) ≡ false
+unfolding isTableWithout tableWithout fitsTable tableWhole findKey listed rising risingAfter keyAt keyBefore sameKey
+without-first = refl
+
+pub without-last : isTableWithout 4 33 small (key 9) ≡ false
+unfolding isTableWithout tableWithout fitsTable tableWhole findKey listed rising risingAfter keyAt keyBefore sameKey
+without-last = refl
+
+pub without-turned-round : isTableWithout 4 33 (2 ∷ 0 ∷ 2 ∷ drop 3 small) (key 7) ≡ false
+unfolding isTableWithout tableWithout fitsTable tableWhole findKey listed rising risingAfter keyAt keyBefore sameKey
+without-turned-round = refl
+
+pub without-short : isTableWithout 4 33 (take 136 small) (key 7) ≡ false
+unfolding isTableWithout tableWithout fitsTable tableWhole findKey listed rising risingAfter keyAt keyBefore sameKey
+without-short = refl
 
 -- ---- lookups
 

@@ -43,6 +43,17 @@ module _ (p : ℕ) (f : ℕ → List ℕ) (k : List ℕ) where
   missed-has-not (n ∷ ns) b x h m d =
       missed-step n ns (sameKey (f n) k) refl (b n (rw (eq-eqb n n refl))) (missed-has-not ns (λ y i. b y (rw (i, or-true (eqb n y))))) x h (eqb n x) refl m d
 
+-- what is told is a place, or that there is none
+pub found-most : (p : ℕ) (f : ℕ → List ℕ) (k ns : List ℕ) → ((x : ℕ) → member x ns ≡ true → x < p) → findKey p f k ns ≤ p
+unfolding findKey member
+found-most p f k [] b = omega arith
+found-most p f k (n ∷ ns) b =
+    go (sameKey (f n) k) (b n (rw (eq-eqb n n refl))) (found-most p f k ns (λ x m. b x (rw (m, or-true (eqb n x)))))
+  where
+    go : (u : Bool) → n < p → findKey p f k ns ≤ p → cond u n (findKey p f k ns) ≤ p
+    go true h ih = omega arith
+    go false h ih = ih
+
 -- ---- the lowest not listed
 
 -- it is not listed

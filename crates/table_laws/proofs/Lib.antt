@@ -12,6 +12,7 @@ pub mod TableLaws
 pub mod RecordLaws
 pub mod OverwriteLaws
 pub mod NoneListed
+pub mod WithoutLaws
 pub mod PutLaws
 pub mod FoundLaws
 pub mod BytesKept

@@ -91,6 +91,16 @@ findKey p f k (n ∷ ns) = cond (sameKey (f n) k) n (findKey p f k ns)
 unfoldable pub found : ℕ → ℕ → List ℕ → List ℕ → ℕ
 found p w b k = cond (fitsTable p w b) (findKey p (keyAt p w b) k (listed p b)) p
 
+-- ---- whole without a key k: the search for it among the listed finds none
+
+unfoldable pub tableWithout : ℕ → ℕ → List ℕ → List ℕ → Bool
+tableWithout p w b k = tableWhole p w b && eqb (findKey p (keyAt p w b) k (listed p b)) p
+
+unfoldable pub isTableWithout : ℕ → ℕ → List ℕ → List ℕ → Bool
+isTableWithout p w b k = fitsTable p w b && tableWithout p w b k
+
+-- ---- places
+
 -- the key of a place, used or not; zeros where there is no such place
 unfoldable pub keyOfPlace : ℕ → ℕ → List ℕ → ℕ → List ℕ
 keyOfPlace p w b n = cond (fitsTable p w b && ltb n p) (keyAt p w b n) (replicate 32 0)

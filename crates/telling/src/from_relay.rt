@@ -1,9 +1,21 @@
 // What the relay sends, as a client reads it.
 use crate::refused;
 use crate::say;
+use packet::ConnectionNumber;
 use packet::client;
 use packet::client::ClientRead;
 use packet::client::RelayPacket;
+
+// The number that a request is answered with: 0 is no number, and no route is taken.
+fn answered(number: ConnectionNumber)
+    ensures { λ _. ⊤ₛ }
+{
+    if number.0 == 0 {
+        say::words(b"0, no route");
+    } else {
+        say::connection(number);
+    }
+}
 
 // A packet that was read: `bytes` are those it was read from.
 pub fn packet(shown: RelayPacket, bytes: &[u8])
@@ -12,7 +24,7 @@ pub fn packet(shown: RelayPacket, bytes: &[u8])
     match shown {
         RelayPacket::RoutingResponse { number, key: _ } => {
             say::words(b"routing response: ");
-            say::connection(number);
+            answered(number);
             say::words(b" for ");
             say::key(client::key(bytes, shown));
         }

@@ -23,8 +23,8 @@ pub const SIDES: [&str; 4] = [
 pub const SAME_TESTS: usize = 3;
 
 /// What the second program tests before each call: nothing, for its room is a
-/// value of its own that nobody else writes; the least that a test of lent
-/// memory does; or all that document 01 asks of lent memory, as it tests it.
+/// value of its own that nobody else writes; one pass, which is less than a test
+/// of lent memory has to do; or all that the papers ask of it, as it tests it.
 const TESTS: [fn(&[u8]) -> bool; 3] = [|_| true, pass, memory::whole];
 
 /// What a call takes, or a group of calls, of which each turn has `count`.

@@ -1,5 +1,5 @@
-//! The least that a test of a room has to do: one pass over the listed keys in
-//! which each is compared with the next.
+//! One pass over the listed keys in which each is compared with the next: less
+//! than a test of a room has to do, which also looks for a seat's own key.
 //!
 //! It compares byte by byte, as the second program does, and tests nothing
 //! else: neither sizes nor counts nor places.

@@ -29,7 +29,8 @@ pub fn table(harness: &mut Harness) -> Table {
             "The full test that every call on a room makes first, by itself. One pass: in plain \
                 Rust, byte by byte as the second program compares, each listed key of the memory \
                 is compared with the next, and nothing else is tested. Second program: its full \
-                test, in which it compares each key with all those before it.",
+                test, in which it compares each key with all those before it, and each wanted key \
+                with the seat's own.",
         rows_are: "room",
         sides: &["library", "one pass", "second program"],
         same_tests: OWN_TEST,

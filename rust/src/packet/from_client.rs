@@ -26,7 +26,9 @@ use crate::{ConnectionNumber, Key, Refusal};
 /// ```
 #[derive(Debug, Clone, Copy, PartialEq, Eq)]
 pub enum FromClient<'a> {
-    /// Kind 0: asks for a route to the client that holds a key.
+    /// Kind 0: asks for a route to the client that holds a key. A client that
+    /// asks for its own key is answered with [`ConnectionNumber::NONE`] and gets
+    /// no route.
     RoutingRequest {
         /// The wanted key.
         key: Key,

@@ -27,7 +27,8 @@ use crate::{ConnectionNumber, Key, Refusal};
 pub enum FromRelay<'a> {
     /// Kind 1: the answer to a routing request.
     RoutingResponse {
-        /// The number of the route, or [`ConnectionNumber::NONE`].
+        /// The number of the route, or [`ConnectionNumber::NONE`]: the client
+        /// had no number free, or asked for its own key.
         number: ConnectionNumber,
         /// The key that was asked for.
         key: Key,

@@ -11,6 +11,7 @@ mod memory;
 mod nearest;
 mod nodes;
 mod output;
+mod own_key;
 mod owned_frames;
 mod owned_lists;
 mod owned_plays;

@@ -11,6 +11,7 @@ use crate::output::Output;
 use crate::tally::say;
 use banavoge::raw;
 use reference::generate::Generator as Histories;
+use reference::key::Key;
 use reference::memory;
 use reference::room::{Room, BASE};
 
@@ -31,7 +32,7 @@ const ROOMS: usize = 1_500;
 
 /// A table in memory: where it stands, its places and the width of a record.
 #[derive(Clone, Copy)]
-struct Table {
+pub struct Table {
     start: usize,
     places: usize,
     width: usize,
@@ -43,7 +44,7 @@ const TABLE_OF_SEATS: Table = Table {
     width: SEAT_BYTES,
 };
 
-fn table_of_routes(seat: usize) -> Table {
+pub fn table_of_routes(seat: usize) -> Table {
     Table {
         start: TABLE_OF_SEATS.record(seat) + ROUTES_IN_SEAT,
         places: NUMBERS,
@@ -64,10 +65,38 @@ impl Table {
         usize::from(memory[self.start])
     }
 
+    /// The key with which the record of a place begins.
+    fn key(self, memory: &[u8], place: usize) -> Key {
+        let key = &memory[self.record(place)..][..KEY];
+        key.try_into().expect("32 bytes")
+    }
+
     /// The places that the table lists, in its order.
     fn listed(self, memory: &[u8]) -> Vec<usize> {
         let order = &memory[self.order()..][..self.count(memory)];
         order.iter().map(|place| usize::from(*place)).collect()
+    }
+
+    /// Lists a key at a place, where the order has it and nowhere else: what the
+    /// place had before is gone.
+    fn list(self, memory: &mut [u8], place: usize, key: &Key) {
+        let mut listed = self.listed(memory);
+        listed.retain(|other| *other != place && self.key(memory, *other) != *key);
+        let lower = listed.partition_point(|other| self.key(memory, *other) < *key);
+        listed.insert(lower, place);
+        memory[self.record(place)..][..KEY].copy_from_slice(key);
+        memory[self.start] = listed.len() as u8;
+        for (at, place) in listed.into_iter().enumerate() {
+            memory[self.order() + at] = place as u8;
+        }
+    }
+
+    /// Puts a key in the record of a place that is not listed, and that place
+    /// behind the count of the order: the count alone keeps it out.
+    pub fn hide(self, memory: &mut [u8], place: usize, key: &Key) {
+        let count = self.count(memory);
+        memory[self.record(place)..][..KEY].copy_from_slice(key);
+        memory[self.order() + count] = place as u8;
     }
 
     /// Fills the order behind the count and the records that are not listed.
@@ -108,6 +137,9 @@ pub enum Damage {
     CountOneLess(Of),
     ByteOfKey(Of),
     LastByteOfKey(Of),
+    OwnKeyNamed,
+    OwnKeyNotListed,
+    KeyOfAnotherNamed,
     BitAnywhere,
     BitInUse,
     RandomAllOver,
@@ -123,7 +155,7 @@ pub enum Of {
 use Damage::*;
 use Of::*;
 
-pub const DAMAGES: [Damage; 26] = [
+pub const DAMAGES: [Damage; 29] = [
     Sound,
     FirstHeaderByte,
     SecondHeaderByte,
@@ -146,28 +178,32 @@ pub const DAMAGES: [Damage; 26] = [
     ByteOfKey(Routes),
     LastByteOfKey(Seats),
     LastByteOfKey(Routes),
+    OwnKeyNamed,
+    OwnKeyNotListed,
+    KeyOfAnotherNamed,
     BitAnywhere,
     BitInUse,
     RandomAllOver,
     RandomBehindHeader,
 ];
 
+/// A listed seat, if the room has one: of some the one with most routes, so
+/// that full tables come up too.
+fn listed_seat(memory: &[u8], random: &mut Generator) -> Option<usize> {
+    let seats = TABLE_OF_SEATS.listed(memory);
+    let some: Vec<usize> = (0..3.min(seats.len()))
+        .map(|_| random.pick(&seats))
+        .collect();
+    some.into_iter()
+        .max_by_key(|seat| table_of_routes(*seat).count(memory))
+}
+
 /// The table that a damage is done to: of the routes, that of a listed seat,
 /// if the room has one.
 fn table(of: Of, memory: &[u8], random: &mut Generator) -> Option<Table> {
     match of {
         Seats => Some(TABLE_OF_SEATS),
-        Routes => {
-            let seats = TABLE_OF_SEATS.listed(memory);
-            // Of some seats the one with most routes, so that full tables
-            // come up too.
-            let some: Vec<usize> = (0..3.min(seats.len()))
-                .map(|_| random.pick(&seats))
-                .collect();
-            some.into_iter()
-                .map(table_of_routes)
-                .max_by_key(|routes| routes.count(memory))
-        }
+        Routes => listed_seat(memory, random).map(table_of_routes),
     }
 }
 
@@ -181,6 +217,10 @@ pub fn damage(kind: Damage, memory: &mut Vec<u8>, random: &mut Generator) -> boo
             memory.truncate(ROOM_BYTES - 1);
             true
         }
+        OwnKeyNamed | OwnKeyNotListed | KeyOfAnotherNamed => match listed_seat(memory, random) {
+            Some(seat) => damage_names(kind, seat, memory, random),
+            None => false,
+        },
         BitAnywhere => {
             let place = random.below(ROOM_BYTES);
             memory[place] ^= 1 << random.below(8);
@@ -309,6 +349,40 @@ fn damage_table(kind: Damage, table: Table, memory: &mut [u8], random: &mut Gene
     }
 }
 
+/// Puts a seat's key among the wanted keys of a seat. Each table keeps its own
+/// rules, so that only whose key it is, and whether it is listed, decides.
+fn damage_names(kind: Damage, seat: usize, memory: &mut [u8], random: &mut Generator) -> bool {
+    let routes = table_of_routes(seat);
+    let own = TABLE_OF_SEATS.key(memory, seat);
+    match kind {
+        OwnKeyNamed => {
+            routes.list(memory, random.below(NUMBERS), &own);
+            true
+        }
+        OwnKeyNotListed => {
+            let listed = routes.listed(memory);
+            let mut free: Vec<usize> = (0..NUMBERS).collect();
+            free.retain(|place| !listed.contains(place));
+            if free.is_empty() {
+                return false;
+            }
+            routes.hide(memory, random.pick(&free), &own);
+            true
+        }
+        KeyOfAnotherNamed => {
+            let mut others = TABLE_OF_SEATS.listed(memory);
+            others.retain(|other| *other != seat);
+            if others.is_empty() {
+                return false;
+            }
+            let another = TABLE_OF_SEATS.key(memory, random.pick(&others));
+            routes.list(memory, random.below(NUMBERS), &another);
+            true
+        }
+        _ => unreachable!("no damage of the names"),
+    }
+}
+
 /// Two different numbers below a bound.
 fn two_of(bound: usize, random: &mut Generator) -> (usize, usize) {
     let first = random.below(bound);
@@ -346,31 +420,34 @@ struct Met {
 /// Whether a damage leaves a room that is whole always, never or sometimes.
 fn outcomes(kind: Damage) -> (bool, bool) {
     match kind {
-        Sound | CountOneLess(_) => (true, false),
+        Sound | CountOneLess(_) | OwnKeyNotListed | KeyOfAnotherNamed => (true, false),
         FirstHeaderByte | SecondHeaderByte | OneByteShort | KeyTwice(_) | NeighboursSwapped(_)
-        | PlaceTwice(_) | PlaceOutOfRange(_) | CountAboveLimit(_) | RandomAllOver => (false, true),
+        | PlaceTwice(_) | PlaceOutOfRange(_) | CountAboveLimit(_) | OwnKeyNamed | RandomAllOver => {
+            (false, true)
+        }
         CountOneMore(_) | ByteOfKey(_) | LastByteOfKey(_) | BitAnywhere | BitInUse
         | RandomBehindHeader => (true, true),
     }
 }
 
-fn answer_for(memory: &[u8]) -> i32 {
-    if memory::whole(memory) {
-        0
-    } else {
-        -11
-    }
-}
-
-/// A room is made from just the memory that holds one, and has its bytes.
-fn compare_from_bytes(memory: &[u8], expected: i32) {
+/// Tests memory by both, and fails where they differ or a byte was changed. A
+/// room is made from just the memory that holds one, and has its bytes. Answers
+/// whether it is whole.
+pub fn test_by_both(memory: &[u8], told: &str) -> bool {
+    let whole = memory::whole(memory);
+    let expected = if whole { 0 } else { -11 };
+    let mut lent = Output::holding(memory, 0x66);
+    let before = lent.clone();
+    assert_eq!(raw::room::check(lent.lent()), expected, "{told}");
+    assert!(lent == before, "{told}: the memory was changed");
     match banavoge::Room::from_bytes(memory) {
         Ok(room) => {
-            assert_eq!(expected, 0);
-            assert!(room.as_bytes() == &memory[..ROOM_BYTES]);
+            assert!(whole, "{told}");
+            assert!(room.as_bytes() == &memory[..ROOM_BYTES], "{told}");
         }
-        Err(refusal) => assert_eq!(-i32::from(refusal.number()), expected),
+        Err(refusal) => assert_eq!(-i32::from(refusal.number()), expected, "{told}"),
     }
+    whole
 }
 
 #[test]
@@ -399,13 +476,9 @@ fn the_test_of_a_room_is_the_second_programs() {
             if !damage(*kind, &mut memory, &mut random) {
                 continue;
             }
-            let expected = answer_for(&memory);
-            let found = raw::room::check(&memory);
-            assert_eq!(found, expected, "{kind:?} of room {made}");
-            compare_from_bytes(&memory, expected);
-            match expected {
-                0 => met.whole += 1,
-                _ => met.not_whole += 1,
+            match test_by_both(&memory, &format!("{kind:?} of room {made}")) {
+                true => met.whole += 1,
+                false => met.not_whole += 1,
             }
             checks += 1;
         }

@@ -5,6 +5,8 @@
 //! around: the records and behind them the old bytes; after a refusal the old
 //! bytes alone. The memory must hold the second program's room.
 
+use crate::generator::Generator;
+use crate::memory::{damage, Damage};
 use crate::output::Output;
 use crate::tally::say;
 use banavoge::raw;
@@ -39,12 +41,23 @@ pub fn make(call: &Call, memory: &mut [u8], out: &mut [u8]) -> i32 {
 }
 
 /// The answer of the library for what the second program answers.
-fn code(call: &Call, answer: &Result<Accepted, Refusal>) -> i32 {
+pub fn code(call: &Call, answer: &Result<Accepted, Refusal>) -> i32 {
     match (call, answer) {
         (_, Err(number)) => -i32::from(*number),
         (Call::Arrive { .. }, Ok(accepted)) => accepted.seat as i32,
         (_, Ok(accepted)) => record::bytes(&accepted.records).len() as i32,
     }
+}
+
+/// An output after a call that was answered so: the records, and behind them the
+/// old bytes.
+pub fn written(before: &Output, answer: &Result<Accepted, Refusal>) -> Output {
+    let mut after = before.clone();
+    if let Ok(accepted) = answer {
+        let sent = record::bytes(&accepted.records);
+        after.lent()[..sent.len()].copy_from_slice(&sent);
+    }
+    after
 }
 
 /// A new empty room, in memory filled with a pattern.
@@ -82,18 +95,15 @@ fn every_call_of_made_up_histories_is_the_second_programs() {
             let told = || format!("call {place} of history {history}: {call:?}");
             let before = room.clone();
             let mut out = Output::new(OUTPUTS[place % OUTPUTS.len()], place as u8);
-            let mut expected = out.clone();
+            let out_before = out.clone();
             let found = make(&call, room.lent(), out.lent());
             let answer = met.make(&call);
             assert_eq!(found, code(&call, &answer), "{}", told());
             match &answer {
-                Ok(accepted) => {
-                    let sent = record::bytes(&accepted.records);
-                    longest = longest.max(sent.len());
-                    expected.lent()[..sent.len()].copy_from_slice(&sent);
-                }
+                Ok(accepted) => longest = longest.max(record::bytes(&accepted.records).len()),
                 Err(_) => assert!(room == before, "{}: the memory was changed", told()),
             }
+            let expected = written(&out_before, &answer);
             assert!(
                 out == expected,
                 "{}: the output differs first at {}",
@@ -127,8 +137,10 @@ fn every_call_of_made_up_histories_is_the_second_programs() {
 /// Refusals 10 and 11 come before all others, and leave every byte.
 #[test]
 fn short_outputs_and_damaged_rooms_are_refused() {
+    let mut random = Generator::new(23);
     let mut tens = 0;
     let mut elevens = 0;
+    let mut own_keys = 0;
     for history in 0..20 {
         let mut histories = Histories::new(7_000 + history, BASE);
         let mut room = empty_room(history as u8);
@@ -143,6 +155,9 @@ fn short_outputs_and_damaged_rooms_are_refused() {
         above.lent()[SEATS_COUNT] = 41 + history as u8;
         let mut swapped = room.clone();
         swapped.lent().swap(SEATS_ORDER, SEATS_ORDER + 1);
+        let mut itself = room.lent().to_vec();
+        let names_itself = damage(Damage::OwnKeyNamed, &mut itself, &mut random);
+        let itself = Output::holding(&itself, history as u8);
         for call in histories.take(200) {
             let arrives = matches!(call, Call::Arrive { .. });
             let shortest = if arrives { 0 } else { LEAST_OUTPUT };
@@ -162,10 +177,16 @@ fn short_outputs_and_damaged_rooms_are_refused() {
                 refused(&call, &swapped, length, shortest, 11);
                 elevens += 1;
             }
+            if names_itself {
+                refused(&call, &itself, length, shortest, 11);
+                elevens += 1;
+                own_keys += 1;
+            }
         }
     }
     say(&format!(
-        "calls of the relay refused: refusal 10: {tens}, refusal 11: {elevens}\n"
+        "calls of the relay refused: refusal 10: {tens}, refusal 11: {elevens}, \
+         of these for a seat that names its own key: {own_keys}\n"
     ));
-    assert!(tens >= 1_000 && elevens >= 1_000);
+    assert!(tens >= 1_000 && elevens >= 1_000 && own_keys >= 1_000);
 }

@@ -67,7 +67,8 @@ fn histories() -> Vec<(Both, History)> {
     let mut histories = vec![(Both::empty(3), every_form())];
     for fill in FILLS {
         for length in [1, 2, 3, 5, 8, 13, 40] {
-            let mut course = Course::to(fill, 24_000 + length as u64);
+            // With these seeds the runs meet each of the refusals 1 to 9.
+            let mut course = Course::to(fill, 24_300 + length as u64);
             let history = course.next(length);
             histories.push((course.both, history));
         }

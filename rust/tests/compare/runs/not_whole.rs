@@ -5,8 +5,9 @@ use super::counts::Counts;
 use super::history::History;
 use super::lent::Lent;
 use crate::generator::Generator;
-use crate::memory::{damage, memory_of, DAMAGES};
+use crate::memory::{damage, memory_of, Damage, DAMAGES};
 use crate::output::Output;
+use crate::own_key;
 use crate::tally::say;
 use banavoge::raw;
 use reference::call::Call;
@@ -68,13 +69,32 @@ fn played(memory: &[u8], room: &Room, lent: Lent) -> Played {
     both.play(lent)
 }
 
-/// Each memory is refused, or it holds a room and the second program plays on
-/// that too. Bytes that are no part of the room are random.
+/// Plays these calls on memory, and with each ground to stop at once. Each run
+/// is refused, or the memory holds a room and the second program plays on that
+/// too. Answers how many were refused.
+fn play_each(memory: &[u8], name: String, calls: Vec<Call>, counts: &mut Counts) -> usize {
+    let held = memory::decode(memory);
+    let empty = Room::empty(BASE);
+    let history = History::new(name, calls, held.as_ref().unwrap_or(&empty));
+    let mut refusals = 0;
+    for lent in lents(&history) {
+        match &held {
+            Some(held) => counts.add(&played(memory, held, lent)),
+            None => {
+                refused(memory, lent);
+                refusals += 1;
+            }
+        }
+    }
+    refusals
+}
+
+/// Bytes that are no part of the room are random.
 #[test]
 fn runs_on_damaged_memory_are_refused_or_the_second_programs() {
     let mut random = Generator::new(45);
     let mut counts = Counts::new();
-    let mut refusals = 0;
+    let (mut refusals, mut own_keys) = (0, 0);
     let mut histories = Histories::new(28_000, BASE);
     for made in 0..ROOMS {
         let room = histories.room().clone();
@@ -86,24 +106,42 @@ fn runs_on_damaged_memory_are_refused_or_the_second_programs() {
                 continue;
             }
             let name = format!("{kind:?} of room {made}");
-            let held = memory::decode(&memory);
-            let history = History::new(name, calls.clone(), held.as_ref().unwrap_or(&room));
-            for lent in lents(&history) {
-                match &held {
-                    Some(held) => counts.add(&played(&memory, held, lent)),
-                    None => {
-                        refused(&memory, lent);
-                        refusals += 1;
-                    }
-                }
+            let refused = play_each(&memory, name, calls.clone(), &mut counts);
+            refusals += refused;
+            if matches!(kind, Damage::OwnKeyNamed) {
+                own_keys += refused;
             }
         }
     }
     counts.say("on damaged memory that holds a room");
-    say(&format!("runs on damaged memory, refusal 11: {refusals}\n"));
+    say(&format!(
+        "runs on damaged memory, refusal 11: {refusals}, \
+         of these for a seat that names its own key: {own_keys}\n"
+    ));
     counts.demand(500, &[Why::End, Why::NoCall, Why::Allowance, Why::Output]);
     counts.demand_refusals();
     assert!(refusals >= 1_000, "only {refusals} refused");
+    assert!(own_keys >= 100, "only {own_keys} refused for an own key");
+}
+
+/// A seat that names its own key, and the rooms that differ from that alone.
+#[test]
+fn runs_on_rooms_where_a_seat_names_its_own_key_are_refused() {
+    let mut counts = Counts::new();
+    let mut refusals = 0;
+    for case in own_key::cases() {
+        let (memory, name) = (case.memory(), format!("{case:?}"));
+        let refused = play_each(&memory, name, case.calls(), &mut counts);
+        assert_eq!(refused > 0, !case.is_whole(), "{case:?}");
+        refusals += refused;
+    }
+    counts.say("beside a room where a seat names its own key");
+    say(&format!(
+        "runs on rooms where a seat names its own key, refusal 11: {refusals}\n"
+    ));
+    counts.demand(500, &[Why::End, Why::NoCall, Why::Allowance, Why::Output]);
+    counts.demand_refusals();
+    assert!(refusals >= 100, "only {refusals} refused");
 }
 
 #[test]

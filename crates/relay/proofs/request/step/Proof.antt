@@ -1,13 +1,32 @@
--- `request::step` meets its contract: the two lookups decide as the rules do. Assumes nothing.
+-- `request::step` meets its contract: the comparison with the client's own key, and then the two lookups, decide as the rules do. Assumes nothing.
 use borrow.Author.Needs.{needs}
 use native.Mathlib.Omega.{arith}
 use Rattle.room_laws.specs.Lookup.{routeWanting, lowestRoute}
-use Rattle.records.specs.Output.{none, given}
+use Rattle.records.specs.Output.{given}
 use Rattle.records.proofs.Fits.{response-fits}
 use Rattle.relay_laws.specs.Calls.{answerOf}
-use Rattle.relay.proofs.RequestCases.{request-old, request-full, request-given, number-right}
+use Rattle.relay.proofs.RequestCases.{request-own, request-old, request-full, request-given, number-right}
 use Rattle.relay.proofs.request.step.Statement.{statement}
 use Rattle.relay.proofs.request.step.Tie as tie
+
+equals-requires : tie.Need-equals-requires
+equals-requires c κs = search needs
+
+answer-zero-requires : tie.Need-answer-zero-requires
+answer-zero-requires c κs = search needs
+
+same-length : tie.Need-same-length
+same-length c = search needs
+
+returns : tie.Need-returns
+unfolding answerOf
+returns c =
+    let s = c .before .before .before .before .before .before .before .before in
+    let a = s .args in
+    let same = c .before .before .before .before .before .equals in
+    let w = c .before .before .answer-zero in
+    request-own (a .seats) (a .numbers) (a .memory .now) (a .seat .0) (a .key .0) (a .wanted .0) (same .result) (same .ensures) (c .before .before .before .before .if1 .taken)
+    (a .out .now) (answerOf (w .result)) (w .last .0) (w .ensures)
 
 number-of-requires : tie.Need-number-of-requires
 number-of-requires c κs = search needs
@@ -18,23 +37,24 @@ enum-known-old c = search needs
 response-requires : tie.Need-response-requires
 response-requires c κs = search needs
 
-same-length : tie.Need-same-length
-same-length c = search needs
-
 same-length-2 : tie.Need-same-length-2
 same-length-2 c = search needs
 
-returns : tie.Need-returns
+same-length-3 : tie.Need-same-length-3
+same-length-3 c = search needs
+
+returns-2 : tie.Need-returns-2
 unfolding answerOf
-returns c =
-    let s = c .before .before .before .before .before .before .before .before .before .before .before in
+returns-2 c =
+    let s = c .before .before .before .before .before .before .before .before .before .before .before .before .before in
     let a = s .args in
+    let same = c .before .before .before .before .before .before .before .before .before .before .equals in
     let look = c .before .before .before .before .before .before .before .number-of in
     let old = c .before .before .before .before .before .old .given in
     let w = c .before .before .response in
     let right = number-right (routeWanting (a .seats) (a .numbers) (a .memory .now) (a .seat .0) (a .wanted .0)) (look .result) (look .ensures) (old .0 .0) (old .1) in
     request-old (a .seats) (a .numbers) (a .memory .now) (a .seat .0) (a .key .0) (a .wanted .0) (s .pre .0) (s .pre .1)
-    (a .out .now) (w .result) (w .last .0) (look .result) (look .ensures) (old .0 .0) (old .1)
+    (same .result) (same .ensures) (c .before .before .before .before .before .before .before .before .before .if1 .left) (a .out .now) (w .last .0) (look .result) (look .ensures) (w .result) (old .0 .0) (old .1)
     (response-fits (old .0 .0 .0) (a .wanted .0) (given (old .0 .0 .0) right) (omega arith) (w .ensures))
 
 enum-told : tie.Need-enum-told
@@ -49,73 +69,79 @@ enum-known-number c = search needs
 enum-told-2 : tie.Need-enum-told-2
 enum-told-2 c = search needs
 
-response-requires-2 : tie.Need-response-requires-2
-response-requires-2 c κs = search needs
-
-same-length-3 : tie.Need-same-length-3
-same-length-3 c = search needs
+answer-zero-requires-2 : tie.Need-answer-zero-requires-2
+answer-zero-requires-2 c κs = search needs
 
 same-length-4 : tie.Need-same-length-4
 same-length-4 c = search needs
 
-returns-2 : tie.Need-returns-2
+same-length-5 : tie.Need-same-length-5
+same-length-5 c = search needs
+
+returns-3 : tie.Need-returns-3
 unfolding answerOf
-returns-2 c =
-    let s = c .before .before .before .before .before .before .before .before .before .before .before .before .before .before in
+returns-3 c =
+    let s = c .before .before .before .before .before .before .before .before .before .before .before .before .before .before .before .before in
     let a = s .args in
+    let same = c .before .before .before .before .before .before .before .before .before .before .before .before .before .equals in
     let look = c .before .before .before .before .before .before .before .before .before .before .number-of in
     let look-free = c .before .before .before .before .before .before .lowest-free in
-    let w = c .before .before .response2 in
+    let w = c .before .before .answer-zero2 in
     request-full (a .seats) (a .numbers) (a .memory .now) (a .seat .0) (a .key .0) (a .wanted .0) (s .pre .0) (s .pre .1)
-    (a .out .now) (w .result) (w .last .0) (look .result) (look .ensures) (c .before .before .before .before .before .before .before .before .enum-told .given .1)
-    (look-free .result) (look-free .ensures) (c .before .before .before .before .enum-told2 .given .1) (response-fits 0 (a .wanted .0) none (omega arith) (w .ensures))
+    (same .result) (same .ensures) (c .before .before .before .before .before .before .before .before .before .before .before .before .if1 .left) (a .out .now) (w .last .0) (look .result) (look .ensures) (c .before .before .before .before .before .before .before .before .enum-told .given .1)
+    (look-free .result) (look-free .ensures) (c .before .before .before .before .enum-told2 .given .1) (answerOf (w .result)) (w .ensures)
 
 give-requires : tie.Need-give-requires
 give-requires c κs =
-    let s = c .before .before .before .before .before .before .before .before .before .before .before .before .before in
+    let s = c .before .before .before .before .before .before .before .before .before .before .before .before .before .before .before in
     let a = s .args in
     let look = c .before .before .before .before .before .lowest-free in
     let number = c .before .before .before .number .given in
     (s .pre .0, s .pre .2, number-right (lowestRoute (a .seats) (a .numbers) (a .memory .now) (a .seat .0)) (look .result) (look .ensures) (number .0 .0) (number .1))
 
-same-length-5 : tie.Need-same-length-5
-same-length-5 c = search needs
-
 same-length-6 : tie.Need-same-length-6
 same-length-6 c = search needs
 
-returns-3 : tie.Need-returns-3
+same-length-7 : tie.Need-same-length-7
+same-length-7 c = search needs
+
+returns-4 : tie.Need-returns-4
 unfolding answerOf
-returns-3 c =
-    let s = c .before .before .before .before .before .before .before .before .before .before .before .before .before .before .before .before .before .before in
+returns-4 c =
+    let s = c .before .before .before .before .before .before .before .before .before .before .before .before .before .before .before .before .before .before .before .before in
     let a = s .args in
+    let same = c .before .before .before .before .before .before .before .before .before .before .before .before .before .before .before .before .before .equals in
     let look = c .before .before .before .before .before .before .before .before .before .before .before .before .before .before .number-of in
     let look-free = c .before .before .before .before .before .before .before .before .before .before .lowest-free in
     let number = c .before .before .before .before .before .before .before .before .number .given in
     let g = c .before .before .before .before .give in
     request-given (a .seats) (a .numbers) (a .memory .now) (a .seat .0) (a .key .0) (a .wanted .0) (s .pre .0) (s .pre .1)
-    (a .out .now) (g .result) (g .last .1 .1 .1 .1 .1 .1 .1 .0) (look .result) (look .ensures) (c .before .before .before .before .before .before .before .before .before .before .before .before .enum-told .given .1)
-    (look-free .result) (look-free .ensures) (number .0 .0) (number .1) (g .last .0) (g .ensures)
+    (same .result) (same .ensures) (c .before .before .before .before .before .before .before .before .before .before .before .before .before .before .before .before .if1 .left) (a .out .now) (g .last .1 .1 .1 .1 .1 .1 .1 .0) (look .result) (look .ensures)
+    (c .before .before .before .before .before .before .before .before .before .before .before .before .enum-told .given .1) (look-free .result) (look-free .ensures) (g .result) (number .0 .0) (number .1) (g .last .0) (g .ensures)
 
 pub step-spec : {M : Type 1} → statement M
 step-spec =
     tie.close
     (tie.spec
+    equals-requires
+    answer-zero-requires
+    same-length
+    returns
     number-of-requires
     enum-known-old
     response-requires
-    same-length
     same-length-2
-    returns
+    same-length-3
+    returns-2
     enum-told
     lowest-free-requires
     enum-known-number
     enum-told-2
-    response-requires-2
-    same-length-3
+    answer-zero-requires-2
     same-length-4
-    returns-2
-    give-requires
     same-length-5
+    returns-3
+    give-requires
     same-length-6
-    returns-3)
+    same-length-7
+    returns-4)
