@@ -14,7 +14,7 @@ use lib.ListN.{getD}
 use Rattle.refusal.specs.declared.Refusal.{Refusal}
 use Rattle.refusal.specs.declared.Refusal.the-variants.{NotSeated}
 use Rattle.key.specs.Keys.{sameKey}
-use Rattle.key.proofs.Same.{same-refl, same-sound}
+use Rattle.key.proofs.Same.{same-refl, same-sound, same-apart}
 use Rattle.packet_laws.specs.Read as read
 use Rattle.packet_laws.specs.FromClient as client
 use Rattle.packet_laws.specs.FromRelay as relay
@@ -148,9 +148,8 @@ module _ (sizes : Sizes) (start : Start) (past : Past) (room : Room) (whole : Wh
         let b : _≡_ {A = List ℕ} (1 ∷ n ∷ wanted) (1 ∷ m ∷ wanted) = ap (λ (r : Sent). r .bytes) s in
         cc
 
-    -- a test that fails tells two keys apart
-    apart : sameKey wanted (held .key) ≡ false → wanted ≢ held .key
-    apart o q = true≢false (sym (ap (λ (k : Key). sameKey k (held .key)) q ∙ same-refl (held .key)) ∙ o)
+    abbrev apart : sameKey wanted (held .key) ≡ false → wanted ≢ held .key
+    apart = same-apart wanted (held .key)
 
     request-found : (own : Bool) (old lowest : Found) → sameKey wanted (held .key) ≡ own → find (routeTo wanted) (held .routes) ≡ old → find isFree (held .routes) ≡ lowest
         → (number : ℕ) (later : List Sent) → requestAt own old lowest room seat (held .key) wanted .sent ≡ to seat (relay.routingResponse number wanted) ∷ later → Numbered sizes start past (held .key) wanted number

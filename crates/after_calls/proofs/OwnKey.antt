@@ -14,11 +14,11 @@ use Rattle.packet_laws.specs.FromRelay as relay
 use Rattle.rules.specs.Room.{Sizes, Key, Held, vacant, holds, setKey, Room, Found, none, at, find, seatOf, routeTo, seatAt, routeAt}
 use Rattle.rules.specs.Whole.{Whole}
 use Rattle.rules.specs.Call.{Call, packetCall, Sent}
-use Rattle.rules.specs.Outcome.{answerZero, accept, to, applyAll, roomAfter, requestAt, act, actOn, packetFrom, outcome}
+use Rattle.rules.specs.Outcome.{answerOnly, accept, to, applyAll, roomAfter, requestAt, act, actOn, packetFrom, outcome}
 use Rattle.rules.specs.History.{Event, event, happens}
 use Rattle.rules.specs.Transcript.{Past, clientOf, Start, fromEmpty, sitsAfter, sitter, stands}
 use Rattle.rules.specs.After.{pastAfter, routesIn, routesBy, Tied}
-use Rattle.after_calls.specs.Given.{Numbered, ownKey, oldNumber, noneFree, lowestFree}
+use Rattle.after_calls.specs.Given.{NoneFree, Numbered, ownKey, oldNumber, noneFree, lowestFree}
 use Rattle.after_calls.specs.OwnKey.{NoneForItself, ZeroGround, itsOwn, tableFull, OwnKey}
 use Rattle.rules.proofs.FindLaws.{find-hit, routes-held, seat-of-holds, route-to-wants, route-none, heldOf}
 use Rattle.rules.proofs.Tied.{tied-after, seat-holds}
@@ -29,21 +29,22 @@ use Rattle.after_calls.proofs.OneSeat.{tied-none-under-zero}
 -- ---- the grounds for 0
 
 module _ (sizes : Sizes) (start : Start) (past : Past) (key wanted : Key) (noZero : stands start past key 0 wanted ≡ false) where
-  -- there is none where another's key has an old number, or gets the lowest that is free
-  old-no-ground : (number : ℕ) → wanted ≢ key → stands start past key number wanted ≡ true → ZeroGround sizes start past key wanted → number ≡ 0
-  old-no-ground number other t (itsOwn e) = absurd (other e)
-  old-no-ground number other t (tableFull f) = absurd (true≢false (sym t ∙ f .notAsked number))
+  -- of another's key a full table is the only one
+  only-full : {A : Type 0} → wanted ≢ key → (NoneFree sizes start past key wanted → ⊥) → ZeroGround sizes start past key wanted → A
+  only-full other notFull (itsOwn e) = absurd (other e)
+  only-full other notFull (tableFull f) = absurd (notFull f)
 
   numbered-zero : (number : ℕ) → Numbered sizes start past key wanted number → (number ≡ 0) ↔ ZeroGround sizes start past key wanted
   numbered-zero number (ownKey e z) = (λ q. itsOwn e, λ q. z)
-  numbered-zero number (oldNumber other t) =
-      (λ z. absurd (true≢false (sym t ∙ ap (λ (n : ℕ). stands start past key n wanted) z ∙ noZero)), old-no-ground number other t)
+  numbered-zero number (oldNumber other t) = (
+    λ z. absurd (true≢false (sym t ∙ ap (λ (n : ℕ). stands start past key n wanted) z ∙ noZero)),
+    only-full other (λ f. true≢false (sym t ∙ f .notAsked number)),
+  )
   numbered-zero number (noneFree other f z) = (λ q. tableFull f, λ q. z)
-  numbered-zero number (lowestFree other place new within isFree lower e) = (λ z. absurd (omega arith), free-no-ground)
-    where
-      free-no-ground : ZeroGround sizes start past key wanted → number ≡ 0
-      free-no-ground (itsOwn e) = absurd (other e)
-      free-no-ground (tableFull f) = let k = f .full place within in absurd (true≢false (sym (k .asked) ∙ isFree (k .wanted)))
+  numbered-zero number (lowestFree other place new within isFree lower e) = (
+    λ z. absurd (omega arith),
+    only-full other (λ f. let k = f .full place within in true≢false (sym (k .asked) ∙ isFree (k .wanted))),
+  )
 
 module _ (sizes : Sizes) (start : Start) (past : Past) (room : Room) (whole : Whole sizes room) (tie : Tied start past room) where
   -- ---- nothing stands from a key for itself: where the client sits, no route names its key
@@ -77,7 +78,7 @@ module _ (sizes : Sizes) (start : Start) (past : Past) (room : Room) (whole : Wh
 
     -- for its own key
     module _ (bytes : List ℕ) (asks : client.relayRead bytes ≡ read.packet (client.routingRequest key)) where
-      pub own-outcome : outcome room (packetCall seat bytes) ≡ answerZero seat key
+      pub own-outcome : outcome room (packetCall seat bytes) ≡ answerOnly seat 0 key
       unfolding outcome packetFrom actOn act requestAt
       own-outcome = rw (holder, asks, same-refl key)
 

@@ -123,25 +123,25 @@ module _ {s n : ℕ} where
   not-whole-answer : {before after : HostMemory} {answer : ℤ} (c : Exported s n before answer after) → TestsRoom c → roomWhole s n (before .room) ≡ false
       → answer ≡ refusalCode RoomNotWhole
   unfolding doneOr seatCode countCode runTold runCode playing
-  not-whole-answer (empties c) first bad = absurd first
-  not-whole-answer (checks e) first bad = e ∙ rw bad
-  not-whole-answer (arrives {b = b} {b′ = b′} {answer = answer} key c) first bad =
+  not-whole-answer (empties c) tests bad = absurd tests
+  not-whole-answer (checks e) tests bad = e ∙ rw bad
+  not-whole-answer (arrives {b = b} {b′ = b′} {answer = answer} key c) tests bad =
       not-whole-code s n b [] (arrive key) (omega arith) bad seatCode refl b′ [] (c .given) answer (c .relates .leaves) (c .codes)
-  not-whole-answer (departs {b = b} {out = out} {b′ = b′} {out′ = out′} {answer = answer} seat c) first bad =
-      not-whole-code s n b out (leave seat) first bad countCode refl b′ out′ (c .given) answer (c .relates) (c .codes)
-  not-whole-answer (sends {b = b} {out = out} {b′ = b′} {out′ = out′} {answer = answer} seat bytes c) first bad =
-      not-whole-code s n b out (packetCall seat bytes) first bad countCode refl b′ out′ (c .given) answer (c .relates) (c .codes)
-  not-whole-answer (plays {before = before} allowance stored c) first bad =
+  not-whole-answer (departs {b = b} {out = out} {b′ = b′} {out′ = out′} {answer = answer} seat c) tests bad =
+      not-whole-code s n b out (leave seat) tests bad countCode refl b′ out′ (c .given) answer (c .relates) (c .codes)
+  not-whole-answer (sends {b = b} {out = out} {b′ = b′} {out′ = out′} {answer = answer} seat bytes c) tests bad =
+      not-whole-code s n b out (packetCall seat bytes) tests bad countCode refl b′ out′ (c .given) answer (c .relates) (c .codes)
+  not-whole-answer (plays {before = before} allowance stored c) tests bad =
       ap (λ (t : Telling). t .answer) (c .codes ∙ ap (runTold before) (rw bad at (c .relates .answers)))
 
   pub not-whole-refused : {before after : HostMemory} {answer : ℤ} (c : Exported s n before answer after) → TestsRoom c → roomWhole s n (before .room) ≡ false
       → (answer ≡ refusalCode RoomNotWhole) × (after ≡ before)
-  not-whole-refused {answer = answer} c first bad =
-      let told = not-whole-answer c first bad in
+  not-whole-refused {answer = answer} c tests bad =
+      let told = not-whole-answer c tests bad in
       (told, refused-leaves c (eleven-below answer told))
 
   -- "A room where a seat names its own key is no longer whole."
   pub names-itself-refused : {before after : HostMemory} {answer : ℤ} (c : Exported s n before answer after) → TestsRoom c
       → (seat : ℕ) (held : Held) (number : ℕ) → seatAt (viewRoom s n (before .room)) seat ≡ holds held → routeAt (held .routes) number ≡ wants (held .key)
       → (answer ≡ refusalCode RoomNotWhole) × (after ≡ before)
-  names-itself-refused {before = before} c first seat held number sits names = not-whole-refused c first (names-itself s n (before .room) seat held number sits names)
+  names-itself-refused {before = before} c tests seat held number sits names = not-whole-refused c tests (names-itself s n (before .room) seat held number sits names)

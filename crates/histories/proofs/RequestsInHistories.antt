@@ -18,7 +18,7 @@ use Rattle.packet_laws.proofs.ReadBounds.{request-key-long}
 use Rattle.rules.specs.Room.{sizesOf, Key, setKey, seatAt}
 use Rattle.rules.specs.Whole.{Whole}
 use Rattle.rules.specs.Call.{Call, packetCall, Sent, mostNeeded}
-use Rattle.rules.specs.Outcome.{Outcome, recordBytes, sentBytes, accept, to, answerZero}
+use Rattle.rules.specs.Outcome.{Outcome, recordBytes, sentBytes, accept, to, answerOnly}
 use Rattle.rules.specs.History.{Event, event}
 use Rattle.rules.specs.Transcript.{clientOf, fromEmpty, sitter}
 use Rattle.rules.specs.After.{pastAfter, Tied}
@@ -114,14 +114,14 @@ module _ (s n : ℕ) (lents : List Lent) (events : List Event) (b : List ℕ) (h
         subst (λ (x : Call). OwnKey fromEmpty past seat key (event room x)) (sym c) (own-key (sizesOf s n) fromEmpty past room whole tie seat key by bytes r))
         lents events b h lent asking b′ step long refl by
 
-    own-left : withOutput s n b out (packetCall seat bytes) ≡ answerZero seat key
+    own-left : withOutput s n b out (packetCall seat bytes) ≡ answerOnly seat 0 key
     unfolding withOutput ifLong tested
     own-left =
         rw (le-leb mostNeeded (length out) long, any-calls-run s n lents events b h .whole)
         (own-outcome (sizesOf s n) fromEmpty (pastAfter [] events) (viewRoom s n b) (whole-then s n lents events b h) (tied-then s n lents events b h) seat key by bytes r)
 
     -- its one record is 37 bytes: the seat, the length 34 in two bytes, and the answer, which is 1, 0 and the key
-    own-record : sentBytes (answerZero seat key .sent) ≡ seat ∷ 0 ∷ 34 ∷ 1 ∷ 0 ∷ key
+    own-record : sentBytes (answerOnly seat 0 key .sent) ≡ seat ∷ 0 ∷ 34 ∷ 1 ∷ 0 ∷ key
     unfolding accept sentBytes recordBytes to relay.relayBytes bytesOf
     own-record = rw (request-key-long bytes key r) (ap (λ (l : List ℕ). seat ∷ 0 ∷ 34 ∷ 1 ∷ 0 ∷ l) (append-nil key))
 
@@ -130,7 +130,7 @@ module _ (s n : ℕ) (lents : List Lent) (events : List Event) (b : List ℕ) (h
     unfolding accept storeAll countCode
     own-key-leaves =
         let left = subst (λ (o : Outcome). Leaves s n o b out (sent .given) b′ out′) own-left (sent .relates) in
-        let many : length (sentBytes (answerZero seat key .sent)) ≡ 37 = omega (arith, ap length own-record, request-key-long bytes key r) in (
+        let many : length (sentBytes (answerOnly seat 0 key .sent)) ≡ 37 = omega (arith, ap length own-record, request-key-long bytes key r) in (
           left .stores,
           sent .codes ∙ ap countCode (left .answers) ∙ ap pos many,
           left .writes ∙ ap₂ (λ (l : List ℕ) (m : ℕ). l ++ drop m out) own-record many,

@@ -18,7 +18,7 @@ use Rattle.packet_laws.proofs.ReadBounds.{request-key-long}
 use Rattle.rules.specs.Room.{Sizes, Key, Route, free, wants, Seat, vacant, holds, Room, Found, none, at, orLater, find, seatOf, isVacant, routeTo, isFree, seatAt, routeAt, firstNumber, numberOfPlace, Peer, alone, joined, newcomer, setSeat, Held, setKey, setRoute}
 use Rattle.rules.specs.Whole.{Whole}
 use Rattle.rules.specs.Call.{Call, arrive, leave, packetCall, Answer, accepted, refused, Sent}
-use Rattle.rules.specs.Outcome.{withRoute, apply, applyAll, Outcome, refuse, sentBytes, accept, to, roomAfter, peer, toPeer, arriveAt, tellPeer, tellPeers, leaveFrom, tellBoth, requestAt, dropAt, oobTo, carryTo, dataAt, act, actOn, packetFrom, outcome}
+use Rattle.rules.specs.Outcome.{withRoute, apply, applyAll, Outcome, refuse, sentBytes, accept, answerOnly, to, roomAfter, peer, toPeer, arriveAt, tellPeer, tellPeers, leaveFrom, tellBoth, requestAt, dropAt, oobTo, carryTo, dataAt, act, actOn, packetFrom, outcome}
 use Rattle.rules.specs.History.{Event, event}
 use Rattle.rules.specs.Transcript.{Past, Start, isAccepted, maker, numberAnswered, stands}
 use Rattle.rules.specs.After.{clientIn, Tied}
@@ -28,7 +28,7 @@ use Rattle.rules.proofs.Whole.{wanted-once, key-found}
 use Rattle.rules.proofs.AnswerLaws.{zero-answered}
 use Rattle.rules.proofs.Tied.{tied-here}
 use Rattle.rules.proofs.SentLaws.{count-same}
-use Rattle.isolation.proofs.View.{openSeat, ownSeat, otherSeat, View, isFound, viewSeatIf, viewSeat, project, namesC, placeOf, Observed, observed, packetAt, only, toOne, toBoth, counted, ownArrival, ownLeave, ownRequest, ownDrop, ownOob, ownCarry, ownData, ownAct, ownPacket, ownCall, otherArrived, otherDeparted, otherDropped, otherAsked, otherToC, arrivedIf, departedIf, observe, observedThen, observeAll, SeatView, setView, setViews}
+use Rattle.isolation.proofs.View.{openSeat, ownSeat, otherSeat, View, isFound, viewSeatIf, viewSeat, project, namesC, placeOf, Observed, observed, packetAt, only, toOne, toBoth, counted, ownArrival, ownLeave, ownAnswer, ownRequest, ownDrop, ownOob, ownCarry, ownData, ownAct, ownPacket, ownCall, otherArrived, otherDeparted, otherDropped, otherAsked, otherToC, arrivedIf, departedIf, observe, observedThen, observeAll, SeatView, setView, setViews}
 use Rattle.isolation.proofs.ViewLaws.{map-set, found-later, find-put, held-law, open-law, view-at, held-as, isJoined, connected-law, handedBy, handed-law, handed-append, hand-only, else-seat, not-handed, found-held, packet-law, own-held, peer-else, own-not-handed, own-tells, count-told, count-both, count-tells}
 
 -- what an outcome is to C: the view of the room after it, the packets for C, and the answers that C gets
@@ -117,12 +117,17 @@ module _ (sizes : Sizes) (room : Room) (whole : Whole sizes room) (c : Key) (sea
   own-both wanted number alone e = refl
   own-both wanted number (joined other place) e = rw (here, peer-else sizes room whole c seat held sits wanted other place e)
 
+  own-answer : (wanted : Key) (number : ℕ)
+      → ownAnswer (project c room) seat number wanted ≡ observedOf sizes c room (answerOnly seat number wanted) (answerOnly seat number wanted .answer ∷ [])
+  unfolding accept roomAfter applyAll handedBy handedIf to relay.relayBytes
+  own-answer wanted number = observed-same refl (rw here) (counted-same seat _ _ (count-same _ _ [] [] refl refl))
+
   own-request : (wanted : Key) (o : Bool) (f lowest : Found)
       → ownRequest o f lowest c (project c room) seat all wanted ≡ observedOf sizes c room (requestAt o f lowest room seat c wanted) (requestAt o f lowest room seat c wanted .answer ∷ [])
   unfolding ownRequest requestAt accept roomAfter applyAll apply handedBy handedIf to relay.relayBytes
-  own-request wanted true f lowest = observed-same refl (rw here) (counted-same seat _ _ (count-same _ _ [] [] refl refl))
-  own-request wanted false (at place) lowest = observed-same refl (rw here) (counted-same seat _ _ (count-same _ _ [] [] refl refl))
-  own-request wanted false none none = observed-same refl (rw here) (counted-same seat _ _ (count-same _ _ [] [] refl refl))
+  own-request wanted true f lowest = own-answer wanted 0
+  own-request wanted false (at place) lowest = own-answer wanted (numberOfPlace place)
+  own-request wanted false none none = own-answer wanted 0
   own-request wanted false none (at place) =
       observed-same (own-route place (wants wanted))
       (rw (here, connected-law c room seat wanted) (ap (λ (t : List (List ℕ)). (1 ∷ numberOfPlace place ∷ wanted) ∷ t) (own-both wanted (numberOfPlace place) (peer room seat c wanted) refl)))

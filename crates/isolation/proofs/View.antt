@@ -141,15 +141,14 @@ ownLeave openSeat c v seat = observed v [] []
 ownLeave (otherSeat key b) c v seat = observed v [] []
 ownLeave (ownSeat held) c v seat = observed (setView v seat openSeat) [] (counted seat (noticesByView c v seat (held .routes)))
 
--- a request of C's that is given no number
-abbrev pub ownZero : View → ℕ → Key → Observed
-ownZero v seat wanted = observed v (relay.relayBytes (relay.routingResponse 0 wanted) ∷ []) (counted seat (to 0 (relay.routingResponse 0 wanted) ∷ []))
+-- a request of C's that is answered, and nothing else happens
+abbrev pub ownAnswer : View → ℕ → ℕ → Key → Observed
+ownAnswer v seat number wanted = observed v (relay.relayBytes (relay.routingResponse number wanted) ∷ []) (counted seat (to 0 (relay.routingResponse 0 wanted) ∷ []))
 
 unfoldable pub ownRequest : Bool → Found → Found → Key → View → ℕ → Held → Key → Observed
-ownRequest true old lowest c v seat held wanted = ownZero v seat wanted
-ownRequest false (at place) lowest c v seat held wanted =
-    observed v (relay.relayBytes (relay.routingResponse (numberOfPlace place) wanted) ∷ []) (counted seat (to 0 (relay.routingResponse 0 wanted) ∷ []))
-ownRequest false none none c v seat held wanted = ownZero v seat wanted
+ownRequest true old lowest c v seat held wanted = ownAnswer v seat 0 wanted
+ownRequest false (at place) lowest c v seat held wanted = ownAnswer v seat (numberOfPlace place) wanted
+ownRequest false none none c v seat held wanted = ownAnswer v seat 0 wanted
 ownRequest false none (at place) c v seat held wanted =
     observed
     (setView v seat (ownSeat (setRoute held place (wants wanted))))

@@ -1,6 +1,6 @@
 -- Laws of `sameKey`: it tells just whether two lists are equal, and the bytes not yet compared decide. Assumes nothing.
-use mathlib.Core.Path.{_≡_, _∙_, refl, ap, ap₂}
-use mathlib.Core.Bool.{Bool, true, false, _&&_}
+use mathlib.Core.Path.{_≡_, _∙_, refl, sym, ap, ap₂}
+use mathlib.Core.Bool.{Bool, true, false, _&&_, true≢false}
 use mathlib.Core.List.{List, [], _∷_}
 use Prim.Native.Nat.{ℕ, suc, _+_, _<_, _≤_}
 use native.Mathlib.Numerals.{add-one}
@@ -33,6 +33,10 @@ not-so {t} h = go t refl
     go : (u : Bool) → t ≡ u → u ≡ false
     go true e = absurd (h e)
     go false e = refl
+
+-- and a test that fails tells two keys apart
+pub same-apart : (a b : List ℕ) → sameKey a b ≡ false → a ≡ b → ⊥
+same-apart a b h e = true≢false (sym (same-refl a) ∙ ap (sameKey a) e ∙ h)
 
 -- ---- byte by byte, in two lists of one length
 

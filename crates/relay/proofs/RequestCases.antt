@@ -13,7 +13,7 @@ use Rattle.packet_laws.specs.FromRelay.{relayBytes, routingResponse, connectNot
 use Rattle.packet.specs.declared.ConnectionNumber.{ConnectionNumber}
 use Rattle.rules.specs.Room.{firstNumber, numberOfPlace, Key, Seat, Found, none, at, find, routeTo, isFree, routesOf}
 use Rattle.rules.specs.Call.{Answer, accepted}
-use Rattle.rules.specs.Outcome.{Outcome, act, accept, answerZero, requestAt, tellBoth, to, peer, routeGiven}
+use Rattle.rules.specs.Outcome.{Outcome, act, accept, answerOnly, requestAt, tellBoth, to, peer, routeGiven}
 use Rattle.seat.specs.declared.Seat as seats
 use Rattle.room.specs.declared.lookup.FoundNumber.{FoundNumber}
 use Rattle.room.specs.declared.lookup.FoundNumber.the-variants as number
@@ -101,12 +101,12 @@ gives s n b seat key wanted number h q e b′ f out mid next left last p r = rec
 pub number-right : (f : Found) (r : FoundNumber) → r ≡ numberFound f → (n : ConnectionNumber) → r ≡ number.At n → 16 ≤ n .0
 number-right f r looked n e = number-found f n (sym looked ∙ e) .1
 
--- an answer of 0 changes no room
-pub carries-zero : (seat : ℕ) (wanted : Key) (out : List ℕ) (bytes : ℕ) (out′ : List ℕ) → Appends (to seat (routingResponse 0 wanted) ∷ []) out 0 bytes out′
-    → Carries (answerZero seat wanted) out (accepted seat bytes) out′
+-- an answer alone changes no room
+pub carries-answer : (seat number : ℕ) (wanted : Key) (out : List ℕ) (bytes : ℕ) (out′ : List ℕ) → Appends (to seat (routingResponse number wanted) ∷ []) out 0 bytes out′
+    → Carries (answerOnly seat number wanted) out (accepted seat bytes) out′
 unfolding accept storeAll
-carries-zero seat wanted out bytes out′ p s n b =
-    let sent = to seat (routingResponse 0 wanted) ∷ [] in
+carries-answer seat number wanted out bytes out′ p s n b =
+    let sent = to seat (routingResponse number wanted) ∷ [] in
     record {
       answers = ap (accepted seat) (appends-front-answer sent out bytes out′ p);
       stores = refl;
@@ -120,7 +120,7 @@ module _ (s n : ℕ) (b : List ℕ) (i : ℕ) (key wanted : Key) where
 
   -- the client's own key
   pub request-own : (own : Bool) → own ≡ sameKey wanted key → own ≡ true → (out : List ℕ) (answer : Answer) (out′ : List ℕ)
-      → Carries (answerZero i wanted) out answer out′ → Leaves s n asked b out answer b out′
+      → Carries (answerOnly i 0 wanted) out answer out′ → Leaves s n asked b out answer b out′
   unfolding act requestAt
   request-own own compared e out answer out′ p = rw (← compared, e) (p s n b)
 
@@ -138,26 +138,21 @@ module _ (s n : ℕ) (b : List ℕ) (i : ℕ) (key wanted : Key) where
 
     module _ (out out′ : List ℕ) (first : FoundNumber) (looked : first ≡ numberFound (routeWanting s n b i wanted)) where
       -- an old number
-      pub request-old : (bytes : ℕ) (old : ConnectionNumber) → first ≡ number.At old → Appends (to i (routingResponse (old .0) wanted) ∷ []) out 0 bytes out′
-          → Leaves s n asked b out (accepted i bytes) b out′
-      unfolding act requestAt accept storeAll
-      request-old bytes old e p =
+      pub request-old : (old : ConnectionNumber) → first ≡ number.At old → (answer : Answer) → Carries (answerOnly i (old .0) wanted) out answer out′
+          → Leaves s n asked b out answer b out′
+      unfolding act requestAt
+      request-old old e answer p =
           let f = number-found (routeWanting s n b i wanted) old (sym looked ∙ e) in
           let g : find (routeTo wanted) (viewRoutes n (routesTable s n b i)) ≡ at (old .0 - firstNumber) = sym wanting ∙ f .0 in
           let m : numberOfPlace (old .0 - firstNumber) ≡ old .0 = let h = f .1 in omega arith in
-          let sent = to i (routingResponse (old .0) wanted) ∷ [] in
-          record {
-            answers = rw (other, g, m) (ap (accepted i) (appends-front-answer sent out bytes out′ p));
-            stores = rw (other, g);
-            writes = rw (other, g, m) (appends-front sent out bytes out′ p);
-          }
+          rw (other, g, m) (p s n b)
 
       module _ (new : first ≡ number.None) (second : FoundNumber) (looked′ : second ≡ numberFound (lowestRoute s n b i)) where
         unrouted : find (routeTo wanted) (viewRoutes n (routesTable s n b i)) ≡ none
         unrouted = sym wanting ∙ number-not-found (routeWanting s n b i wanted) (sym looked ∙ new)
 
         -- none free
-        pub request-full : second ≡ number.None → (answer : Answer) → Carries (answerZero i wanted) out answer out′ → Leaves s n asked b out answer b out′
+        pub request-full : second ≡ number.None → (answer : Answer) → Carries (answerOnly i 0 wanted) out answer out′ → Leaves s n asked b out answer b out′
         unfolding act requestAt
         request-full e answer p =
             let g : find isFree (viewRoutes n (routesTable s n b i)) ≡ none = sym lowest ∙ number-not-found (lowestRoute s n b i) (sym looked′ ∙ e) in

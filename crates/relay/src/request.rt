@@ -7,10 +7,10 @@ ghost use mathlib.Core.Bool.{true};
 ghost use Prim.Native.Nat.{_+_, _≤_};
 ghost use lib.ListN.{length};
 ghost use Rattle.packet_laws.specs.FromClient.{routingRequest};
-ghost use Rattle.rules.specs.Outcome.{act, answerZero, tellBoth};
+ghost use Rattle.rules.specs.Outcome.{act, answerOnly, tellBoth};
 ghost use Rattle.room_laws.specs.View.{viewRoom, seatHeld};
 ghost use Rattle.room_laws.specs.Whole.{roomWhole};
-ghost use Rattle.records.specs.Output.{Appends};
+ghost use Rattle.records.specs.Output.{Appends, Answers};
 ghost use Rattle.relay_laws.specs.Calls.{answerOf, Leaves};
 ghost use Rattle.room.specs.Numbers.{peerOf, PeerRight};
 ghost use Rattle.relay.specs.Steps.{Sits, Gives, Carries};
@@ -60,12 +60,12 @@ fn give(
     tell_both(out, next, seat, number, peer)
 }
 
-// "the answer is 0 and nothing changes": the key is the client's own, or no number is free.
-fn answer_zero(out: &mut [u8], seat: Seat, wanted: Key) -> Answer
-    requires { ⌜ 2048 ≤ length (now out) ⌝ }
-    ensures { λ r. ⌜ Carries (answerZero (seat .0) (wanted .0)) (now (out .entry)) (answerOf r) (now (out .exit)) ⌝ }
+// The answer, with a number or with 0 for none, "and nothing else happens".
+fn answer_only(out: &mut [u8], seat: Seat, number: ConnectionNumber, wanted: Key) -> Answer
+    requires { ⌜ (2048 ≤ length (now out)) × Answers (number .0) ⌝ }
+    ensures { λ r. ⌜ Carries (answerOnly (seat .0) (number .0) (wanted .0)) (now (out .entry)) (answerOf r) (now (out .exit)) ⌝ }
 {
-    let written = record::response(out, 0, seat, ConnectionNumber(0), wanted);
+    let written = record::response(out, 0, seat, number, wanted);
     Answer::Accepted(seat, written)
 }
 
@@ -83,13 +83,13 @@ pub(crate) fn step(
     ensures { λ r. ⌜ Leaves seats numbers (act (routingRequest (wanted .0)) (viewRoom seats numbers (now (memory .entry))) (seat .0) (seatHeld seats numbers (now (memory .entry)) (seat .0) (key .0))) (now (memory .entry)) (now (out .entry)) (answerOf r) (now (memory .exit)) (now (out .exit)) ⌝ }
 {
     if wanted.equals(key) {
-        return answer_zero(out, seat, wanted);
+        return answer_only(out, seat, ConnectionNumber(0), wanted);
     }
     if let FoundNumber::At(old) = lookup::number_of(memory, seats, numbers, seat, wanted) {
-        return Answer::Accepted(seat, record::response(out, 0, seat, old, wanted));
+        return answer_only(out, seat, old, wanted);
     }
     let FoundNumber::At(number) = lookup::lowest_free(memory, seats, numbers, seat) else {
-        return answer_zero(out, seat, wanted);
+        return answer_only(out, seat, ConnectionNumber(0), wanted);
     };
     Answer::Accepted(
         seat,

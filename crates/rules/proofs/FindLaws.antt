@@ -12,7 +12,7 @@ use lib.ListN.{getD, set, replicate, length}
 use lib.Seq.{getD-set-same, getD-set-other}
 use borrow.Author.Tests.{ltb-false, le-ltb}
 use Rattle.key.specs.Keys.{sameKey}
-use Rattle.key.proofs.Same.{same-refl, same-sound}
+use Rattle.key.proofs.Same.{same-refl, same-sound, not-so, same-apart}
 use Rattle.rules.specs.Room.{sizesOf, Key, Route, free, wants, Held, Seat, vacant, holds, Room, newcomer, setKey, setSeat, Found, none, at, orLater, find, seatOf, isVacant, routeTo, isFree, routesOf, seatAt, firstNumber, numberOfPlace, routeAt}
 
 -- from two constructors that are equal
@@ -23,11 +23,7 @@ clash z = absurd (omega arith)
 
 pub same-swap : (a b : Key) (t : Bool) → sameKey a b ≡ t → sameKey b a ≡ t
 same-swap a b true e = subst (λ k. sameKey b k ≡ true) (sym (same-sound a b e)) (same-refl b)
-same-swap a b false e = go (sameKey b a) refl
-  where
-    go : (t : Bool) → sameKey b a ≡ t → sameKey b a ≡ false
-    go true f = absurd (true≢false (sym (same-refl a) ∙ ap (sameKey a) (sym (same-sound b a f)) ∙ e))
-    go false f = f
+same-swap a b false e = not-so (λ f. same-apart a b e (sym (same-sound b a f)))
 
 -- ---- the lowest place that passes a test
 

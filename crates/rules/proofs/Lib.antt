@@ -1,6 +1,6 @@
--- Facts by computation: `ASmallRoom`, rooms where a seat names its own key; `ComputedExamples`, document 01's examples on the room and its students' errors; `Computed`
--- has what they share. Laws: `FindLaws` of looking things up, `AnswerLaws` of the number that a client reads in an answer, `SentLaws` of how many bytes
--- records take, `OutcomeLaws` of one outcome after another, `PeerLaws` of the search for a connected peer. Theorems, for every room or history:
+-- Facts by computation: `ASmallRoom`, rooms where a seat names its own key; `ComputedExamples`, document 01's examples on the room and its students' errors;
+-- `Computed` has what they share. Laws: `FindLaws` of looking things up, `AnswerLaws` of the number that a client reads in an answer, `SentLaws` of how many
+-- bytes records take, `OutcomeLaws` of one outcome after another, `PeerLaws` of the search for a connected peer. Theorems, for every room or history:
 -- `RefusedOrAccepted`, a refused call does nothing; `Counts`, a call answers how many bytes it wrote; `QuietArrival`, an arrival sends nothing; `Whole`, the
 -- room stays whole; `OtherSeats`, a call changes one seat at most; `Tied`, the room's tables and what has happened say the same, with `EachEvent` from one
 -- call to every history; `WithinOutput`, no call writes more than 2,048 bytes.

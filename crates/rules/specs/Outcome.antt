@@ -133,18 +133,18 @@ unfoldable pub tellBoth : ℕ → ℕ → Peer → List Sent
 tellBoth seat number alone = []
 tellBoth seat number (joined other place) = to seat (relay.connectNotice number) ∷ to other (relay.connectNotice (numberOfPlace place)) ∷ []
 
--- a request that is given no number: "the answer is 0 and nothing changes"
-abbrev pub answerZero : ℕ → Key → Outcome
-answerZero seat wanted = accept seat [] (to seat (relay.routingResponse 0 wanted) ∷ [])
+-- a request that is answered with a number, or with 0 for none, "and nothing else happens"
+abbrev pub answerOnly : ℕ → ℕ → Key → Outcome
+answerOnly seat number wanted = accept seat [] (to seat (relay.routingResponse number wanted) ∷ [])
 
 -- Request, first of a client's own key: document 02, "The answer becomes 0 and no route is taken, tested before the search for an old number." Of another's:
 -- "a key already named by this seat gets its old number again and nothing else happens. Otherwise the lowest free number is taken, or, with none free, the
 -- answer is 0 and nothing changes. Then, if the two are now connected, connected is sent". It goes by whether the key is the client's own, where it has an
 -- old number, and which is the lowest free
 unfoldable pub requestAt : Bool → Found → Found → Room → ℕ → Key → Key → Outcome
-requestAt true old lowest room seat key wanted = answerZero seat wanted
-requestAt false (at place) lowest room seat key wanted = accept seat [] (to seat (relay.routingResponse (numberOfPlace place) wanted) ∷ [])
-requestAt false none none room seat key wanted = answerZero seat wanted
+requestAt true old lowest room seat key wanted = answerOnly seat 0 wanted
+requestAt false (at place) lowest room seat key wanted = answerOnly seat (numberOfPlace place) wanted
+requestAt false none none room seat key wanted = answerOnly seat 0 wanted
 requestAt false none (at place) room seat key wanted =
     accept seat (routeGiven seat place wanted ∷ [])
     (to seat (relay.routingResponse (numberOfPlace place) wanted) ∷ tellBoth seat (numberOfPlace place) (peer room seat key wanted))

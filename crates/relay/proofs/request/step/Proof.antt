@@ -1,9 +1,7 @@
 -- `request::step` meets its contract: the comparison with the client's own key, and then the two lookups, decide as the rules do. Assumes nothing.
 use borrow.Author.Needs.{needs}
-use native.Mathlib.Omega.{arith}
 use Rattle.room_laws.specs.Lookup.{routeWanting, lowestRoute}
-use Rattle.records.specs.Output.{given}
-use Rattle.records.proofs.Fits.{response-fits}
+use Rattle.records.specs.Output.{none, given}
 use Rattle.relay_laws.specs.Calls.{answerOf}
 use Rattle.relay.proofs.RequestCases.{request-own, request-old, request-full, request-given, number-right}
 use Rattle.relay.proofs.request.step.Statement.{statement}
@@ -12,8 +10,8 @@ use Rattle.relay.proofs.request.step.Tie as tie
 equals-requires : tie.Need-equals-requires
 equals-requires c κs = search needs
 
-answer-zero-requires : tie.Need-answer-zero-requires
-answer-zero-requires c κs = search needs
+answer-only-requires : tie.Need-answer-only-requires
+answer-only-requires c κs = let s = c .before .before .before .before .before in (s .pre .2, none)
 
 same-length : tie.Need-same-length
 same-length c = search needs
@@ -24,7 +22,7 @@ returns c =
     let s = c .before .before .before .before .before .before .before .before in
     let a = s .args in
     let same = c .before .before .before .before .before .equals in
-    let w = c .before .before .answer-zero in
+    let w = c .before .before .answer-only in
     request-own (a .seats) (a .numbers) (a .memory .now) (a .seat .0) (a .key .0) (a .wanted .0) (same .result) (same .ensures) (c .before .before .before .before .if1 .taken)
     (a .out .now) (answerOf (w .result)) (w .last .0) (w .ensures)
 
@@ -34,8 +32,13 @@ number-of-requires c κs = search needs
 enum-known-old : tie.Need-enum-known-old
 enum-known-old c = search needs
 
-response-requires : tie.Need-response-requires
-response-requires c κs = search needs
+answer-only-requires-2 : tie.Need-answer-only-requires-2
+answer-only-requires-2 c κs =
+    let s = c .before .before .before .before .before .before .before .before .before .before in
+    let a = s .args in
+    let look = c .before .before .before .before .number-of in
+    let old = c .before .before .old .given in
+    (s .pre .2, given (old .0 .0 .0) (number-right (routeWanting (a .seats) (a .numbers) (a .memory .now) (a .seat .0) (a .wanted .0)) (look .result) (look .ensures) (old .0 .0) (old .1)))
 
 same-length-2 : tie.Need-same-length-2
 same-length-2 c = search needs
@@ -51,11 +54,10 @@ returns-2 c =
     let same = c .before .before .before .before .before .before .before .before .before .before .equals in
     let look = c .before .before .before .before .before .before .before .number-of in
     let old = c .before .before .before .before .before .old .given in
-    let w = c .before .before .response in
-    let right = number-right (routeWanting (a .seats) (a .numbers) (a .memory .now) (a .seat .0) (a .wanted .0)) (look .result) (look .ensures) (old .0 .0) (old .1) in
+    let w = c .before .before .answer-only2 in
     request-old (a .seats) (a .numbers) (a .memory .now) (a .seat .0) (a .key .0) (a .wanted .0) (s .pre .0) (s .pre .1)
-    (same .result) (same .ensures) (c .before .before .before .before .before .before .before .before .before .if1 .left) (a .out .now) (w .last .0) (look .result) (look .ensures) (w .result) (old .0 .0) (old .1)
-    (response-fits (old .0 .0 .0) (a .wanted .0) (given (old .0 .0 .0) right) (omega arith) (w .ensures))
+    (same .result) (same .ensures) (c .before .before .before .before .before .before .before .before .before .if1 .left) (a .out .now) (w .last .0) (look .result) (look .ensures)
+    (old .0 .0) (old .1) (answerOf (w .result)) (w .ensures)
 
 enum-told : tie.Need-enum-told
 enum-told c = search needs
@@ -69,8 +71,8 @@ enum-known-number c = search needs
 enum-told-2 : tie.Need-enum-told-2
 enum-told-2 c = search needs
 
-answer-zero-requires-2 : tie.Need-answer-zero-requires-2
-answer-zero-requires-2 c κs = search needs
+answer-only-requires-3 : tie.Need-answer-only-requires-3
+answer-only-requires-3 c κs = let s = c .before .before .before .before .before .before .before .before .before .before .before .before .before in (s .pre .2, none)
 
 same-length-4 : tie.Need-same-length-4
 same-length-4 c = search needs
@@ -86,7 +88,7 @@ returns-3 c =
     let same = c .before .before .before .before .before .before .before .before .before .before .before .before .before .equals in
     let look = c .before .before .before .before .before .before .before .before .before .before .number-of in
     let look-free = c .before .before .before .before .before .before .lowest-free in
-    let w = c .before .before .answer-zero2 in
+    let w = c .before .before .answer-only3 in
     request-full (a .seats) (a .numbers) (a .memory .now) (a .seat .0) (a .key .0) (a .wanted .0) (s .pre .0) (s .pre .1)
     (same .result) (same .ensures) (c .before .before .before .before .before .before .before .before .before .before .before .before .if1 .left) (a .out .now) (w .last .0) (look .result) (look .ensures) (c .before .before .before .before .before .before .before .before .enum-told .given .1)
     (look-free .result) (look-free .ensures) (c .before .before .before .before .enum-told2 .given .1) (answerOf (w .result)) (w .ensures)
@@ -124,12 +126,12 @@ step-spec =
     tie.close
     (tie.spec
     equals-requires
-    answer-zero-requires
+    answer-only-requires
     same-length
     returns
     number-of-requires
     enum-known-old
-    response-requires
+    answer-only-requires-2
     same-length-2
     same-length-3
     returns-2
@@ -137,7 +139,7 @@ step-spec =
     lowest-free-requires
     enum-known-number
     enum-told-2
-    answer-zero-requires-2
+    answer-only-requires-3
     same-length-4
     same-length-5
     returns-3
