@@ -5,8 +5,8 @@
  *
  * A real host has a socket for each seat. It reads the frames of what comes in on it with
  * banavoge_frame_read, opens each and gives the packet to banavoge_packet; it seals the packet of
- * each record and sends it on the socket of the record's seat. Here a table of names stands in for
- * the sockets, and nothing is sealed.
+ * each record and sends it on the socket of the record's seat. Each second it tells the room the
+ * time with banavoge_tick. Here a table of names stands in for the sockets, and nothing is sealed.
  */
 #include "banavoge.h"
 
@@ -61,13 +61,14 @@ enum {
 struct host {
     uint8_t *room;
     size_t room_length;
-    uint8_t out[BANAVOGE_LEAST_OUTPUT];
+    uint8_t out[BANAVOGE_LEAST_TICK_OUTPUT];
     const struct client *seated[BANAVOGE_SEATS];
 };
 
 static void open_room(struct host *host)
 {
     host->room_length = banavoge_room_bytes();
+    CHECK(host->room_length == BANAVOGE_ROOM_BYTES);
     host->room = malloc(host->room_length);
     CHECK(host->room != NULL);
     CHECK(banavoge_room_empty(host->room, host->room_length) == 0);
@@ -131,6 +132,7 @@ static const char *const refusal_words[] = {
     [BANAVOGE_REFUSAL_NODE_CUT_SHORT] = "node cut short",
     [BANAVOGE_REFUSAL_BYTES_AFTER_NODES] = "bytes left after four nodes",
     [BANAVOGE_REFUSAL_BAD_FRAME] = "a length under 17 or above 2,048",
+    [BANAVOGE_REFUSAL_CLOCK_BACK] = "a clock that goes back",
 };
 
 /* An answer below 0 is minus a refusal number. */
@@ -207,6 +209,9 @@ static void print_records(const struct host *host, size_t written)
     const char *between = "";
     size_t at = 0;
 
+    if (written == 0) {
+        printf("nothing is sent");
+    }
     while (at < written) {
         struct record record;
 
@@ -269,6 +274,36 @@ static int32_t give_packet(struct host *host, uint8_t seat, const uint8_t *packe
     return answer;
 }
 
+/* Who sits no more is told by the room. Here a host closes the socket. */
+static void close_put_out(struct host *host)
+{
+    for (uint8_t seat = 0; seat < BANAVOGE_SEATS; seat++) {
+        uint8_t key[BANAVOGE_KEY_BYTES];
+        int32_t answer = banavoge_key_in(host->room, host->room_length, seat, key);
+
+        if (host->seated[seat] != NULL && answer == -BANAVOGE_REFUSAL_NOT_SEATED) {
+            printf("%s is put out\n", name_in(host, seat));
+            host->seated[seat] = NULL;
+        }
+    }
+}
+
+/* A record may be for a client that the tick puts out: all are sent before a socket is closed. */
+static int32_t tick(struct host *host, uint64_t time, uint64_t number)
+{
+    int32_t answer;
+
+    fill_output(host);
+    answer =
+        banavoge_tick(host->room, host->room_length, time, number, host->out, sizeof host->out);
+    printf("the time is %" PRIu64 ": ", time);
+    print_outcome(host, answer);
+    if (answer >= 0) {
+        close_put_out(host);
+    }
+    return answer;
+}
+
 /* ---- What clients send; a client writes its packets with the same library ---- */
 
 static int32_t request(struct host *host, uint8_t seat, const struct client *wanted)
@@ -310,6 +345,15 @@ static int32_t ping(struct host *host, uint8_t seat, uint64_t number)
     return give_packet(host, seat, packet, length);
 }
 
+static int32_t pong(struct host *host, uint8_t seat, uint64_t number)
+{
+    uint8_t packet[BANAVOGE_MOST_PACKET_BYTES];
+    int32_t length = banavoge_pong(number, packet, sizeof packet);
+
+    printf("%s sends pong %" PRIu64 ": ", name_in(host, seat), number);
+    return give_packet(host, seat, packet, length);
+}
+
 static int32_t drop(struct host *host, uint8_t seat, uint8_t number)
 {
     uint8_t packet[BANAVOGE_MOST_PACKET_BYTES];
@@ -323,7 +367,7 @@ static int32_t drop(struct host *host, uint8_t seat, uint8_t number)
 
 /* A whole output: records, and behind them what stood there before. */
 struct output {
-    uint8_t bytes[BANAVOGE_LEAST_OUTPUT];
+    uint8_t bytes[BANAVOGE_LEAST_TICK_OUTPUT];
     size_t length;
 };
 
@@ -361,6 +405,14 @@ static void add_connected(struct output *output, uint8_t seat, uint8_t number)
 static void add_disconnected(struct output *output, uint8_t seat, uint8_t number)
 {
     const uint8_t record[] = {seat, 0x00, 0x02, 0x03, number};
+
+    add(output, record, sizeof record);
+}
+
+/* A ping with a number of one byte. */
+static void add_ping(struct output *output, uint8_t seat, uint8_t number)
+{
+    const uint8_t record[] = {seat, 0x00, 0x09, 0x04, 0, 0, 0, 0, 0, 0, 0, number};
 
     add(output, record, sizeof record);
 }
@@ -544,6 +596,31 @@ static void dropped(struct host *host)
                   BANAVOGE_REFUSAL_NOT_CONNECTED));
 }
 
+/* Bob closes his lid: pinged after 30 seconds, he does not answer, and goes 10 seconds later. The
+   others answer, and stay. */
+static void dead_laptop(struct host *host)
+{
+    struct output pings = nothing();
+    struct output none = nothing();
+    struct output disconnected = nothing();
+
+    for (uint8_t seat = ALICE_SEAT; seat <= BOB_SECOND_SEAT; seat++) {
+        add_ping(&pings, seat, 71);
+    }
+    CHECK(sent(host, tick(host, 30, 71), &pings));
+    CHECK(sent(host, pong(host, ALICE_SEAT, 71), &none));
+    CHECK(sent(host, pong(host, DAVE_SEAT, 71), &none));
+    CHECK(sent(host, pong(host, CAROL_SEAT, 71), &none));
+
+    add_disconnected(&disconnected, ALICE_SEAT, ALICE_TO_BOB);
+    CHECK(sent(host, tick(host, 40, 72), &disconnected));
+    CHECK(host->seated[BOB_SECOND_SEAT] == NULL);
+    CHECK(banavoge_seat_of(host->room, host->room_length, bob.key) == -BANAVOGE_REFUSAL_NOT_SEATED);
+    CHECK(banavoge_seat_of(host->room, host->room_length, carol.key) == CAROL_SEAT);
+
+    CHECK(refused(host, tick(host, 39, 73), BANAVOGE_REFUSAL_CLOCK_BACK));
+}
+
 /* Lent memory is tested before anything else: the output by its length, whatever would be written,
    and then the whole room. */
 static void errors_of_the_host(struct host *host)
@@ -679,6 +756,7 @@ int main(void)
     guest_in_the_seat(&host);
     back_in_another_seat(&host);
     dropped(&host);
+    dead_laptop(&host);
     errors_of_the_host(&host);
     frames_in_pieces(&host);
     stored_calls(&host);

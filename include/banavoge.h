@@ -2,10 +2,10 @@
  * Banavoge: a Tox TCP relay for classrooms, as a static library.
  *
  * The host owns sockets, sealing and opening. It hands over what comes in on a socket, is shown the
- * frames to open, and hands over the opened packets. Document 01 (scope and exact rules) says what
- * each function does, document 02 (changes after the base) what the frame reader does and how a
- * client that asks for itself is answered, and each is proved to do so on every input. Refusal
- * numbers and sizes are theirs.
+ * frames to open, hands over the opened packets, and tells the time. Document 01 (scope and exact
+ * rules) says what each function does, document 02 (changes after the base) what the frame reader
+ * does, how a client that asks for itself is answered and what a tick does, and each is proved to
+ * do so on every input. Refusal numbers and sizes are theirs.
  *
  * Answers
  *   0 or more is what the function's comment says. Below 0 it is minus a refusal number (enum
@@ -30,8 +30,8 @@
  *   may.
  *
  * Numbers
- *   In frames, packets, packed nodes and records the highest byte stands first. Ports and ping
- *   numbers that pass as parameters are ordinary C numbers.
+ *   In frames, packets, packed nodes and records the highest byte stands first. Ports, times and
+ *   ping numbers that pass as parameters are ordinary C numbers.
  *
  * Linking
  *   libbanavoge.a, for Linux on x86-64, asks the C library for memcpy and memset and for nothing
@@ -58,13 +58,16 @@ extern "C" {
 #define BANAVOGE_MOST_NODE_BYTES 51     /* a packed node over IPv6; over IPv4 it has 39 */
 #define BANAVOGE_MOST_NODES 4           /* in a node list */
 #define BANAVOGE_MOST_LIST_SIZE 16      /* of a nearest list; the least is 1 */
+#define BANAVOGE_ROOM_BYTES 44251       /* what banavoge_room_bytes answers */
 #define BANAVOGE_SEATS 40               /* of a room: 0 to 39 */
 #define BANAVOGE_FIRST_NUMBER 16        /* of the connection numbers of a seat: 16 to 47 */
 #define BANAVOGE_NUMBERS 32
 #define BANAVOGE_LEAST_OUTPUT 2048      /* to be lent to a leave or a packet; neither writes more */
+#define BANAVOGE_LEAST_TICK_OUTPUT 5120 /* to be lent to a tick, which never writes more */
 #define BANAVOGE_RECORD_HEAD 3          /* seat and length, before the packet of a record */
 
-/* Why a call is refused, in document 01's words; of 18 and of a keep, in document 02's. */
+/* Why a call is refused, in document 01's words; of 18, 19, a keep and a tick's output, in document
+   02's. The ping number of 7 stands in a packet, or is a tick's. */
 enum banavoge_refusal {
     /* arrival with all 40 seats taken */
     BANAVOGE_REFUSAL_ROOM_FULL = 1,
@@ -86,7 +89,8 @@ enum banavoge_refusal {
     /* data on a waiting route */
     BANAVOGE_REFUSAL_NOT_CONNECTED = 9,
     /* lent output too short: under 2,048 for packet and leave,
-       under the exact length for a writer; a keep that is too short */
+       under the exact length for a writer; a keep that is too short;
+       tick output under 5,120 */
     BANAVOGE_REFUSAL_OUTPUT_TOO_SHORT = 10,
     /* room not whole */
     BANAVOGE_REFUSAL_ROOM_NOT_WHOLE = 11,
@@ -104,7 +108,9 @@ enum banavoge_refusal {
     BANAVOGE_REFUSAL_BYTES_AFTER_NODES = 17,
     /* a length under 17 or above 2,048;
        a reader holding 2 or more bytes that start no unfinished frame */
-    BANAVOGE_REFUSAL_BAD_FRAME = 18
+    BANAVOGE_REFUSAL_BAD_FRAME = 18,
+    /* a clock that goes back */
+    BANAVOGE_REFUSAL_CLOCK_BACK = 19
 };
 
 /*
@@ -373,20 +379,23 @@ int32_t banavoge_nearest_node(const uint8_t *list, size_t list_length, size_t in
 /*
  * ---- The room ----
  *
- * A room is the state of one relay: 40 seats, each empty or with one client's key and its routes. A
- * route is a connection number, 16 to 47, and the key that its client asked for. Seats and numbers
- * have nothing to do with each other, and a number means something only together with its seat.
+ * A room is the state of one relay: a clock in whole seconds, first 0, and 40 seats, each empty or
+ * with one client's key and its routes. A route is a connection number, 16 to 47, and the key that
+ * its client asked for. Seats and numbers have nothing to do with each other, and a number means
+ * something only together with its seat. For each client the room has the time of its last ping,
+ * at first the clock when it arrived, and the ping number that it has not yet answered. The room
+ * reads no clock: the host tells it the time with banavoge_tick.
  *
  * A room lives in memory of the host, banavoge_room_bytes() long; memory may be longer, and what
  * stands behind is left alone. It holds no pointer, so it may be copied as plain bytes while no
  * call uses it. Its layout is no stored form: another version of the library may have another.
  *
- * A room is whole when seated keys differ, the wanted keys of one seat differ, no seat names its own
- * key, empty seats hold no routes, and what else the library keeps agrees with these. Calls leave a
- * whole room whole.
+ * A room is whole when seated keys differ, the wanted keys of one seat differ, no seat names its
+ * own key, no ping time is after the clock, empty seats hold no routes, and what else the library
+ * keeps agrees with these. Calls leave a whole room whole.
  */
 
-/* How many bytes a room takes. */
+/* How many bytes a room takes: BANAVOGE_ROOM_BYTES. */
 size_t banavoge_room_bytes(void);
 
 /* Makes the memory an empty room, whatever it held. Answers 0. Refusals: 10 (memory too short). */
@@ -394,20 +403,32 @@ int32_t banavoge_room_empty(uint8_t *room, size_t room_length);
 
 /*
  * Tests the memory in full. Answers 0 where it holds a whole room. Refusals: 11. Every relay call
- * makes this test itself; this one is for memory whose origin the host does not trust. A room kept
- * from a version of the library that gave a client a number for its own key may be refused.
+ * makes this test itself; this one is for memory whose origin the host does not trust. It cannot
+ * tell by which version of the library a room was kept, and their layouts differ.
  */
 int32_t banavoge_room_check(const uint8_t *room, size_t room_length);
 
 /*
+ * Who sits in a seat. Answers 0 and sets the key. Refusals: 11, 3 (seat above 39, or empty), and
+ * then nothing is set.
+ */
+int32_t banavoge_key_in(const uint8_t *room, size_t room_length, uint8_t seat,
+                        uint8_t key[BANAVOGE_KEY_BYTES]);
+
+/* Where a key sits. Answers its seat. Refusals: 11, 3 (that key does not sit in the room). */
+int32_t banavoge_seat_of(const uint8_t *room, size_t room_length,
+                         const uint8_t key[BANAVOGE_KEY_BYTES]);
+
+/*
  * ---- Relay calls ----
  *
- * What a leave or a packet sends stands in the output, one record behind the other:
+ * What a leave, a packet or a tick sends stands in the output, one record behind the other:
  *
  *     | seat (1 byte) | length (2 bytes, the higher first) | the packet: that many bytes |
  *
  * The byte count that it answers is that of all records together, 0 where nothing is sent. The host
- * seals each packet and sends it to the client in that seat, in this order.
+ * seals each packet and sends it to the client in that seat, in this order; of a tick's records, to
+ * the client that sat there before the call.
  */
 
 /* A client arrives. Answers its seat, the lowest empty one; nothing is sent. Refusals: 11, 2, 1. */
@@ -428,7 +449,8 @@ int32_t banavoge_leave(uint8_t *room, size_t room_length, uint8_t seat, uint8_t 
  *     lowest free number, or 0 where none is free. Once each has asked for the other's key, both
  *     are told connected, the asker first, each with its own number.
  *   Drop: the number is free again. A connected peer is told disconnected; its request goes on.
- *   Ping: a pong with the same number. Pong: nothing.
+ *   Ping: a pong with the same number. Pong: nothing is sent. One with the number of the client's
+ *     ping not yet answered answers that ping; any other does nothing.
  *   Out-of-band send: to the seat with that key, with the sender's key put in; with no such seat
  *     nothing is sent.
  *   Data: to the connected peer, under the peer's number.
@@ -436,6 +458,29 @@ int32_t banavoge_leave(uint8_t *room, size_t room_length, uint8_t seat, uint8_t 
  */
 int32_t banavoge_packet(uint8_t *room, size_t room_length, uint8_t seat, const uint8_t *packet,
                         size_t packet_length, uint8_t *out, size_t out_length);
+
+/*
+ * The clock moves on to a time, in whole seconds; the same time again is accepted. First, in rising
+ * seat order, every client whose ping has stood unanswered for 10 seconds or more leaves, as by
+ * banavoge_leave. Then, in that order, every remaining client with no ping to answer, last pinged
+ * 30 seconds ago or more, is sent a ping with the number given, which it is to answer with a pong.
+ * The number is any but 0; a random one for each tick keeps a late pong from counting.
+ *
+ * A client that arrives counts as pinged at the clock then. So where the clock starts at a large
+ * time, such as the seconds since 1970, the first tick pings everybody.
+ *
+ * A record may be for a seat that the same tick has emptied: it is for the client that sat there
+ * before the call. So the host sends all records first, and only then closes the sockets of those
+ * who were put out, before the next arrival, which may be given such a seat. Records do not tell
+ * who was put out, since one that was connected with nobody leaves with no record: the host asks
+ * banavoge_key_in for each of its seats after a tick, and a seat that is refused with 3 is empty
+ * now.
+ *
+ * Answers the byte count. Refusals: 10 (output under BANAVOGE_LEAST_TICK_OUTPUT, whatever would be
+ * sent), 11, 7 (number 0), 19 (time before the clock).
+ */
+int32_t banavoge_tick(uint8_t *room, size_t room_length, uint64_t time, uint64_t number,
+                      uint8_t *out, size_t out_length);
 
 /*
  * ---- Play ----
@@ -448,7 +493,8 @@ int32_t banavoge_packet(uint8_t *room, size_t room_length, uint8_t seat, const u
  *   1 leave   the seat, no bytes
  *   2 packet  the seat, the packet
  *
- * and nothing else is one. For each call that is played, refused ones included, the output gets
+ * and nothing else is one: a tick has no stored form. For each call that is played, refused ones
+ * included, the output gets
  *
  *     | refusal (1 byte) | seat (1 byte) | length (2 bytes, the higher first) | its records |
  *

@@ -1,13 +1,14 @@
-//! Stored calls: a history as bytes.
+//! Calls, and stored calls: a history as bytes.
 //!
 //! A stored call is 1 byte for the call (0 arrive, 1 leave, 2 packet), 1 for
 //! the seat (0 where it names none), a 2-byte length with the higher byte
 //! first, and the bytes the call is given. No other form is one: an arrive has
-//! seat 0 and the 32 bytes of its key, a leave has no bytes.
+//! seat 0 and the 32 bytes of its key, a leave has no bytes. A tick has no
+//! stored form.
 
 use crate::key::Key;
 use crate::refusal::Refusal;
-use crate::room::{Accepted, Room};
+use crate::room::{Accepted, Room, LEAST_OUTPUT, LEAST_TICK_OUTPUT};
 
 /// The bytes before those that the call is given.
 const HEAD: usize = 4;
@@ -17,12 +18,14 @@ const LEAVE: u8 = 1;
 const PACKET: u8 = 2;
 
 /// A call. Its seat is any byte: whether there is such a seat, and whether the
-/// bytes are a packet, is for the room to judge.
+/// bytes are a packet, is for the room to judge. So it is with the time and the
+/// ping number of a tick.
 #[derive(Debug, Clone, PartialEq, Eq)]
 pub enum Call {
     Arrive { key: Key },
     Leave { seat: u8 },
     Packet { seat: u8, bytes: Vec<u8> },
+    Tick { time: u64, ping: u64 },
 }
 
 impl Call {
@@ -32,6 +35,17 @@ impl Call {
             Call::Arrive { key } => room.arrive(key),
             Call::Leave { seat } => room.leave(usize::from(*seat), output_len),
             Call::Packet { seat, bytes } => room.packet(usize::from(*seat), bytes, output_len),
+            Call::Tick { time, ping } => room.tick(*time, *ping, output_len),
+        }
+    }
+
+    /// The output with which this call does not get refusal 10. An arrival writes
+    /// nothing and is lent none.
+    pub fn least_output(&self) -> usize {
+        match self {
+            Call::Arrive { .. } => 0,
+            Call::Leave { .. } | Call::Packet { .. } => LEAST_OUTPUT,
+            Call::Tick { .. } => LEAST_TICK_OUTPUT,
         }
     }
 }
@@ -47,12 +61,13 @@ pub fn read(stored: &[u8]) -> Option<(Call, usize)> {
 }
 
 /// The stored form of a call; none for a packet of more than 65,535 bytes,
-/// whose length two bytes cannot tell.
+/// whose length two bytes cannot tell, and none for a tick.
 pub fn write(call: &Call) -> Option<Vec<u8>> {
     let (first, seat, bytes) = match call {
         Call::Arrive { key } => (ARRIVE, 0, &key[..]),
         Call::Leave { seat } => (LEAVE, *seat, &[][..]),
         Call::Packet { seat, bytes } => (PACKET, *seat, &bytes[..]),
+        Call::Tick { .. } => return None,
     };
     let length = u16::try_from(bytes.len()).ok()?;
     Some([&[first, seat], &length.to_be_bytes()[..], bytes].concat())
@@ -140,6 +155,18 @@ mod tests {
     }
 
     #[test]
+    fn a_tick_has_no_stored_form() {
+        let tick = Call::Tick { time: 1, ping: 1 };
+        assert_eq!(write(&tick), None);
+        assert_eq!(write_all(&[Call::Leave { seat: 7 }, tick]), None);
+        // Nor is one read: the call 3 with a time and a ping number.
+        for seat in [0, 1] {
+            let head = [3, seat, 0, 16];
+            assert_eq!(read(&[&head[..], &[1; 16]].concat()), None);
+        }
+    }
+
+    #[test]
     fn a_call_is_made_on_a_room() {
         let mut room = Room::empty(BASE);
         let arrive = Call::Arrive { key: KA };
@@ -156,5 +183,18 @@ mod tests {
             Ok(0)
         );
         assert_eq!(leave.make(&mut room, 2_048), Err(3));
+        let tick = Call::Tick { time: 5, ping: 1 };
+        assert_eq!(tick.make(&mut room, 5_119), Err(10));
+        assert_eq!(tick.make(&mut room, 5_120).map(|answer| answer.seat), Ok(0));
+        assert_eq!(room.clock, 5);
+    }
+
+    #[test]
+    fn each_call_has_its_least_output() {
+        let (seat, bytes) = (0, Vec::new());
+        assert_eq!(Call::Arrive { key: KA }.least_output(), 0);
+        assert_eq!(Call::Leave { seat }.least_output(), 2_048);
+        assert_eq!(Call::Packet { seat, bytes }.least_output(), 2_048);
+        assert_eq!(Call::Tick { time: 0, ping: 0 }.least_output(), 5_120);
     }
 }

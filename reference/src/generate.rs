@@ -4,21 +4,30 @@
 //! keeps a room of its own, makes each call on it, and looks at it to choose
 //! the next one. It has moods that last for some calls, so that rooms and
 //! tables get full, and empty again.
+//!
+//! There are histories without ticks, as stored calls have them, and histories
+//! with ticks, whose time goes as `ticking` has it.
 
 use crate::bad_packet::bad_packet;
 use crate::call::{self, Call};
 use crate::key::Key;
 use crate::packet::{write_from_client, FromClient, LONGEST_PACKET};
 use crate::random::Random;
-use crate::room::{Room, Sizes, BASE, LEAST_OUTPUT};
+use crate::room::{Room, Sizes, BASE};
 use crate::seat::Seat;
+use crate::ticking::{ping_number, Ticking};
 
-/// The calls of a history of the base, from the empty room on.
+/// The calls of a history of the base, from the empty room on, without ticks.
 pub fn history(seed: u64, calls: usize) -> Vec<Call> {
     Generator::new(seed, BASE).take(calls).collect()
 }
 
-/// The same, as stored calls.
+/// The calls of a history of the base, from the empty room on, with ticks.
+pub fn history_with_ticks(seed: u64, calls: usize) -> Vec<Call> {
+    Generator::with_ticks(seed, BASE).take(calls).collect()
+}
+
+/// A history without ticks, as stored calls.
 pub fn stored_history(seed: u64, calls: usize) -> Vec<u8> {
     call::write_all(&history(seed, calls)).expect("no packet of over 65,535 bytes is made")
 }
@@ -41,6 +50,8 @@ pub struct Generator {
     favourite: usize,
     /// The seat of the last client that was made to ask for its own key.
     asked_itself: usize,
+    /// The time, in a history with ticks.
+    ticking: Option<Ticking>,
 }
 
 /// What most calls are about for a while.
@@ -51,8 +62,12 @@ enum Mood {
     Asking,
     Talking,
     Garbling,
+    /// Everybody asks for everybody. Only where there are ticks: these clients
+    /// are put out together.
+    Meeting,
 }
 
+/// The moods of any history.
 const MOODS: [Mood; 5] = [
     Mood::Arriving,
     Mood::Leaving,
@@ -71,6 +86,7 @@ impl Mood {
             Mood::Asking => [4, 1, 65, 4, 10, 4, 2, 6, 4],
             Mood::Talking => [4, 3, 30, 14, 30, 8, 4, 4, 3],
             Mood::Garbling => [4, 2, 12, 8, 12, 8, 8, 38, 8],
+            Mood::Meeting => [9, 0, 85, 1, 3, 1, 0, 1, 0],
         }
     }
 }
@@ -79,6 +95,10 @@ impl Iterator for Generator {
     type Item = Call;
 
     fn next(&mut self) -> Option<Call> {
+        if let Some(call) = self.timely() {
+            self.make(&call);
+            return Some(call);
+        }
         if self.lasts == 0 {
             self.change_mood();
         }
@@ -93,6 +113,7 @@ impl Iterator for Generator {
 }
 
 impl Generator {
+    /// A history without ticks.
     pub fn new(seed: u64, sizes: Sizes) -> Generator {
         let mut random = Random::new(seed);
         let keys = keys(&mut random, sizes.seats + sizes.numbers + 8);
@@ -105,7 +126,15 @@ impl Generator {
             lasts: 60,
             favourite: 0,
             asked_itself: 0,
+            ticking: None,
         }
+    }
+
+    /// A history with ticks.
+    pub fn with_ticks(seed: u64, sizes: Sizes) -> Generator {
+        let mut generator = Generator::new(seed, sizes);
+        generator.ticking = Some(Ticking::new(&mut generator.random));
+        generator
     }
 
     /// The room after the calls made so far.
@@ -114,18 +143,35 @@ impl Generator {
     }
 
     fn change_mood(&mut self) {
+        if let Some(ticking) = &mut self.ticking {
+            if self.mood == Mood::Meeting {
+                ticking.fall_silent(&mut self.random);
+            } else if self.random.percent(6) {
+                ticking.settle();
+                return self.meet();
+            }
+        }
         self.mood = self.random.one_of(&MOODS).expect("a mood");
         self.lasts = 40 + self.random.below(100);
         self.favourite = self.any_taken();
     }
 
+    /// Goes on in the mood of meeting, at times until all tables are full.
+    fn meet(&mut self) {
+        let seats = self.room.seats.len();
+        let requests = seats * seats.min(self.room.numbers);
+        self.mood = Mood::Meeting;
+        self.lasts = 20 + self.random.below(1 + requests + requests / 4);
+    }
+
     /// Whether there is little left to do in this mood: nobody more can arrive,
-    /// or few are left to leave.
+    /// few are left to leave, or no table has a free number.
     fn mood_is_spent(&self) -> bool {
         let taken = self.taken().len();
         match self.mood {
             Mood::Arriving => taken == self.room.seats.len(),
             Mood::Leaving => taken < 3,
+            Mood::Meeting => taken == self.room.seats.len() && self.tables_are_full(),
             _ => false,
         }
     }
@@ -160,17 +206,90 @@ impl Generator {
         unreachable!("the shares are a hundred in all")
     }
 
-    /// Makes the call on the own room, and remembers who left.
+    /// Makes the call on the own room, and remembers who left and who is pinged.
     fn make(&mut self, call: &Call) {
-        if let Call::Leave { seat } = call {
-            let leaver = self.room.client(usize::from(*seat));
-            self.left.extend(leaver.map(|leaver| leaver.key));
+        let seated: Vec<Option<Key>> = (0..self.room.seats.len())
+            .map(|seat| self.own_key(seat))
+            .collect();
+        // What is refused changes nothing, and is part of the history.
+        let answer = call.make(&mut self.room, call.least_output());
+        for (seat, key) in seated.into_iter().enumerate() {
+            if self.room.client(seat).is_none() {
+                self.left.extend(key);
+            }
         }
-        if self.left.len() > 8 {
+        while self.left.len() > 8 {
             self.left.remove(0);
         }
-        // What is refused changes nothing, and is part of the history.
-        let _ = call.make(&mut self.room, LEAST_OUTPUT);
+        if let (Call::Tick { ping, .. }, Ok(accepted), Some(ticking)) =
+            (call, answer, &mut self.ticking)
+        {
+            ticking.note(&mut self.random, *ping, &accepted.records);
+        }
+    }
+}
+
+/// Time, in a history with ticks.
+impl Generator {
+    /// A tick or a pong, if it is time for one.
+    fn timely(&mut self) -> Option<Call> {
+        let ticking = self.ticking.as_mut()?;
+        if let Some((seat, id)) = ticking.next_pong(&mut self.random) {
+            return Some(self.packet(seat, &FromClient::Pong { id }));
+        }
+        if let Some((time, ping)) = ticking.next_tick(&mut self.random, self.room.clock) {
+            return Some(Call::Tick { time, ping });
+        }
+        if self.random.percent(5) {
+            return Some(self.any_pong());
+        }
+        None
+    }
+
+    /// A pong with the outstanding number, with another client's, with that of a
+    /// former ping, or with any; often of a client that has one outstanding.
+    fn any_pong(&mut self) -> Call {
+        let seat = match self.random.below(2) {
+            0 => self.seat_that_owes_a_pong(),
+            _ => None,
+        };
+        let seat = seat.unwrap_or_else(|| self.any_taken());
+        let id = match self.random.below(10) {
+            0..=1 => self.outstanding(seat),
+            2..=4 => self.anothers_outstanding(seat),
+            5..=8 => self.former_ping(),
+            _ => None,
+        };
+        let id = id.unwrap_or_else(|| ping_number(&mut self.random));
+        self.packet(seat, &FromClient::Pong { id })
+    }
+
+    /// A taken seat with a ping not yet answered.
+    fn seat_that_owes_a_pong(&mut self) -> Option<usize> {
+        let mut seats = self.taken();
+        seats.retain(|seat| self.outstanding(*seat).is_some());
+        self.random.one_of(&seats)
+    }
+
+    /// The number that this seat has not yet answered.
+    fn outstanding(&self, seat: usize) -> Option<u64> {
+        let client = self.room.client(seat)?;
+        client.owes_pong().then_some(client.outstanding)
+    }
+
+    /// A number that another seat has not yet answered, and this one does not owe.
+    fn anothers_outstanding(&mut self, seat: usize) -> Option<u64> {
+        let own = self.outstanding(seat);
+        let all = self.taken().into_iter();
+        let numbers: Vec<u64> = all
+            .filter_map(|other| self.outstanding(other))
+            .filter(|number| Some(*number) != own)
+            .collect();
+        self.random.one_of(&numbers)
+    }
+
+    fn former_ping(&mut self) -> Option<u64> {
+        self.ticking.as_ref()?.former(&mut self.random)
     }
 }
 
@@ -199,6 +318,9 @@ impl Generator {
     }
 
     fn request(&mut self) -> Call {
+        if self.mood == Mood::Meeting && self.random.percent(97) {
+            return self.request_in_a_meeting();
+        }
         if self.random.percent(6) {
             return self.request_for_itself();
         }
@@ -222,6 +344,21 @@ impl Generator {
         };
         let key = key.unwrap_or_else(|| self.any_key());
         self.packet(seat, &FromClient::RoutingRequest { key })
+    }
+
+    /// A request that connects, or one for a seated client not asked for yet; with
+    /// none such, another client comes.
+    fn request_in_a_meeting(&mut self) -> Call {
+        let seat = self.seat_with_free_number();
+        let seat = seat.unwrap_or_else(|| self.any_taken());
+        let key = match self.random.below(10) {
+            0..=7 => self.key_that_waits_for(seat),
+            _ => None,
+        };
+        match key.or_else(|| self.key_to_meet(seat)) {
+            Some(key) => self.packet(seat, &FromClient::RoutingRequest { key }),
+            None => self.arrival(),
+        }
     }
 
     /// A request for the own key: by a client with an empty table or a full one,
@@ -277,8 +414,7 @@ impl Generator {
 
     fn ping_or_pong(&mut self) -> Call {
         let seat = self.any_taken();
-        // One bit anywhere, and a byte: numbers of every size, and never 0.
-        let id = 1 << self.random.below(64) | u64::from(self.random.byte()) << 8;
+        let id = ping_number(&mut self.random);
         if self.random.percent(60) {
             self.packet(seat, &FromClient::Ping { id })
         } else {
@@ -363,6 +499,18 @@ impl Generator {
         self.random.one_of(&seats)
     }
 
+    fn tables_are_full(&self) -> bool {
+        let mut clients = self.room.seats.iter().flatten();
+        clients.all(|client| client.lowest_free().is_none())
+    }
+
+    /// A taken seat of which some number names no route.
+    fn seat_with_free_number(&mut self) -> Option<usize> {
+        let mut seats = self.taken();
+        seats.retain(|seat| self.held(*seat).len() < self.room.numbers);
+        self.random.one_of(&seats)
+    }
+
     /// An empty seat, or one above the last.
     fn seat_not_taken(&mut self) -> u8 {
         let empty: Vec<u8> = (0..self.room.seats.len())
@@ -436,6 +584,20 @@ impl Generator {
             .map(|other| other.key)
             .collect();
         self.random.one_of(&waiting)
+    }
+
+    /// The key of another client that this seat has not asked for, and that can
+    /// ask back.
+    fn key_to_meet(&mut self, seat: usize) -> Option<Key> {
+        let own = self.room.client(seat)?;
+        let can_meet = |other: &&Seat| {
+            other.key != own.key
+                && own.number_for(&other.key).is_none()
+                && other.lowest_free().is_some()
+        };
+        let others = self.room.seats.iter().flatten().filter(can_meet);
+        let keys: Vec<Key> = others.map(|other| other.key).collect();
+        self.random.one_of(&keys)
     }
 
     /// A number of a seat that is connected; after some tries just a held one.

@@ -2,12 +2,12 @@
 //!
 //! Lent memory is tested in full before use: 11 comes behind 10 and before the
 //! room's own refusals, so the order is 10, 11, 3 and on for a packet, 10, 11,
-//! 3 for a leave, and 11, 2, 1 for an arrival.
+//! 3 for a leave, 11, 2, 1 for an arrival, and 10, 11, 7, 19 for a tick.
 
 use crate::call::Call;
 use crate::memory;
 use crate::refusal::{self, Refusal};
-use crate::room::{Accepted, Room, Sizes, LEAST_OUTPUT};
+use crate::room::{Accepted, Room, Sizes};
 
 /// Makes a call on the room that the memory holds. Answers the room after the
 /// call and what the call comes to; a refused call leaves the memory as it was.
@@ -17,17 +17,12 @@ pub fn make(
     call: &Call,
     output_len: usize,
 ) -> Result<(Room, Accepted), Refusal> {
-    if takes_output(call) && output_len < LEAST_OUTPUT {
+    if output_len < call.least_output() {
         return Err(refusal::OUTPUT);
     }
     let mut room = memory::decode_of(sizes, memory).ok_or(refusal::ROOM)?;
     let accepted = call.make(&mut room, output_len)?;
     Ok((room, accepted))
-}
-
-/// An arrival writes nothing and is lent no output.
-fn takes_output(call: &Call) -> bool {
-    !matches!(call, Call::Arrive { .. })
 }
 
 #[cfg(test)]
@@ -138,6 +133,86 @@ mod tests {
             assert_eq!(accepted.records.len(), 1);
             assert_eq!(accepted.records[0].seat, 0);
             assert_eq!(accepted.records[0].packet, answer);
+        }
+    }
+
+    /// Request 03 of document 02: "Refusals: 10 (tick output under 5,120), 11, 7,
+    /// 19 for a clock that goes back."
+    #[test]
+    fn a_tick_is_refused_with_10_11_7_and_19_in_this_order() {
+        let mut room = one_client();
+        room.clock = 60;
+        let whole = memory::encode(&room);
+        let short = &whole[..whole.len() - 1];
+        for (time, ping) in [(59, 0), (60, 0), (61, 0), (59, 7), (60, 7), (61, 7)] {
+            let tick = Call::Tick { time, ping };
+            assert_eq!(answer(short, &tick, 5_119), Err(10));
+            assert_eq!(answer(&whole, &tick, 5_119), Err(10));
+            assert_eq!(answer(short, &tick, 5_120), Err(11));
+            let comes_to = match (time, ping) {
+                (_, 0) => Err(7),
+                (59, _) => Err(19),
+                _ => Ok(0),
+            };
+            assert_eq!(answer(&whole, &tick, 5_120), comes_to);
+        }
+        // A packet and a leave need no more output than before.
+        let leave = Call::Leave { seat: 0 };
+        assert_eq!(answer(&whole, &leave, 2_048), Ok(0));
+    }
+
+    #[test]
+    fn a_tick_on_lent_memory_answers_the_clock_and_the_pings() {
+        let tick = Call::Tick { time: 30, ping: 7 };
+        let (room, accepted) = make(BASE, &lent(), &tick, 5_120).unwrap();
+        let client = room.client(0).unwrap();
+        assert_eq!(
+            (room.clock, client.ping_time, client.outstanding),
+            (30, 30, 7)
+        );
+        assert_eq!(accepted.records.len(), 1);
+        let memory = memory::encode(&room);
+        let tick = Call::Tick { time: 40, ping: 8 };
+        let (room, accepted) = make(BASE, &memory, &tick, 5_120).unwrap();
+        assert_eq!((room.clock, room.client(0)), (40, None));
+        assert_eq!(accepted.records, []);
+    }
+
+    /// "A ping time after the clock makes a room not whole.": each call refuses
+    /// it, at the place of 11 in its order.
+    #[test]
+    fn a_room_with_a_ping_time_after_the_clock_is_refused_with_11() {
+        let at = |ping_time| {
+            let mut room = one_client();
+            room.clock = 60;
+            room.seats[0].as_mut().unwrap().ping_time = ping_time;
+            memory::encode(&room)
+        };
+        let packet = |seat, bytes: &[u8]| Call::Packet {
+            seat,
+            bytes: bytes.to_vec(),
+        };
+        let calls = [
+            (packet(0, &[5, 0, 0, 0, 0, 0, 0, 0, 1]), Ok(0)),
+            (packet(0, &[]), Err(4)),
+            (packet(1, &[]), Err(3)),
+            (Call::Leave { seat: 0 }, Ok(0)),
+            (Call::Leave { seat: 1 }, Err(3)),
+            (Call::Arrive { key: [0x11; 32] }, Err(2)),
+            (Call::Arrive { key: [0x22; 32] }, Ok(1)),
+            (Call::Tick { time: 61, ping: 1 }, Ok(0)),
+            (Call::Tick { time: 59, ping: 1 }, Err(19)),
+            (Call::Tick { time: 59, ping: 0 }, Err(7)),
+        ];
+        for (call, comes_to) in calls {
+            let least = call.least_output();
+            if least > 0 {
+                assert_eq!(answer(&at(61), &call, least - 1), Err(10));
+            }
+            assert_eq!(answer(&at(61), &call, least), Err(11));
+            assert_eq!(answer(&at(u64::MAX), &call, least), Err(11));
+            assert_eq!(answer(&at(60), &call, least), comes_to);
+            assert_eq!(answer(&at(0), &call, least), comes_to);
         }
     }
 }

@@ -5,16 +5,21 @@ use crate::random::Random;
 use crate::room::LEAST_OUTPUT;
 
 /// Where the table of seats starts: its count, then its order.
-const SEATS: usize = 2;
+const SEATS: usize = 10;
 
 /// Where the record of a seat starts, in the base.
 fn seat_at(seat: usize) -> usize {
-    SEATS + 1 + 40 + seat * 1_097
+    SEATS + 1 + 40 + seat * 1_105
+}
+
+/// Where the ping time of a seat starts, and behind it the outstanding ping.
+fn pings_at(seat: usize) -> usize {
+    seat_at(seat) + 32
 }
 
 /// Where the table of routes of a seat starts: its count, then its order.
 fn routes_at(seat: usize) -> usize {
-    seat_at(seat) + 32 + 8
+    pings_at(seat) + 8 + 8
 }
 
 /// Where the wanted key of a route starts.
@@ -30,8 +35,13 @@ fn key(number: u8) -> Key {
     key
 }
 
+/// The clock of `room()`, and what its seats were last pinged with.
+const TIME: u64 = 0x0102_0304_0506_0708;
+const PING: u64 = 0x1112_1314_1516_1718;
+
 /// Six clients; seat 4 is empty again, and seats 1 and 3 have routes with a gap
-/// and name each other.
+/// and name each other. Each has a ping time of its own, up to the clock, and
+/// those in even seats owe a pong.
 fn room() -> Room {
     let mut room = Room::empty(BASE);
     for number in 0..6 {
@@ -45,6 +55,12 @@ fn room() -> Room {
         room.packet(seat, &[3, 18], LEAST_OUTPUT).unwrap();
     }
     room.leave(4, LEAST_OUTPUT).unwrap();
+    room.clock = TIME;
+    for (seat, client) in room.seats.iter_mut().enumerate() {
+        let Some(client) = client else { continue };
+        client.ping_time = TIME - seat as u64;
+        client.outstanding = PING * (1 - seat as u64 % 2);
+    }
     room
 }
 
@@ -89,13 +105,14 @@ fn laid_over(sizes: Sizes, memory: &[u8], under: &[u8]) -> Vec<u8> {
     let mut lay = |from: usize, count: usize| {
         laid[from..from + count].copy_from_slice(&memory[from..from + count]);
     };
-    let width = 40 + 1 + sizes.numbers * 33;
-    lay(0, 3 + usize::from(memory[2]));
-    for seat in &memory[3..3 + usize::from(memory[2])] {
-        let start = 3 + sizes.seats + usize::from(*seat) * width;
-        let routes = start + 40;
+    let width = 48 + 1 + sizes.numbers * 33;
+    let seated = usize::from(memory[10]);
+    lay(0, 11 + seated);
+    for seat in &memory[11..11 + seated] {
+        let start = 11 + sizes.seats + usize::from(*seat) * width;
+        let routes = start + 48;
         let listed = usize::from(memory[routes]);
-        lay(start, 32);
+        lay(start, 48);
         lay(routes, 1 + listed);
         for place in &memory[routes + 1..routes + 1 + listed] {
             lay(routes + 1 + sizes.numbers + usize::from(*place) * 32, 32);
@@ -106,14 +123,20 @@ fn laid_over(sizes: Sizes, memory: &[u8], under: &[u8]) -> Vec<u8> {
 
 #[test]
 fn the_layout_is_the_one_told() {
-    assert_eq!(length(BASE), 43_923);
-    assert_eq!(seat_length(BASE), 1_097);
-    assert_eq!(seat_at(40), 43_923);
+    assert_eq!(length(BASE), 44_251);
+    assert_eq!(seat_length(BASE), 1_105);
+    assert_eq!(seat_at(40), 44_251);
     let memory = encode(&room());
-    assert_eq!(memory.len(), 43_923);
-    assert_eq!(memory[..3], [40, 32, 5]);
+    assert_eq!(memory.len(), 44_251);
+    assert_eq!(memory[..11], [40, 32, 1, 2, 3, 4, 5, 6, 7, 8, 5]);
     assert_eq!(memory[seat_at(3)..seat_at(3) + 32], key(3));
-    assert_eq!(memory[seat_at(3) + 32..routes_at(3)], [0; 8]);
+    let pings = &memory[pings_at(3)..routes_at(3)];
+    assert_eq!(pings, [1, 2, 3, 4, 5, 6, 7, 5, 0, 0, 0, 0, 0, 0, 0, 0]);
+    let outstanding = &memory[pings_at(2) + 8..routes_at(2)];
+    assert_eq!(
+        outstanding,
+        [0x11, 0x12, 0x13, 0x14, 0x15, 0x16, 0x17, 0x18]
+    );
     assert_eq!(memory[routes_at(3)], 4);
     assert_eq!(memory[route_at(3, 4)..route_at(3, 4) + 32], key(2));
 }
@@ -145,11 +168,23 @@ fn the_empty_room_is_two_sizes_and_zero_bytes() {
 #[test]
 fn memory_one_byte_short_is_not_whole_and_longer_memory_is() {
     let memory = encode(&room());
-    for length in [0, 1, 2, 3, 43_922] {
+    for length in [0, 1, 2, 3, 9, 10, 11, 44_250] {
         refused(&memory[..length]);
     }
     let longer = [&memory[..], &[0xff; 100]].concat();
     assert_eq!(decode(&longer), Some(room()));
+}
+
+#[test]
+fn a_room_has_at_most_40_seats() {
+    let sizes = |seats| Sizes { seats, numbers: 1 };
+    let forty = encode(&Room::empty(sizes(40)));
+    assert!(whole_of(sizes(40), &forty));
+    let mut more = forty.clone();
+    more.resize(length(sizes(41)), 0);
+    more[0] = 41;
+    assert!(!whole_of(sizes(41), &more));
+    assert_eq!(decode_of(sizes(41), &more), None);
 }
 
 #[test]
@@ -267,7 +302,7 @@ fn the_routes_of_every_listed_seat_are_tested() {
 /// One client in this seat, with one route at this place that names this key.
 fn one_route(seat: usize, place: usize, wanted: Key) -> Room {
     let mut room = Room::empty(BASE);
-    room.seats[seat] = Some(Seat::taken_by(&key(0), BASE.numbers));
+    room.seats[seat] = Some(Seat::taken_by(&key(0), BASE.numbers, 0));
     room.seats[seat].as_mut().unwrap().routes[place] = Some(wanted);
     room
 }
@@ -288,8 +323,9 @@ fn routes_for(key: Key, count: usize, lower: usize) -> Vec<Option<Key>> {
     routes
 }
 
-/// The room is not whole, for a seat names its own key; its tables are whole.
-fn refused_for_the_own_key(room: &Room) {
+/// The room is not whole, for a seat names its own key, or for its ping time; its
+/// tables are whole.
+fn refused_though_tables_are_whole(room: &Room) {
     let memory = encode(room);
     assert!(!room.whole());
     assert!(tables_whole(BASE, &memory));
@@ -315,7 +351,7 @@ fn one_seat_with_one_route_for_its_own_key_is_not_whole() {
     for seat in 0..40 {
         for place in 0..32 {
             read_back(&one_route(seat, place, key(1)));
-            refused_for_the_own_key(&one_route(seat, place, key(0)));
+            refused_though_tables_are_whole(&one_route(seat, place, key(0)));
             // The same by damage: the seat's key copied over the wanted one, and
             // the wanted key over the seat's.
             let (own, wanted) = (seat_at(seat), route_at(seat, place));
@@ -336,7 +372,7 @@ fn the_own_key_is_found_at_every_place_of_the_order() {
             room.seats[0].as_mut().unwrap().routes = routes_for(key(0), count, lower);
             let listed = usize::from(encode(&room)[routes_at(0) + 1 + lower]);
             assert_eq!(listed, count - 1 - lower);
-            refused_for_the_own_key(&room);
+            refused_though_tables_are_whole(&room);
             // In the same way the key of another seat, and one of nobody.
             for number in [1, 4] {
                 room.seats[0].as_mut().unwrap().routes = routes_for(key(number), count, lower);
@@ -354,7 +390,7 @@ fn a_full_room_where_any_seat_names_its_own_key_is_not_whole() {
         for lower in [0, 1, 16, 30, 31] {
             let mut room = full.clone();
             room.seats[seat].as_mut().unwrap().routes = routes_for(key(seat as u8), 32, lower);
-            refused_for_the_own_key(&room);
+            refused_though_tables_are_whole(&room);
             // In the same way the key of another seat.
             let other = key((seat as u8 + 1) % 40);
             room.seats[seat].as_mut().unwrap().routes = routes_for(other, 32, lower);
@@ -370,7 +406,7 @@ fn a_room_where_every_seat_names_its_own_key_is_not_whole() {
     for (seat, key) in room.seats.iter_mut().flatten().zip(keys.iter()) {
         seat.routes[7] = Some(*key);
     }
-    refused_for_the_own_key(&room);
+    refused_though_tables_are_whole(&room);
     // Each names the seat above it, and the last names the first.
     let above = keys.iter().cycle().skip(1);
     for (seat, key) in room.seats.iter_mut().flatten().zip(above) {
@@ -412,12 +448,9 @@ fn the_own_key_where_it_is_not_listed_is_no_part_of_the_room() {
 fn what_is_not_listed_is_no_part_of_the_room() {
     let mut memory = encode(&room());
     let before = memory.clone();
-    // The rest of both orders, the headers, an empty seat, a free route.
+    // The rest of both orders, an empty seat, a free route.
     memory[SEATS + 6..seat_at(0)].fill(0xff);
     memory[routes_at(1) + 5..route_at(1, 0)].fill(0xff);
-    for seat in 0..6 {
-        memory[seat_at(seat) + 32..routes_at(seat)].fill(0xff);
-    }
     memory[seat_at(4)..seat_at(5)].fill(0xff);
     memory[seat_at(6)..].fill(0xff);
     memory[route_at(1, 2)..route_at(1, 3)].fill(0xff);
@@ -427,12 +460,86 @@ fn what_is_not_listed_is_no_part_of_the_room() {
     assert_eq!(settled(BASE, &memory), before);
 }
 
+/// The memory of `room()` with this number at this place.
+fn with_number(place: usize, number: u64) -> Vec<u8> {
+    let mut memory = encode(&room());
+    memory[place..place + 8].copy_from_slice(&number.to_be_bytes());
+    memory
+}
+
+#[test]
+fn a_ping_time_after_the_clock_is_not_whole() {
+    let after = [1, 2, 256, 1 << 32, 1 << 56, u64::MAX - TIME];
+    let before = [0, 1, 8, 9, 256, 1 << 32, 1 << 56, TIME];
+    for seat in [0, 1, 2, 3, 5] {
+        let mut room = room();
+        for more in after {
+            refused(&with_number(pings_at(seat), TIME + more));
+            room.seats[seat].as_mut().unwrap().ping_time = TIME + more;
+            refused_though_tables_are_whole(&room);
+        }
+        for less in before {
+            room.seats[seat].as_mut().unwrap().ping_time = TIME - less;
+            assert_eq!(encode(&room), with_number(pings_at(seat), TIME - less));
+            read_back(&room);
+        }
+    }
+    // The same by the clock. The latest ping time is that of seat 0.
+    for less in [1, 2, 256, TIME] {
+        refused(&with_number(CLOCK, TIME - less));
+    }
+    for more in after {
+        let mut room = room();
+        room.clock = TIME + more;
+        assert_eq!(encode(&room), with_number(CLOCK, TIME + more));
+        read_back(&room);
+    }
+}
+
+#[test]
+fn the_ping_time_of_every_listed_seat_is_tested() {
+    let mut full = full_room();
+    full.clock = 600;
+    read_back(&full);
+    for seat in 0..40 {
+        for (time, is_whole) in [(599, true), (600, true), (601, false)] {
+            let mut room = full.clone();
+            room.seats[seat].as_mut().unwrap().ping_time = time;
+            match is_whole {
+                true => read_back(&room),
+                false => refused_though_tables_are_whole(&room),
+            }
+        }
+    }
+}
+
+#[test]
+fn any_outstanding_ping_is_whole() {
+    for seat in [0, 1, 2, 3, 5] {
+        for ping in [0, 1, 256, TIME + 1, u64::MAX] {
+            let mut room = room();
+            room.seats[seat].as_mut().unwrap().outstanding = ping;
+            assert_eq!(encode(&room), with_number(pings_at(seat) + 8, ping));
+            read_back(&room);
+        }
+    }
+}
+
+#[test]
+fn the_pings_of_an_empty_seat_are_no_part_of_the_room() {
+    for seat in [4, 6, 39] {
+        let mut memory = encode(&room());
+        memory[pings_at(seat)..routes_at(seat)].fill(0xff);
+        assert_eq!(decode(&memory), Some(room()));
+    }
+}
+
 /// Copies the key of a seat over a wanted key of that seat or of another, and
 /// lists that route alone.
 fn copy_a_key_over_a_wanted_one(sizes: Sizes, memory: &mut [u8], random: &mut Random) {
-    let start = |seat: usize| 3 + sizes.seats + seat * seat_length(sizes);
+    let start = |seat: usize| 11 + sizes.seats + seat * seat_length(sizes);
     let from = start(random.below(sizes.seats));
-    let routes = start(random.below(sizes.seats)) + 40;
+    let routes = start(random.below(sizes.seats)) + 48;
     let place = random.below(sizes.numbers);
     memory[routes] = 1;
     memory[routes + 1] = place as u8;
@@ -441,8 +548,9 @@ fn copy_a_key_over_a_wanted_one(sizes: Sizes, memory: &mut [u8], random: &mut Ra
 
 /// What is read from whole memory is a whole room, whose own memory is the one
 /// read but for the bytes that are no part of the room. Where the tables are
-/// whole and the memory is not, a seat names its own key. Small rooms and few
-/// different bytes, so that damaged memory is often whole all the same.
+/// whole and the memory is not, a seat names its own key or has a ping time
+/// after the clock. Small rooms and few different bytes, so that damaged memory
+/// is often whole all the same.
 #[test]
 fn whole_memory_is_the_memory_of_the_room_read() {
     let sizes = Sizes {
@@ -450,15 +558,20 @@ fn whole_memory_is_the_memory_of_the_room_read() {
         numbers: 2,
     };
     let mut random = Random::new(1);
-    let (mut tables_damaged, mut names_itself, mut met_whole) = (0, 0, 0);
+    let (mut tables_damaged, mut names_itself, mut pinged_later, mut met_whole) = (0, 0, 0, 0);
     for _ in 0..100_000 {
         let mut memory: Vec<u8> = vec![0; length(sizes)];
-        memory[..3].copy_from_slice(&[3, 2, random.below(4) as u8]);
         // Small bytes, so that counts and places are often in range; and often
         // few that are not 0, so that keys are often equal.
         let chance = random.one_of(&[3, 10, 30]).unwrap();
-        for byte in &mut memory[3..] {
+        for byte in &mut memory {
             *byte = random.below(3) as u8 * u8::from(random.percent(chance));
+        }
+        memory[..2].copy_from_slice(&[3, 2]);
+        memory[10] = random.below(4) as u8;
+        if random.percent(70) {
+            // A clock that no ping time is after.
+            memory[2] = 3;
         }
         if random.percent(50) {
             copy_a_key_over_a_wanted_one(sizes, &mut memory, &mut random);
@@ -471,13 +584,19 @@ fn whole_memory_is_the_memory_of_the_room_read() {
             met_whole += 1;
         } else if tables_whole(sizes, &memory) {
             let room = listed_room(sizes, &memory);
-            assert!(room.seats.iter().flatten().any(Seat::names_itself));
-            names_itself += 1;
+            assert!(!room.whole());
+            let mut clients = room.seats.iter().flatten();
+            if clients.clone().any(Seat::names_itself) {
+                names_itself += 1;
+            } else {
+                assert!(clients.any(|client| client.ping_time > room.clock));
+                pinged_later += 1;
+            }
         } else {
             tables_damaged += 1;
         }
     }
-    let met = [tables_damaged, names_itself, met_whole];
+    let met = [tables_damaged, names_itself, pinged_later, met_whole];
     assert!(met.iter().all(|count| *count > 1_000), "{met:?}");
 }
 

@@ -2,18 +2,21 @@
 //!
 //! A comparison over made-up histories says little unless it is known that they
 //! meet every case. The counter makes each call on a room of its own, which
-//! begins empty, and tells the cases apart by that room and by the answer.
+//! begins empty, and tells the cases apart by that room and by the answer. The
+//! cases that ticks bring are apart, in `met_ticks`.
 
 use std::collections::{BTreeMap, HashMap, HashSet};
 
 use crate::call::Call;
 use crate::key::Key;
+use crate::met_ticks::{self, MetTicks};
 use crate::packet::{relay_read, FromClient};
 use crate::refusal::Refusal;
-use crate::room::{Accepted, Room, Sizes, LEAST_OUTPUT};
+use crate::room::{Accepted, Room, Sizes};
 use crate::seat::Seat;
 
-/// Every case that is counted, in no order.
+/// Every case that is counted for any history, in no order. What a tick comes
+/// to is in none of them.
 pub const CASES: [&str; 46] = [
     "refusal 1",
     "refusal 2",
@@ -77,6 +80,8 @@ pub struct Met {
     /// The seated clients that asked for their own key, each with the case that
     /// the table of its seat made of it.
     asked_itself: HashSet<(Key, &'static str)>,
+    /// The cases that ticks bring.
+    ticks: MetTicks,
 }
 
 impl Met {
@@ -88,14 +93,18 @@ impl Met {
             met_in: HashMap::new(),
             parted: HashSet::new(),
             asked_itself: HashSet::new(),
+            ticks: MetTicks::default(),
         }
     }
 
     /// Begins another history. The counts go on.
     pub fn begin(&mut self) {
         let counts = std::mem::take(&mut self.counts);
+        let mut ticks = std::mem::take(&mut self.ticks);
+        ticks.begin();
         *self = Met {
             counts,
+            ticks,
             ..Met::new(self.room.sizes())
         };
     }
@@ -105,19 +114,47 @@ impl Met {
         &self.room
     }
 
-    /// How often each case was met.
+    /// How often each case of `CASES` was met.
     pub fn counts(&self) -> &BTreeMap<&'static str, usize> {
         &self.counts
     }
 
+    /// How often each case of `met_ticks::TICK_CASES` was met.
+    pub fn tick_counts(&self) -> &BTreeMap<&'static str, usize> {
+        self.ticks.counts()
+    }
+
+    /// The most bytes that a tick wrote.
+    pub fn largest_tick(&self) -> usize {
+        self.ticks.largest()
+    }
+
     /// Makes a call, answers what it comes to, and counts its cases.
     pub fn make(&mut self, call: &Call) -> Result<Accepted, Refusal> {
+        if let Call::Tick { time, .. } = call {
+            return self.make_tick(call, *time);
+        }
         self.count_before(call);
         let keys = self.seated_keys();
-        let answer = call.make(&mut self.room, LEAST_OUTPUT);
+        let answer = call.make(&mut self.room, call.least_output());
         match &answer {
             Ok(accepted) => self.count_accepted(call, accepted, &keys),
             Err(number) => self.count_refused(call, *number),
+        }
+        answer
+    }
+
+    /// Makes a tick of this time. It adds to no case of `CASES`, but those that it
+    /// puts out are away from then on.
+    fn make_tick(&mut self, call: &Call, time: u64) -> Result<Accepted, Refusal> {
+        let before = self.room.clone();
+        let answer = call.make(&mut self.room, call.least_output());
+        match &answer {
+            Ok(accepted) => {
+                self.ticks.count_accepted(&before, accepted, &self.room);
+                self.note_put_out(&before);
+            }
+            Err(number) => self.ticks.count_refused(&before, time, *number),
         }
         answer
     }
@@ -144,10 +181,20 @@ impl Met {
 
     /// The cases that the room before the call tells.
     fn count_before(&mut self, call: &Call) {
-        let Call::Packet { seat, bytes } = call else {
-            return;
-        };
-        let seat = usize::from(*seat);
+        match call {
+            Call::Leave { seat } => self.count_before_leave(usize::from(*seat)),
+            Call::Packet { seat, bytes } => self.count_before_packet(usize::from(*seat), bytes),
+            Call::Arrive { .. } | Call::Tick { .. } => {}
+        }
+    }
+
+    fn count_before_leave(&mut self, seat: usize) {
+        if let Some(leaver) = self.room.client(seat) {
+            self.ticks.count_leave(leaver);
+        }
+    }
+
+    fn count_before_packet(&mut self, seat: usize, bytes: &[u8]) {
         let (Some(client), Ok(packet)) = (self.room.client(seat), relay_read(bytes)) else {
             return;
         };
@@ -157,7 +204,10 @@ impl Met {
             FromClient::RoutingRequest { key } => self.count_request(seat, &key),
             FromClient::Drop { number } => self.count_drop(seat, number),
             FromClient::Ping { .. } => self.count("ping"),
-            FromClient::Pong { .. } => self.count("pong"),
+            FromClient::Pong { id } => {
+                self.count("pong");
+                self.ticks.count_pong(&self.room, seat, id);
+            }
             FromClient::OobSend { key, .. } => self.count_out_of_band(seat, &key),
             FromClient::Data { number, data } => self.count_data(seat, number, data.len()),
         }
@@ -262,8 +312,7 @@ impl Met {
             Call::Arrive { key } => self.count_arrival(seat, key),
             Call::Leave { .. } => {
                 let own = keys[seat].expect("a taken seat");
-                self.last_seat.insert(own, seat);
-                self.asked_itself.retain(|(asker, _)| *asker != own);
+                self.note_gone(own, seat);
                 self.count_disconnects("disconnect by leave", own, &peers(3), keys);
                 self.count_if(peers(3).len() > 1, "leave that tells two peers or more");
                 self.count_if(peers(3).is_empty(), "leave that tells nobody");
@@ -280,11 +329,36 @@ impl Met {
                     self.count_if(differ, "connect under different numbers");
                 }
             }
-            Call::Packet { .. } => {}
+            Call::Packet { .. } | Call::Tick { .. } => {}
+        }
+        if let Call::Packet { .. } = call {
+            self.ticks.note_packet(keys[seat].expect("a taken seat"));
+        }
+    }
+
+    /// Remembers who left, from where.
+    fn note_gone(&mut self, own: Key, seat: usize) {
+        self.last_seat.insert(own, seat);
+        self.asked_itself.retain(|(asker, _)| *asker != own);
+    }
+
+    /// Remembers those that a tick put out, and whom they were connected with.
+    fn note_put_out(&mut self, before: &Room) {
+        for (seat, client) in before.seats.iter().enumerate() {
+            let Some(client) = client else { continue };
+            if self.room.client(seat).is_some() {
+                continue;
+            }
+            self.note_gone(client.key, seat);
+            for peer in met_ticks::peers(before, seat) {
+                let peer = before.client(peer).expect("a taken seat").key;
+                self.parted.extend([(client.key, peer), (peer, client.key)]);
+            }
         }
     }
 
     fn count_arrival(&mut self, seat: usize, key: &Key) {
+        self.ticks.count_arrival(seat);
         let last = self.last_seat.get(key).copied();
         let moved = last.is_some_and(|last| last != seat);
         let mut others = self.room.seats.iter().flatten();

@@ -15,7 +15,7 @@ pub const PACKET_SIZE: u8 = 4;
 pub const KIND: u8 = 5;
 /// The wrong length for the kind.
 pub const LENGTH: u8 = 6;
-/// Ping number 0, in a ping or in a pong.
+/// Ping number 0, in a ping, in a pong or in a tick.
 pub const PING_NUMBER: u8 = 7;
 /// In the room: a number that names no route. At the client's end: an answer
 /// with number 1 to 15, or a connected or disconnected packet with a number
@@ -23,9 +23,9 @@ pub const PING_NUMBER: u8 = 7;
 pub const ROUTE_NUMBER: u8 = 8;
 /// Data on a waiting route.
 pub const WAITING: u8 = 9;
-/// For a packet call or a leave: an output of under 2,048 bytes. For a writer:
-/// the output is shorter than what would be written. For the frame reader: a
-/// keep of under 2,050 bytes.
+/// For a packet call or a leave: an output of under 2,048 bytes. For a tick: one
+/// of under 5,120 bytes. For a writer: the output is shorter than what would be
+/// written. For the frame reader: a keep of under 2,050 bytes.
 pub const OUTPUT: u8 = 10;
 /// The lent memory holds no whole room.
 pub const ROOM: u8 = 11;
@@ -45,3 +45,5 @@ pub const NODE_COUNT: u8 = 17;
 /// A length under 17 or above 2,048, or a reader holding 2 or more bytes that
 /// start no unfinished frame.
 pub const FRAME: u8 = 18;
+/// A clock that goes back: a tick whose time is before the clock.
+pub const CLOCK: u8 = 19;

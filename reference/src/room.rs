@@ -1,12 +1,13 @@
 //! The room: the relay itself, as a plain value that its calls change.
 //!
-//! The rules are those of document 01 under "The room", changed by request 02 of
-//! document 02, "A client that asks for itself". The order of refusals is the
-//! one under "Refusal numbers". Each function names its rule.
+//! The rules are those of document 01 under "The room", changed by two requests
+//! of document 02: 02, "A client that asks for itself", and 03, "Notice dead
+//! laptops". The order of refusals is the one under "Refusal numbers", for a
+//! tick the one of its request. Each function names its rule.
 //!
-//! Nothing is kept but the seats, their keys and the wanted keys. Whether two
-//! clients are connected is looked up each time from just these, so that no
-//! link can outlive the client it led to.
+//! Nothing is kept but the seats, their keys, the wanted keys, the pings and the
+//! clock. Whether two clients are connected is looked up each time from just the
+//! keys, so that no link can outlive the client it led to.
 
 use crate::key::Key;
 use crate::packet::{relay_read, FromClient, FromRelay};
@@ -27,9 +28,20 @@ pub const BASE: Sizes = Sizes {
     numbers: 32,
 };
 
+impl Sizes {
+    /// Whether a room may have these sizes: it has at most 40 seats, and its
+    /// numbers are among 16 to 255.
+    pub fn right(self) -> bool {
+        self.seats <= 40 && self.numbers <= 240
+    }
+}
+
 /// A packet call and a leave are given at least so much output (refusal 10),
 /// whatever they would write.
 pub const LEAST_OUTPUT: usize = 2_048;
+
+/// A tick is given at least so much output (refusal 10), whatever it would write.
+pub const LEAST_TICK_OUTPUT: usize = 5_120;
 
 /// A room. An empty seat is `None`, so it holds no routes.
 #[derive(Debug, Clone, PartialEq, Eq)]
@@ -37,12 +49,15 @@ pub struct Room {
     pub seats: Vec<Option<Seat>>,
     /// How many connection numbers each seat has.
     pub numbers: usize,
+    /// "the room gets a clock in whole seconds, first 0".
+    pub clock: u64,
 }
 
 /// What an accepted call comes to.
 #[derive(Debug, Clone, PartialEq, Eq)]
 pub struct Accepted {
-    /// The seat answered to an arrival, or else the seat that made the call.
+    /// The seat answered to an arrival, or else the seat that made the call; 0 for
+    /// a tick, which has none.
     pub seat: usize,
     /// What is sent, in the order sent.
     pub records: Vec<Record>,
@@ -59,42 +74,53 @@ impl Room {
         let Some(seat) = self.seats.iter().position(Option::is_none) else {
             return Err(refusal::ROOM_FULL);
         };
-        self.seats[seat] = Some(Seat::taken_by(key, self.numbers));
+        self.seats[seat] = Some(Seat::taken_by(key, self.numbers, self.clock));
         Ok(Accepted {
             seat,
             records: Vec::new(),
         })
     }
 
-    /// Rule "Leave(seat)", with refusals 10, 3. In rising number of the leaver
-    /// each connected peer is told disconnected with the peer's own number. Its
-    /// route goes on waiting.
+    /// Rule "Leave(seat)", with refusals 10, 3.
     pub fn leave(&mut self, seat: usize, output_len: usize) -> Result<Accepted, Refusal> {
-        check_output(output_len)?;
-        let leaver = self.check_seat(seat)?;
-        let records = leaver
-            .numbers()
-            .filter_map(|number| self.disconnect_notification(seat, number))
-            .collect();
-        self.seats[seat] = None;
+        check_output(output_len, LEAST_OUTPUT)?;
+        self.check_seat(seat)?;
+        let records = self.go(seat);
         Ok(Accepted { seat, records })
     }
 
+    /// Request 03 of document 02, "A tick brings the time and a nonzero ping
+    /// number", with refusals 10, 7, 19. First the silent clients leave, then the
+    /// remaining ones are pinged. The clock becomes the time, and ages go by it.
+    pub fn tick(&mut self, time: u64, ping: u64, output_len: usize) -> Result<Accepted, Refusal> {
+        check_output(output_len, LEAST_TICK_OUTPUT)?;
+        if ping == 0 {
+            return Err(refusal::PING_NUMBER);
+        }
+        if time < self.clock {
+            return Err(refusal::CLOCK);
+        }
+        self.clock = time;
+        let mut records = self.put_out();
+        records.extend(self.ping(ping));
+        Ok(Accepted { seat: 0, records })
+    }
+
     /// A packet call, with refusals 10, 3, those of the relay's reader 4, 5, 6, 7,
-    /// then 8, 9. Of the rules, "Ping" and "Pong" are short enough to stand here.
+    /// then 8, 9. Of the rules, "Ping" is short enough to stand here.
     pub fn packet(
         &mut self,
         seat: usize,
         packet: &[u8],
         output_len: usize,
     ) -> Result<Accepted, Refusal> {
-        check_output(output_len)?;
+        check_output(output_len, LEAST_OUTPUT)?;
         self.check_seat(seat)?;
         let records = match relay_read(packet)? {
             FromClient::RoutingRequest { key } => self.request(seat, &key),
             FromClient::Drop { number } => self.drop_route(seat, number)?,
             FromClient::Ping { id } => vec![record(seat, &FromRelay::Pong { id })],
-            FromClient::Pong { .. } => Vec::new(),
+            FromClient::Pong { id } => self.pong(seat, id),
             FromClient::OobSend { key, data } => self.out_of_band(seat, &key, data),
             FromClient::Data { number, data } => self.data(seat, number, data)?,
         };
@@ -150,6 +176,13 @@ impl Room {
         Ok(notification.into_iter().collect())
     }
 
+    /// Rule "Pong", with request 03 of document 02: "A pong with the outstanding
+    /// number clears it; other pongs do nothing." Nobody is sent anything.
+    fn pong(&mut self, seat: usize, id: u64) -> Vec<Record> {
+        self.taken_mut(seat).note_pong(id);
+        Vec::new()
+    }
+
     /// Rule "Out-of-band send". Goes to the seat that holds the key, the
     /// sender's own too, with the sender's key put in. With no such seat it is
     /// accepted and nothing is sent.
@@ -186,15 +219,61 @@ impl Room {
     }
 }
 
+/// What a leave and a tick do.
+impl Room {
+    /// The client in this taken seat goes. In rising number of the leaver each
+    /// connected peer is told disconnected with the peer's own number; its route
+    /// goes on waiting. "The seat and its routes are emptied."
+    fn go(&mut self, seat: usize) -> Vec<Record> {
+        let leaver = self.taken(seat);
+        let records = leaver
+            .numbers()
+            .filter_map(|number| self.disconnect_notification(seat, number))
+            .collect();
+        self.seats[seat] = None;
+        records
+    }
+
+    /// "First, in rising seat order, every seat whose ping has stood unanswered
+    /// for 10 seconds or more leaves as if it had called." One goes after the
+    /// other, so one that goes tells a higher seat that goes next.
+    fn put_out(&mut self) -> Vec<Record> {
+        let mut records = Vec::new();
+        for seat in 0..self.seats.len() {
+            let dead = self
+                .client(seat)
+                .is_some_and(|client| client.is_dead(self.clock));
+            if dead {
+                records.extend(self.go(seat));
+            }
+        }
+        records
+    }
+
+    /// "Then every remaining seat with none outstanding, last pinged 30 seconds
+    /// ago or more, is pinged in that order."
+    fn ping(&mut self, id: u64) -> Vec<Record> {
+        let mut records = Vec::new();
+        for (seat, client) in self.seats.iter_mut().enumerate() {
+            let Some(client) = client else { continue };
+            if client.is_ping_due(self.clock) {
+                client.note_ping(self.clock, id);
+                records.push(record(seat, &FromRelay::Ping { id }));
+            }
+        }
+        records
+    }
+}
+
 /// Looking around in a room.
 impl Room {
-    /// The empty room. Seats, and the count of seats, stand in one byte; so do
-    /// the numbers, the lowest of which is 16.
+    /// The empty room, with its clock at 0.
     pub fn empty(sizes: Sizes) -> Room {
-        assert!(sizes.seats <= 255 && sizes.numbers <= 240);
+        assert!(sizes.right());
         Room {
             seats: vec![None; sizes.seats],
             numbers: sizes.numbers,
+            clock: 0,
         }
     }
 
@@ -231,8 +310,8 @@ impl Room {
     }
 
     /// Whether the room is whole: seated keys differ, the wanted keys of one
-    /// seat differ, and no seat names its own key. Empty seats hold no routes by
-    /// their form.
+    /// seat differ, no seat names its own key, and no ping time is after the
+    /// clock. Empty seats hold no routes by their form.
     pub fn whole(&self) -> bool {
         let clients: Vec<&Seat> = self.seats.iter().flatten().collect();
         let seated = clients.iter().map(|client| client.key).collect();
@@ -241,6 +320,7 @@ impl Room {
                 .iter()
                 .all(|client| differ(client.routes.iter().flatten().copied().collect()))
             && !clients.iter().any(|client| client.names_itself())
+            && clients.iter().all(|client| client.ping_time <= self.clock)
     }
 
     /// A seat that is known to be taken.
@@ -267,9 +347,10 @@ impl Room {
     }
 }
 
-/// Refusal 10, which goes by 2,048 even where nothing would be written.
-fn check_output(output_len: usize) -> Result<(), Refusal> {
-    if output_len < LEAST_OUTPUT {
+/// Refusal 10, which goes by the least output of the call even where nothing
+/// would be written.
+fn check_output(output_len: usize, least: usize) -> Result<(), Refusal> {
+    if output_len < least {
         return Err(refusal::OUTPUT);
     }
     Ok(())
@@ -288,3 +369,7 @@ fn differ(keys: Vec<Key>) -> bool {
 #[cfg(test)]
 #[path = "room_tests.rs"]
 mod tests;
+
+#[cfg(test)]
+#[path = "tick_tests.rs"]
+mod tick_tests;

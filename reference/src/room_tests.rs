@@ -1,18 +1,19 @@
 //! The examples of document 01 on the room, the errors that students make, the
-//! readings of its rules, and request 02 of document 02.
+//! readings of its rules, and request 02 of document 02. Request 03 is in
+//! `tick_tests`.
 
 use super::*;
 use crate::record;
 
-const KA: Key = [0x11; 32];
-const KB: Key = [0x22; 32];
-const KC: Key = [0x33; 32];
+pub(super) const KA: Key = [0x11; 32];
+pub(super) const KB: Key = [0x22; 32];
+pub(super) const KC: Key = [0x33; 32];
 
 /// What a call comes to, in the form of the examples: the bytes written.
-type Written = Result<Vec<u8>, Refusal>;
+pub(super) type Written = Result<Vec<u8>, Refusal>;
 
 /// The room after these keys arrived, in seats 0, 1 and so on.
-fn seated(keys: &[Key]) -> Room {
+pub(super) fn seated(keys: &[Key]) -> Room {
     let mut room = Room::empty(BASE);
     for (seat, key) in keys.iter().enumerate() {
         assert_eq!(arrives(&mut room, key), Ok(seat));
@@ -21,7 +22,7 @@ fn seated(keys: &[Key]) -> Room {
 }
 
 /// The seat answered to an arrival, which sends nothing.
-fn arrives(room: &mut Room, key: &Key) -> Result<usize, Refusal> {
+pub(super) fn arrives(room: &mut Room, key: &Key) -> Result<usize, Refusal> {
     let accepted = room.arrive(key)?;
     assert_eq!(accepted.records, []);
     Ok(accepted.seat)
@@ -29,7 +30,7 @@ fn arrives(room: &mut Room, key: &Key) -> Result<usize, Refusal> {
 
 /// A packet call in an output of the least length. If it is refused the room
 /// stays as it was.
-fn sends(room: &mut Room, seat: usize, packet: &[u8]) -> Written {
+pub(super) fn sends(room: &mut Room, seat: usize, packet: &[u8]) -> Written {
     let before = room.clone();
     let answer = room.packet(seat, packet, LEAST_OUTPUT);
     written(seat, &before, room, answer)
@@ -37,7 +38,7 @@ fn sends(room: &mut Room, seat: usize, packet: &[u8]) -> Written {
 
 /// A leave in an output of the least length. If it is refused the room stays
 /// as it was.
-fn leaves(room: &mut Room, seat: usize) -> Written {
+pub(super) fn leaves(room: &mut Room, seat: usize) -> Written {
     let before = room.clone();
     let answer = room.leave(seat, LEAST_OUTPUT);
     written(seat, &before, room, answer)
@@ -58,12 +59,12 @@ fn written(seat: usize, before: &Room, after: &Room, answer: Result<Accepted, Re
 }
 
 /// Parts of an expected output, put together.
-fn run(parts: &[&[u8]]) -> Written {
+pub(super) fn run(parts: &[&[u8]]) -> Written {
     Ok(parts.concat())
 }
 
 /// The packet that asks for a key.
-fn request(key: &Key) -> Vec<u8> {
+pub(super) fn request(key: &Key) -> Vec<u8> {
     [&[0x00], &key[..]].concat()
 }
 
@@ -84,7 +85,7 @@ fn after_p4() -> Room {
 }
 
 /// The room after P5: KA in seat 0 and KB in seat 1, connected as 16 and 16.
-fn after_p5() -> Room {
+pub(super) fn after_p5() -> Room {
     let mut room = after_p4();
     let answer = run(&[
         &[0x01, 0x00, 0x22, 0x01, 0x10],
@@ -97,7 +98,7 @@ fn after_p5() -> Room {
 }
 
 /// A key for each number, none of them KA, KB or KC.
-fn other(number: u8) -> Key {
+pub(super) fn other(number: u8) -> Key {
     let mut key = [0xcc; 32];
     key[31] = number;
     key
@@ -648,6 +649,18 @@ fn a_room_with_a_key_twice_is_not_whole() {
     assert!(!room.whole());
     room.seats[1].as_mut().unwrap().routes[31] = Some(KC);
     assert!(room.whole());
+}
+
+#[test]
+fn a_room_with_a_ping_time_after_the_clock_is_not_whole() {
+    for seat in [0, 1] {
+        for (time, whole) in [(0, true), (59, true), (60, true), (61, false)] {
+            let mut room = after_p5();
+            room.clock = 60;
+            room.seats[seat].as_mut().unwrap().ping_time = time;
+            assert_eq!(room.whole(), whole);
+        }
+    }
 }
 
 #[test]

@@ -1,6 +1,9 @@
 //! Which requests stand in the made-up histories, told by the calls and their
 //! answers alone: each from an answer other than 0 until its number is dropped
 //! or its client leaves. None of them is for the own key of its client.
+//!
+//! So are the clock and the pings told, and with them whom a tick puts out, which
+//! its answer does not tell.
 
 use std::collections::BTreeMap;
 
@@ -13,13 +16,25 @@ const SMALL: Sizes = Sizes {
     numbers: 3,
 };
 
-/// The seated clients and their requests that stand.
+/// Two histories: without ticks, and with them.
+fn both_histories(seed: u64, sizes: Sizes) -> [Generator; 2] {
+    [
+        Generator::new(seed, sizes),
+        Generator::with_ticks(seed, sizes),
+    ]
+}
+
+/// The seated clients, their pings, and their requests that stand.
 #[derive(Debug, Default, PartialEq, Eq)]
 struct Standing {
     /// The key in each taken seat.
     seated: BTreeMap<usize, Key>,
     /// The key asked for, by the seat of the asker and the number answered.
     wanted: BTreeMap<(usize, u8), Key>,
+    /// For each taken seat the time of the last ping, or of the arrival, and the
+    /// number not yet answered or 0.
+    pings: BTreeMap<usize, (u64, u64)>,
+    clock: u64,
 }
 
 impl Standing {
@@ -29,11 +44,10 @@ impl Standing {
         match call {
             Call::Arrive { key } => {
                 self.seated.insert(seat, *key);
+                self.pings.insert(seat, (self.clock, 0));
             }
-            Call::Leave { .. } => {
-                self.seated.remove(&seat);
-                self.wanted.retain(|(asker, _), _| *asker != seat);
-            }
+            Call::Leave { .. } => self.gone(seat),
+            Call::Tick { time, ping } => self.ticked(*time, *ping, &accepted.records),
             Call::Packet { bytes, .. } if bytes[0] == 3 => {
                 self.wanted.remove(&(seat, bytes[1]));
             }
@@ -43,16 +57,50 @@ impl Standing {
                     self.wanted.insert((seat, number), asked_key(bytes));
                 }
             }
+            Call::Packet { bytes, .. } if bytes[0] == 5 => {
+                let (time, owed) = self.pings[&seat];
+                if bytes[1..] == owed.to_be_bytes() {
+                    self.pings.insert(seat, (time, 0));
+                }
+            }
             Call::Packet { .. } => {}
         }
     }
 
+    fn gone(&mut self, seat: usize) {
+        self.seated.remove(&seat);
+        self.pings.remove(&seat);
+        self.wanted.retain(|(asker, _), _| *asker != seat);
+    }
+
+    /// Takes in an accepted tick. Whom it puts out is told by the pings before it,
+    /// and whom it pings by what it sends.
+    fn ticked(&mut self, time: u64, ping: u64, sent: &[Record]) {
+        let unanswered = |(since, owed): (u64, u64)| owed != 0 && time - since >= 10;
+        let seats: Vec<usize> = self.pings.keys().copied().collect();
+        for seat in seats {
+            if unanswered(self.pings[&seat]) {
+                self.gone(seat);
+            }
+        }
+        for record in sent.iter().filter(|record| record.packet[0] == 4) {
+            assert_eq!(record.packet[1..], ping.to_be_bytes());
+            self.pings.insert(record.seat, (time, ping));
+        }
+        self.clock = time;
+    }
+
     /// What stands in a room, by its seats and routes.
     fn of(room: &Room) -> Standing {
-        let mut standing = Standing::default();
+        let mut standing = Standing {
+            clock: room.clock,
+            ..Standing::default()
+        };
         for (seat, client) in room.seats.iter().enumerate() {
             let Some(client) = client else { continue };
             standing.seated.insert(seat, client.key);
+            let ping = (client.ping_time, client.outstanding);
+            standing.pings.insert(seat, ping);
             for number in client.numbers() {
                 let wanted = client.wanted(number);
                 let held = wanted.map(|key| ((seat, number), key));
@@ -95,19 +143,22 @@ fn request_of(call: &Call, accepted: &Accepted) -> Option<(usize, Key)> {
 }
 
 /// Nothing ever stands from a key for itself, and the routes of the room are at
-/// every moment the requests that stand.
+/// every moment the requests that stand. So are its seats, its pings and its
+/// clock what the calls and their answers tell.
 #[test]
 fn nothing_stands_from_a_key_for_itself() {
     for (sizes, seeds) in [(BASE, 20), (SMALL, 40)] {
         for seed in 0..seeds {
-            let mut room = Room::empty(sizes);
-            let mut standing = Standing::default();
-            for call in Generator::new(4_000 + seed, sizes).take(1_500) {
-                if let Ok(accepted) = call.make(&mut room, LEAST_OUTPUT) {
-                    standing.follow(&call, &accepted);
+            for history in both_histories(4_000 + seed, sizes) {
+                let mut room = Room::empty(sizes);
+                let mut standing = Standing::default();
+                for call in history.take(1_500) {
+                    if let Ok(accepted) = call.make(&mut room, call.least_output()) {
+                        standing.follow(&call, &accepted);
+                    }
+                    assert!(!standing.for_itself());
+                    assert_eq!(standing, Standing::of(&room));
                 }
-                assert!(!standing.for_itself());
-                assert_eq!(standing, Standing::of(&room));
             }
         }
     }
@@ -120,7 +171,9 @@ fn a_request_is_answered_0_for_the_own_key_or_with_a_full_table_alone() {
     let mut met = Grounds::default();
     for (sizes, seeds) in [(BASE, 20), (SMALL, 40)] {
         for seed in 0..seeds {
-            met.judge(sizes, 5_000 + seed);
+            for history in both_histories(5_000 + seed, sizes) {
+                met.judge(sizes, history);
+            }
         }
     }
     assert!(met.own > 500 && met.full > 500 && met.none > 500, "{met:?}");
@@ -136,12 +189,12 @@ struct Grounds {
 
 impl Grounds {
     /// Judges every answer to a request in this history.
-    fn judge(&mut self, sizes: Sizes, seed: u64) {
+    fn judge(&mut self, sizes: Sizes, history: Generator) {
         let mut room = Room::empty(sizes);
         let mut standing = Standing::default();
-        for call in Generator::new(seed, sizes).take(1_500) {
+        for call in history.take(1_500) {
             let before = room.clone();
-            let Ok(accepted) = call.make(&mut room, LEAST_OUTPUT) else {
+            let Ok(accepted) = call.make(&mut room, call.least_output()) else {
                 continue;
             };
             if let Some((seat, key)) = request_of(&call, &accepted) {
@@ -184,21 +237,31 @@ fn requests_for_the_own_key_left_out_change_nothing() {
     for (sizes, seeds) in [(BASE, 10), (SMALL, 20)] {
         let mut left_out = 0;
         for seed in 0..seeds {
-            let mut room = Room::empty(sizes);
-            let mut without = Room::empty(sizes);
-            for call in Generator::new(6_000 + seed, sizes).take(1_500) {
-                let own = asks_for_itself(&room, &call);
-                let answer = call.make(&mut room, LEAST_OUTPUT);
-                if own {
-                    left_out += 1;
-                } else {
-                    assert_eq!(call.make(&mut without, LEAST_OUTPUT), answer);
-                }
-                assert_eq!(room, without);
+            for history in both_histories(6_000 + seed, sizes) {
+                left_out += leave_out(sizes, history);
             }
         }
-        assert!(left_out > 200, "{left_out}");
+        assert!(left_out > 400, "{left_out}");
     }
+}
+
+/// Makes the calls of a history with and without its requests for the own key.
+/// Answers how many were left out.
+fn leave_out(sizes: Sizes, history: Generator) -> usize {
+    let mut room = Room::empty(sizes);
+    let mut without = Room::empty(sizes);
+    let mut left_out = 0;
+    for call in history.take(1_500) {
+        let own = asks_for_itself(&room, &call);
+        let answer = call.make(&mut room, call.least_output());
+        if own {
+            left_out += 1;
+        } else {
+            assert_eq!(call.make(&mut without, call.least_output()), answer);
+        }
+        assert_eq!(room, without);
+    }
+    left_out
 }
 
 /// Whether the call is a well-formed request of a taken seat for its own key.

@@ -1,11 +1,11 @@
 //! A lesson on the relay: a teacher, two pupils, and a guest who takes a seat
-//! that was left. It prints what each asks for and what the relay answers, and
-//! at the end what each client was handed.
+//! that was left. At the end one of the pupils closes his lid. It prints what
+//! each asks for and what the relay answers, and what each client was handed.
 //!
 //! `tools/demo` builds the library and runs it.
 
 use banavoge::{ConnectionNumber, FromClient, FromRelay, Key, Records, Refusal, Room, Seat};
-use banavoge::{LEAST_OUTPUT, LONGEST_PACKET};
+use banavoge::{LEAST_OUTPUT, LEAST_TICK_OUTPUT, LONGEST_PACKET};
 
 const TEACHER: usize = 0;
 const ANA: usize = 1;
@@ -84,6 +84,28 @@ impl Lesson {
         self.send(who, &sends, FromClient::Data { number, payload });
     }
 
+    fn answer_ping(&mut self, who: usize, number: u64) {
+        self.send(who, "answers the ping", FromClient::Pong(number));
+    }
+
+    /// Tells the room the time. All records are handed over before anybody's
+    /// connection is closed: one may be for who is put out.
+    fn tick(&mut self, time: u64, number: u64) {
+        let mut out = [0; LEAST_TICK_OUTPUT];
+        let answer = self.room.tick(time, number, &mut out);
+        say("The time", &format!("is {time}"), "accepted");
+        for record in answer.expect("the clock moves on") {
+            self.hand_over(record.seat, record.packet);
+        }
+        for client in &mut self.clients {
+            let Some(seat) = client.seat else { continue };
+            if self.room.key_in(seat).is_none() {
+                client.seat = None;
+                say(client.name, "has not answered", "put out");
+            }
+        }
+    }
+
     fn send(&mut self, who: usize, what: &str, packet: FromClient<'_>) {
         let mut bytes = [0; LONGEST_PACKET];
         let mut out = [0; LEAST_OUTPUT];
@@ -130,6 +152,7 @@ impl Lesson {
             },
             FromRelay::ConnectNotification(number) => format!("{} is connected", number.0),
             FromRelay::DisconnectNotification(number) => format!("{} is disconnected", number.0),
+            FromRelay::Ping(number) => format!("ping {number}"),
             FromRelay::Data { number, payload } => {
                 format!("on {}: \"{}\"", number.0, String::from_utf8_lossy(payload))
             }
@@ -181,6 +204,13 @@ fn main() {
     lesson.arrive(ANA);
     lesson.ask_for(ANA, TEACHER);
     lesson.send_data(TEACHER, 16, "a picture");
+
+    // Each is pinged after 30 seconds. Ben's lid is closed: he does not answer, and goes 10 seconds later.
+    lesson.tick(30, 71);
+    for who in [TEACHER, GUEST, ANA] {
+        lesson.answer_ping(who, 71);
+    }
+    lesson.tick(40, 72);
 
     println!("\nWhat each was handed:");
     for client in &lesson.clients {

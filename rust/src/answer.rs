@@ -8,6 +8,15 @@ pub fn accepted(answer: i32) -> Result<usize, Refusal> {
     usize::try_from(answer).map_err(|_| refusal(answer))
 }
 
+/// The answer of a lookup in a whole room: none where it is refused with 3.
+pub fn found(answer: i32) -> Option<usize> {
+    match accepted(answer) {
+        Ok(found) => Some(found),
+        Err(Refusal::NotSeated) => None,
+        Err(why) => unreachable!("a room that owns its memory is whole: {why}"),
+    }
+}
+
 fn refusal(answer: i32) -> Refusal {
     u8::try_from(answer.unsigned_abs())
         .ok()

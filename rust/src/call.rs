@@ -5,7 +5,8 @@ use std::error::Error;
 use std::fmt;
 
 /// A call of the relay, to be stored and played: see
-/// [`Room::play`](crate::Room::play).
+/// [`Room::play`](crate::Room::play). A [tick](crate::Room::tick) has no stored
+/// form.
 ///
 /// ```
 /// use banavoge::{Call, Seat};

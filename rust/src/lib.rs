@@ -1,15 +1,16 @@
 //! A Tox TCP relay for classrooms, as a library in which every function is
-//! proved to do what its papers say, document 01 and, of frames and of a client
-//! that asks for itself, document 02's Req 01 and Req 02: the safe interface to
-//! the static library `libbanavoge.a`.
+//! proved to do what its papers say, document 01 and, of frames, of a client
+//! that asks for itself and of clients that are dead, document 02's Req 01, Req
+//! 02 and Req 03: the safe interface to the static library `libbanavoge.a`.
 //!
 //! Here are the relay, which is a [`Room`]; the [`Frames`] of a stream; relay
 //! packets of both ends, [`FromClient`] and [`FromRelay`]; packed nodes,
 //! [`Node`], and lists of them, [`Nodes`]; and the [`NearestList`]. The host
 //! owns sockets, sealing and opening: it hands over what comes in, is shown the
-//! frames to open, and hands over the opened packets. Nothing
-//! here keeps a socket, a clock or any state besides these values. A room takes
-//! its memory once, when it is made; its calls allocate nothing.
+//! frames to open, hands over the opened packets, and tells the time, in whole
+//! seconds. Nothing here keeps a socket, reads a clock or has any state besides
+//! these values. A room takes its memory once, when it is made; its calls
+//! allocate nothing.
 //!
 //! Each call is accepted or refused with a [`Refusal`]; a refused call has
 //! written nothing and changed nothing, but that a reader of frames refuses
@@ -76,10 +77,11 @@
 //!
 //! A host keeps for each seat a connection, and a reader of the frames that come
 //! in on it. It opens each frame, hands the packet to the room, and seals and
-//! sends each record:
+//! sends each record. Each second it tells the room the time, and closes the
+//! connections of those who were put out:
 //!
 //! ```
-//! use banavoge::{Frames, Key, Records, Refusal, Room, Seat, LEAST_OUTPUT};
+//! use banavoge::{Frames, Key, Records, Refusal, Room, Seat, LEAST_TICK_OUTPUT};
 //!
 //! struct Connection {
 //!     // the socket, and the keys that seal and open
@@ -98,7 +100,7 @@
 //!     room: Room,
 //!     connections: [Option<Connection>; Room::SEATS],
 //!     frames: [Frames; Room::SEATS],
-//!     out: [u8; LEAST_OUTPUT],
+//!     out: [u8; LEAST_TICK_OUTPUT],
 //! }
 //!
 //! impl Host {
@@ -136,6 +138,19 @@
 //!         let records = self.room.leave(seat, &mut self.out)?;
 //!         self.connections[seat.index()] = None;
 //!         send(&mut self.connections, records);
+//!         Ok(())
+//!     }
+//!
+//!     /// A second has passed. The number is any but 0, such as a random one.
+//!     fn ticked(&mut self, time: u64, number: u64) -> Result<(), Refusal> {
+//!         let records = self.room.tick(time, number, &mut self.out)?;
+//!         // Some may be for clients that were put out: these are closed afterwards.
+//!         send(&mut self.connections, records);
+//!         for (seat, connection) in (0..).map(Seat).zip(&mut self.connections) {
+//!             if self.room.key_in(seat).is_none() {
+//!                 *connection = None;
+//!             }
+//!         }
 //!         Ok(())
 //!     }
 //! }
@@ -188,5 +203,5 @@ pub use packet::{FromClient, FromRelay, LONGEST_PACKET};
 pub use play::{Accepted, Answers, Played, Stop};
 pub use record::{Record, Records};
 pub use refusal::Refusal;
-pub use room::{Room, LEAST_OUTPUT};
+pub use room::{Room, LEAST_OUTPUT, LEAST_TICK_OUTPUT};
 pub use seat::Seat;

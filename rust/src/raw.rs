@@ -22,6 +22,7 @@ pub mod play;
 pub mod readers;
 pub mod relay;
 pub mod room;
+pub mod sitting;
 pub mod writers;
 
 /// A key, as the C functions take it.

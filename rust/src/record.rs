@@ -6,7 +6,8 @@ use std::iter::FusedIterator;
 /// A packet for the client in a seat.
 #[derive(Debug, Clone, Copy, PartialEq, Eq)]
 pub struct Record<'a> {
-    /// The seat of the client that it is for.
+    /// The seat of the client that it is for: of a [tick](crate::Room::tick),
+    /// which may empty that seat, the client that sat there before the call.
     pub seat: Seat,
     /// The packet, as [`FromRelay::read`](crate::FromRelay::read) takes it, to
     /// be sealed and sent.

@@ -34,7 +34,7 @@ pub enum Refusal {
     UnexpectedKind = 5,
     /// 6: the wrong length for the kind.
     WrongLength = 6,
-    /// 7: ping number 0, in a ping or in a pong.
+    /// 7: ping number 0, in a ping, in a pong or in a tick.
     ZeroPing = 7,
     /// 8: in the room, a number that names no route; at the client's end, a
     /// routing response with number 1 to 15, or a connect or disconnect
@@ -42,12 +42,12 @@ pub enum Refusal {
     NoSuchRoute = 8,
     /// 9: data on a route that waits.
     NotConnected = 9,
-    /// 10: an output of under 2,048 bytes for a packet or a leave, or one that
-    /// is shorter than what a writer would write; a keep of under 2,050 bytes,
-    /// which [`Frames`](crate::Frames) never lends.
+    /// 10: an output of under 2,048 bytes for a packet or a leave, of under 5,120
+    /// for a tick, or one that is shorter than what a writer would write; a keep
+    /// of under 2,050 bytes, which [`Frames`](crate::Frames) never lends.
     OutputTooShort = 10,
     /// 11: bytes that are no whole room, such as those of a room in which a seat
-    /// names its own key.
+    /// names its own key, or was pinged at a time after the clock.
     RoomNotWhole = 11,
     /// 12: the size of a nearest list is not 1 to 16.
     ListSize = 12,
@@ -65,11 +65,13 @@ pub enum Refusal {
     /// 18: a frame with a length under 17 or above 2,048, and after it every
     /// call of that reader.
     BadFrame = 18,
+    /// 19: a tick with a time before the room's clock.
+    ClockBack = 19,
 }
 
 impl Refusal {
     /// All refusals, in the order of their numbers.
-    pub const ALL: [Refusal; 18] = [
+    pub const ALL: [Refusal; 19] = [
         Refusal::RoomFull,
         Refusal::AlreadySeated,
         Refusal::NotSeated,
@@ -88,9 +90,10 @@ impl Refusal {
         Refusal::NodeCutShort,
         Refusal::BytesAfterNodes,
         Refusal::BadFrame,
+        Refusal::ClockBack,
     ];
 
-    /// The papers' number, 1 to 18.
+    /// The papers' number, 1 to 19.
     pub const fn number(self) -> u8 {
         self as u8
     }
@@ -103,7 +106,7 @@ impl Refusal {
     }
 
     /// Document 01's words, from the column "Given exactly when"; document 02's
-    /// for 18 and for a keep.
+    /// for 18 and 19, for a keep and for a tick's output.
     const fn words(self) -> &'static str {
         match self {
             Refusal::RoomFull => "arrival with all 40 seats taken",
@@ -118,7 +121,7 @@ impl Refusal {
             }
             Refusal::NotConnected => "data on a waiting route",
             Refusal::OutputTooShort => {
-                "lent output too short: under 2,048 for packet and leave, under the exact length for a writer; a keep that is too short"
+                "lent output too short: under 2,048 for packet and leave, under the exact length for a writer; a keep that is too short; tick output under 5,120"
             }
             Refusal::RoomNotWhole => "room not whole",
             Refusal::ListSize => "list size not 1 to 16",
@@ -132,6 +135,7 @@ impl Refusal {
             Refusal::BadFrame => {
                 "a length under 17 or above 2,048; a reader holding 2 or more bytes that start no unfinished frame"
             }
+            Refusal::ClockBack => "a clock that goes back",
         }
     }
 }
@@ -149,12 +153,12 @@ mod tests {
     use super::Refusal;
 
     #[test]
-    fn the_numbers_are_1_to_18_and_name_their_refusals() {
+    fn the_numbers_are_1_to_19_and_name_their_refusals() {
         let numbers = Refusal::ALL.map(Refusal::number);
-        assert!(numbers.into_iter().eq(1..=18));
+        assert!(numbers.into_iter().eq(1..=19));
         for number in 0..=255 {
             let named = Refusal::from_number(number).map(Refusal::number);
-            assert_eq!(named, (1..=18).contains(&number).then_some(number));
+            assert_eq!(named, (1..=19).contains(&number).then_some(number));
         }
     }
 }

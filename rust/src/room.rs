@@ -1,28 +1,33 @@
 //! The room: the relay itself.
 
-use crate::answer::accepted;
+use crate::answer::{accepted, found};
 use crate::raw::{self, play::Counts};
 use crate::{Answers, Key, Played, Records, Refusal, Seat, Stop};
 use std::fmt;
 
 /// The least output to lend to [`Room::packet`] and [`Room::leave`]: with less
-/// they are refused with 10, whatever they would send. It is enough for every
-/// call.
+/// they are refused with 10, whatever they would send. It is enough for both.
 pub const LEAST_OUTPUT: usize = 2_048;
 
-/// A room: 40 seats, each empty or with one client's key and its 32 routes.
+/// The least output to lend to [`Room::tick`]: with less it is refused with 10,
+/// whatever it would send. It is enough for every tick.
+pub const LEAST_TICK_OUTPUT: usize = 5_120;
+
+/// A room: a clock, and 40 seats, each empty or with one client's key, its 32
+/// routes, the time of its last ping and the ping number not yet answered.
 ///
-/// The relay's three calls are [`arrive`](Room::arrive),
-/// [`packet`](Room::packet) and [`leave`](Room::leave); [`play`](Room::play)
-/// makes any number of them. What they send is written into an output that the
-/// caller lends; no call allocates. A refused call leaves room and output as
-/// they were.
+/// The relay's four calls are [`arrive`](Room::arrive),
+/// [`packet`](Room::packet), [`leave`](Room::leave) and [`tick`](Room::tick);
+/// [`play`](Room::play) makes any number of the first three. What they send is
+/// written into an output that the caller lends; no call allocates. A refused
+/// call leaves room and output as they were. Who sits where is told by
+/// [`key_in`](Room::key_in) and [`seat_of`](Room::seat_of).
 ///
 /// A room is whole when seated keys differ, the wanted keys of one seat differ,
-/// no seat names its own key, empty seats hold no routes, and what else the
-/// library keeps agrees with these. It owns its memory, which only the
-/// library's calls change, so it is always whole: 11 is given only where a room
-/// is made from bytes.
+/// no seat names its own key, no ping time is after the clock, empty seats hold
+/// no routes, and what else the library keeps agrees with these. It owns its
+/// memory, which only the library's calls change, so it is always whole: 11 is
+/// given only where a room is made from bytes.
 #[derive(Clone)]
 pub struct Room {
     memory: Box<[u8]>,
@@ -36,7 +41,7 @@ impl Room {
     pub const NUMBERS: usize = 32;
 
     /// How many bytes a room takes.
-    pub const BYTES: usize = 43_923;
+    pub const BYTES: usize = 44_251;
 
     /// The empty room.
     pub fn empty() -> Room {
@@ -47,8 +52,8 @@ impl Room {
 
     /// The room that stands at the front of bytes that were kept, tested in
     /// full. Refused with 11; fewer than [`Room::BYTES`] bytes are no room, and
-    /// bytes behind the room are left out. Bytes kept from a version of the
-    /// library that gave a client a number for its own key may be refused.
+    /// bytes behind the room are left out. Bytes kept from another version of
+    /// the library may have another layout, and are not to be given.
     ///
     /// ```
     /// use banavoge::{Key, Refusal, Room};
@@ -116,7 +121,8 @@ impl Room {
 
     /// The client in a seat sends a packet, which the relay reads and acts on.
     /// Refused with 10 or 3 to 9. A request for the sender's own key is not
-    /// refused: it is answered with 0, and no route is taken.
+    /// refused: it is answered with 0, and no route is taken. Nor is a pong with
+    /// another number than the one outstanding: it does nothing.
     ///
     /// ```
     /// use banavoge::{FromRelay, Key, Refusal, Room, LEAST_OUTPUT};
@@ -142,9 +148,93 @@ impl Room {
         Ok(Records::written(&out[..count]))
     }
 
+    /// The clock moves on to a time, in whole seconds. Refused with 10, 7 or 19;
+    /// the same time again is accepted.
+    ///
+    /// First, in rising seat order, every client whose ping has stood unanswered
+    /// for 10 seconds or more leaves, as by [`leave`](Room::leave). Then, in that
+    /// order, every remaining client with no ping outstanding, last pinged 30
+    /// seconds ago or more, is pinged with `number`; it answers with a pong of
+    /// that number. An arrival counts as pinged at the clock then, so the first
+    /// tick with a large time pings everybody.
+    ///
+    /// A record may be for a seat that the same tick has emptied: it is for the
+    /// client that sat there before the call. So the records are to be sent
+    /// first. Who was put out is told by [`key_in`](Room::key_in), which has
+    /// none for its seat afterwards; its connection is to be closed before the
+    /// next arrival, which may be given that seat.
+    ///
+    /// ```
+    /// use banavoge::{FromRelay, Key, Refusal, Room, LEAST_TICK_OUTPUT};
+    ///
+    /// let mut room = Room::empty();
+    /// let seat = room.arrive(&Key([1; 32]))?;
+    /// let mut out = [0; LEAST_TICK_OUTPUT];
+    ///
+    /// let mut sent = room.tick(30, 7, &mut out)?;
+    /// let record = sent.next().expect("a ping is due");
+    /// assert_eq!(record.seat, seat);
+    /// assert_eq!(FromRelay::read(record.packet), Ok(FromRelay::Ping(7)));
+    ///
+    /// // No pong has come: 10 seconds later the client is put out.
+    /// assert_eq!(room.tick(39, 8, &mut out)?.count(), 0);
+    /// assert_eq!(room.key_in(seat), Some(Key([1; 32])));
+    /// assert_eq!(room.tick(40, 9, &mut out)?.count(), 0);
+    /// assert_eq!(room.key_in(seat), None);
+    ///
+    /// let back = room.tick(39, 10, &mut out);
+    /// assert_eq!(back.err(), Some(Refusal::ClockBack));
+    /// # Ok::<(), Refusal>(())
+    /// ```
+    pub fn tick<'o>(
+        &mut self,
+        time: u64,
+        number: u64,
+        out: &'o mut [u8],
+    ) -> Result<Records<'o>, Refusal> {
+        let count = accepted(raw::relay::tick(&mut self.memory, time, number, out))?;
+        Ok(Records::written(&out[..count]))
+    }
+
+    /// The key of the client in a seat; none where the seat is empty or above 39.
+    ///
+    /// ```
+    /// use banavoge::{Key, Room, Seat};
+    ///
+    /// let mut room = Room::empty();
+    /// room.arrive(&Key([1; 32]))?;
+    /// assert_eq!(room.key_in(Seat(0)), Some(Key([1; 32])));
+    /// assert_eq!(room.key_in(Seat(1)), None);
+    /// assert_eq!(room.key_in(Seat(40)), None);
+    /// # Ok::<(), banavoge::Refusal>(())
+    /// ```
+    pub fn key_in(&self, seat: Seat) -> Option<Key> {
+        let mut key = [0; 32];
+        found(raw::sitting::key_in(&self.memory, seat.0, &mut key))?;
+        Some(Key(key))
+    }
+
+    /// The seat of the client with a key; none where that key does not sit in
+    /// the room.
+    ///
+    /// ```
+    /// use banavoge::{Key, Room, Seat};
+    ///
+    /// let mut room = Room::empty();
+    /// room.arrive(&Key([1; 32]))?;
+    /// room.arrive(&Key([2; 32]))?;
+    /// assert_eq!(room.seat_of(&Key([2; 32])), Some(Seat(1)));
+    /// assert_eq!(room.seat_of(&Key([3; 32])), None);
+    /// # Ok::<(), banavoge::Refusal>(())
+    /// ```
+    pub fn seat_of(&self, key: &Key) -> Option<Seat> {
+        let seat = found(raw::sitting::seat_of(&self.memory, &key.0))?;
+        Some(Seat(u8::try_from(seat).expect("a seat is a byte")))
+    }
+
     /// Plays stored calls from the front of `calls`, at most `allowance` of
     /// them, as if each were made by itself. The library tests the room once
-    /// and not for each call.
+    /// and not for each call. A tick has no stored form.
     ///
     /// What is no stored call, an allowance used up and too little output only
     /// stop it: the rest may be played by a further call. Never refused: 11 is

@@ -1,8 +1,8 @@
 //! Document 01's examples of the relay, made on the library: those marked P,
 //! which are proved too, the bounds, and the errors that students make; and
-//! document 02's client that asks for itself.
+//! document 02's client that asks for itself, and its dead laptops.
 
-use banavoge::{Key, Refusal, Room, Seat, LEAST_OUTPUT};
+use banavoge::{Key, Refusal, Room, Seat, LEAST_OUTPUT, LEAST_TICK_OUTPUT};
 
 const KA: Key = Key([0x11; 32]);
 const KB: Key = Key([0x22; 32]);
@@ -37,6 +37,16 @@ impl Host {
         Ok(records.as_bytes().to_vec())
     }
 
+    fn tick(&mut self, time: u64, number: u64) -> Result<Vec<u8>, Refusal> {
+        let mut out = [0xEE; LEAST_TICK_OUTPUT];
+        let records = self.room.tick(time, number, &mut out)?;
+        Ok(records.as_bytes().to_vec())
+    }
+
+    fn pong(&mut self, seat: Seat, number: u8) -> Result<Vec<u8>, Refusal> {
+        self.packet(seat, &[5, 0, 0, 0, 0, 0, 0, 0, number])
+    }
+
     fn request(&mut self, seat: Seat, key: &Key) -> Result<Vec<u8>, Refusal> {
         self.packet(seat, &[&[0], &key.0[..]].concat())
     }
@@ -55,6 +65,11 @@ impl Host {
 /// The record of an answer to a request.
 fn answer(seat: u8, number: u8, key: &Key) -> Vec<u8> {
     [&[seat, 0, 0x22, 1, number], &key.0[..]].concat()
+}
+
+/// The record of a ping.
+fn ping(seat: u8, number: u8) -> Vec<u8> {
+    vec![seat, 0, 9, 4, 0, 0, 0, 0, 0, 0, 0, number]
 }
 
 fn key_of(number: u8) -> Key {
@@ -228,4 +243,44 @@ fn both_are_told_again_when_the_other_asks_again() {
     ]
     .concat();
     assert_eq!(host.request(Seat(0), &KB), Ok(told));
+}
+
+#[test]
+fn who_does_not_answer_a_ping_is_put_out_and_the_peer_is_told() {
+    let mut host = Host::connected();
+    assert_eq!(host.tick(29, 1), Ok(vec![]));
+    assert_eq!(host.tick(30, 2), Ok([ping(0, 2), ping(1, 2)].concat()));
+    // Neither another number nor another packet is an answer.
+    assert_eq!(host.pong(Seat(0), 2), Ok(vec![]));
+    assert_eq!(host.pong(Seat(1), 1), Ok(vec![]));
+    host.request(Seat(1), &KC).expect("a request is accepted");
+    assert_eq!(host.tick(39, 3), Ok(vec![]));
+    assert_eq!(host.room.key_in(Seat(1)), Some(KB));
+    assert_eq!(host.tick(40, 4), Ok(vec![0, 0, 2, 3, 0x10]));
+    assert_eq!(host.room.key_in(Seat(1)), None);
+    assert_eq!(host.room.seat_of(&KA), Some(Seat(0)));
+    // KA is pinged again 30 seconds after its last ping, not after its pong.
+    assert_eq!(host.tick(59, 5), Ok(vec![]));
+    assert_eq!(host.tick(60, 6), Ok(ping(0, 6)));
+}
+
+#[test]
+fn of_two_that_go_by_one_tick_the_lower_tells_the_higher() {
+    let mut host = Host::connected();
+    host.tick(30, 2).expect("a tick is accepted");
+    assert_eq!(host.tick(40, 3), Ok(vec![1, 0, 2, 3, 0x10]));
+    assert_eq!(host.room.key_in(Seat(0)), None);
+    assert_eq!(host.room.key_in(Seat(1)), None);
+}
+
+#[test]
+fn an_arrival_starts_with_the_last_clock() {
+    let mut host = Host::new();
+    assert_eq!(host.tick(1_000, 1), Ok(vec![]));
+    assert_eq!(host.arrive(&KA), Ok(Seat(0)));
+    assert_eq!(host.tick(1_029, 2), Ok(vec![]));
+    assert_eq!(host.tick(1_029, 3), Ok(vec![]));
+    assert_eq!(host.tick(1_028, 4), Err(Refusal::ClockBack));
+    assert_eq!(host.tick(1_028, 0), Err(Refusal::ZeroPing));
+    assert_eq!(host.tick(1_030, 5), Ok(ping(0, 5)));
 }

@@ -27,7 +27,7 @@ ask seat key = packetCall seat (0 ∷ key)
 bothAsked : List Call
 bothAsked = arrive ka ∷ arrive kb ∷ ask 0 kb ∷ ask 1 kc ∷ ask 1 ka ∷ []
 
-both-connected : Connected fromEmpty (after bothAsked) 0 16 1 17
+both-connected : Connected (fromEmpty baseSizes) (after bothAsked) 0 16 1 17
 unfolding opened after bothAsked ask
 both-connected = record {
   key = ka;
@@ -38,7 +38,7 @@ both-connected = record {
 }
 
 -- so KA's number does not wait
-both-do-not-wait : Waits fromEmpty (after bothAsked) 0 16 → ⊥
+both-do-not-wait : Waits (fromEmpty baseSizes) (after bothAsked) 0 16 → ⊥
 both-do-not-wait w = w .alone 1 17 both-connected
 
 -- ---- "The answer becomes 0 and no route is taken": KA asked for KA
@@ -47,7 +47,7 @@ ownAsked : List Call
 ownAsked = arrive ka ∷ ask 0 ka ∷ []
 
 -- so number 16 does not name KA
-own-does-not-stand : stands fromEmpty (after ownAsked) ka 16 ka ≡ false
+own-does-not-stand : stands (fromEmpty baseSizes) (after ownAsked) ka 16 ka ≡ false
 unfolding opened after ownAsked ask
 own-does-not-stand = refl
 
@@ -57,11 +57,11 @@ oneAsked : List Call
 oneAsked = arrive ka ∷ arrive kb ∷ ask 0 kb ∷ []
 
 -- who sits in seat 0, and what it asked for under 16
-ka-sits : sitter fromEmpty (after oneAsked) 0 ≡ clientOf ka
+ka-sits : sitter (fromEmpty baseSizes) (after oneAsked) 0 ≡ clientOf ka
 unfolding opened after oneAsked ask
 ka-sits = refl
 
-ka-asked : (wanted : Key) → stands fromEmpty (after oneAsked) ka 16 wanted ≡ true → kb ≡ wanted
+ka-asked : (wanted : Key) → stands (fromEmpty baseSizes) (after oneAsked) ka 16 wanted ≡ true → kb ≡ wanted
 unfolding opened after oneAsked ask
 ka-asked wanted e = same-sound kb wanted (itself-true (sameKey kb wanted) e)
   where
@@ -69,19 +69,19 @@ ka-asked wanted e = same-sound kb wanted (itself-true (sameKey kb wanted) e)
     itself-true true q = refl
     itself-true false q = q
 
-kb-asked-nobody : (number : ℕ) (wanted : Key) → stands fromEmpty (after oneAsked) kb number wanted ≡ false
+kb-asked-nobody : (number : ℕ) (wanted : Key) → stands (fromEmpty baseSizes) (after oneAsked) kb number wanted ≡ false
 unfolding opened after oneAsked ask
 kb-asked-nobody number wanted = refl
 
 -- "The third wrong answer is that one request will do."
-one-is-not-enough : (other number′ : ℕ) → Connected fromEmpty (after oneAsked) 0 16 other number′ → ⊥
+one-is-not-enough : (other number′ : ℕ) → Connected (fromEmpty baseSizes) (after oneAsked) 0 16 other number′ → ⊥
 one-is-not-enough other number′ c =
     let k : ka ≡ c .key = (let a = c .here .sits in let b = ka-sits in cc) in
-    let w : kb ≡ c .wanted = ka-asked (c .wanted) (subst (λ (x : Key). stands fromEmpty (after oneAsked) x 16 (c .wanted) ≡ true) (sym k) (c .here .asked)) in
-    let back : stands fromEmpty (after oneAsked) kb number′ (c .key) ≡ true =
-    subst (λ (x : Key). stands fromEmpty (after oneAsked) x number′ (c .key) ≡ true) (sym w) (c .there .asked) in
+    let w : kb ≡ c .wanted = ka-asked (c .wanted) (subst (λ (x : Key). stands (fromEmpty baseSizes) (after oneAsked) x 16 (c .wanted) ≡ true) (sym k) (c .here .asked)) in
+    let back : stands (fromEmpty baseSizes) (after oneAsked) kb number′ (c .key) ≡ true =
+    subst (λ (x : Key). stands (fromEmpty baseSizes) (after oneAsked) x number′ (c .key) ≡ true) (sym w) (c .there .asked) in
     true≢false (sym back ∙ kb-asked-nobody number′ (c .key))
 
-one-waits : Waits fromEmpty (after oneAsked) 0 16
+one-waits : Waits (fromEmpty baseSizes) (after oneAsked) 0 16
 unfolding opened after oneAsked ask
 one-waits = record { key = ka; wanted = kb; here = record { sits = refl; asked = refl }; alone = one-is-not-enough }

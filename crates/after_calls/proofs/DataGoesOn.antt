@@ -147,5 +147,5 @@ data-goes-on-from sizes start past room whole tie calls before e later t seat nu
 pub data-goes-on-from-empty : (sizes : Sizes) (calls : List Call) (before : List Event) (e : Event) (later : List Event)
     → transcript sizes (emptyRoom sizes) calls ≡ before ++ (e ∷ later)
     → (seat number : ℕ) (bytes payload : List ℕ) → e .call ≡ packetCall seat bytes → client.relayRead bytes ≡ read.packet (client.routedData number payload)
-    → DataGoesOn fromEmpty (pastAfter [] before) seat number payload e
-data-goes-on-from-empty sizes = data-goes-on-from sizes fromEmpty [] (emptyRoom sizes) (whole-empty sizes) (tied-empty sizes)
+    → DataGoesOn (fromEmpty sizes) (pastAfter [] before) seat number payload e
+data-goes-on-from-empty sizes = data-goes-on-from sizes (fromEmpty sizes) [] (emptyRoom sizes) (whole-empty sizes) (tied-empty sizes)

@@ -180,51 +180,51 @@ module _ (sizes : Sizes) (start : Start) (past : Past) (room : Room) (whole : Wh
 
 module _ (sizes : Sizes) (calls : List Call) (before : List Event) (e : Event) (later : List Event) (t : transcript sizes (emptyRoom sizes) calls ≡ before ++ (e ∷ later)) where
   -- what holds of each call
-  of-each : (P : Past → Event → Type 0) → ((past : Past) (room : Room) → Whole sizes room → Tied fromEmpty past room → (call : Call) → P past (event room call)) → P (pastAfter [] before) e
+  of-each : (P : Past → Event → Type 0) → ((past : Past) (room : Room) → Whole sizes room → Tied (fromEmpty sizes) past room → (call : Call) → P past (event room call)) → P (pastAfter [] before) e
   of-each P each = from-empty sizes P each calls before e later t
 
-  pub arrive-answered-from-empty : (key : Key) → e .call ≡ arrive key → ArriveAnswered sizes fromEmpty (pastAfter [] before) key (e .answer)
+  pub arrive-answered-from-empty : (key : Key) → e .call ≡ arrive key → ArriveAnswered sizes (fromEmpty sizes) (pastAfter [] before) key (e .answer)
   unfolding event
   arrive-answered-from-empty key =
-      of-each (λ past e. e .call ≡ arrive key → ArriveAnswered sizes fromEmpty past key (e .answer))
-      (λ past room whole tie call c. subst (λ (x : Call). ArriveAnswered sizes fromEmpty past key (event room x .answer)) (sym c) (arrive-answered sizes fromEmpty past room whole tie key))
+      of-each (λ past e. e .call ≡ arrive key → ArriveAnswered sizes (fromEmpty sizes) past key (e .answer))
+      (λ past room whole tie call c. subst (λ (x : Call). ArriveAnswered sizes (fromEmpty sizes) past key (event room x .answer)) (sym c) (arrive-answered sizes (fromEmpty sizes) past room whole tie key))
 
   module _ (seat : ℕ) where
-    pub leave-answered-from-empty : e .call ≡ leave seat → LeaveAnswered fromEmpty (pastAfter [] before) seat (e .answer)
+    pub leave-answered-from-empty : e .call ≡ leave seat → LeaveAnswered (fromEmpty sizes) (pastAfter [] before) seat (e .answer)
     unfolding event
     leave-answered-from-empty =
-        of-each (λ past e. e .call ≡ leave seat → LeaveAnswered fromEmpty past seat (e .answer))
-        (λ past room whole tie call c. subst (λ (x : Call). LeaveAnswered fromEmpty past seat (event room x .answer)) (sym c) (leave-answered sizes fromEmpty past room whole tie seat))
+        of-each (λ past e. e .call ≡ leave seat → LeaveAnswered (fromEmpty sizes) past seat (e .answer))
+        (λ past room whole tie call c. subst (λ (x : Call). LeaveAnswered (fromEmpty sizes) past seat (event room x .answer)) (sym c) (leave-answered sizes (fromEmpty sizes) past room whole tie seat))
 
     module _ (bytes : List ℕ) where
-      pub nobodys-packet-from-empty : e .call ≡ packetCall seat bytes → sitter fromEmpty (pastAfter [] before) seat ≡ nobody → e .answer ≡ refused NotSeated
+      pub nobodys-packet-from-empty : e .call ≡ packetCall seat bytes → sitter (fromEmpty sizes) (pastAfter [] before) seat ≡ nobody → e .answer ≡ refused NotSeated
       unfolding event
       nobodys-packet-from-empty =
-          of-each (λ past e. e .call ≡ packetCall seat bytes → sitter fromEmpty past seat ≡ nobody → e .answer ≡ refused NotSeated)
-          (λ past room whole tie call c q. ap (λ (x : Call). event room x .answer) c ∙ nobodys-packet sizes fromEmpty past room whole tie seat bytes q)
+          of-each (λ past e. e .call ≡ packetCall seat bytes → sitter (fromEmpty sizes) past seat ≡ nobody → e .answer ≡ refused NotSeated)
+          (λ past room whole tie call c q. ap (λ (x : Call). event room x .answer) c ∙ nobodys-packet sizes (fromEmpty sizes) past room whole tie seat bytes q)
 
       pub unread-packet-from-empty : (key : Key) (why : Refusal) → client.relayRead bytes ≡ read.refused why → e .call ≡ packetCall seat bytes
-          → sitter fromEmpty (pastAfter [] before) seat ≡ clientOf key → e .answer ≡ refused why
+          → sitter (fromEmpty sizes) (pastAfter [] before) seat ≡ clientOf key → e .answer ≡ refused why
       unfolding event
       unread-packet-from-empty key why r =
-          of-each (λ past e. e .call ≡ packetCall seat bytes → sitter fromEmpty past seat ≡ clientOf key → e .answer ≡ refused why)
-          (λ past room whole tie call c by. ap (λ (x : Call). event room x .answer) c ∙ unread-packet sizes fromEmpty past room whole tie seat key by bytes why r)
+          of-each (λ past e. e .call ≡ packetCall seat bytes → sitter (fromEmpty sizes) past seat ≡ clientOf key → e .answer ≡ refused why)
+          (λ past room whole tie call c by. ap (λ (x : Call). event room x .answer) c ∙ unread-packet sizes (fromEmpty sizes) past room whole tie seat key by bytes why r)
 
       pub drop-answered-from-empty : (number : ℕ) → client.relayRead bytes ≡ read.packet (client.dropRoute number) → e .call ≡ packetCall seat bytes
-          → DropAnswered fromEmpty (pastAfter [] before) seat number (e .answer)
+          → DropAnswered (fromEmpty sizes) (pastAfter [] before) seat number (e .answer)
       unfolding event
       drop-answered-from-empty number r =
-          of-each (λ past e. e .call ≡ packetCall seat bytes → DropAnswered fromEmpty past seat number (e .answer))
-          (λ past room whole tie call c. subst (λ (x : Call). DropAnswered fromEmpty past seat number (event room x .answer)) (sym c) (drop-answered sizes fromEmpty past room whole tie seat number bytes r))
+          of-each (λ past e. e .call ≡ packetCall seat bytes → DropAnswered (fromEmpty sizes) past seat number (e .answer))
+          (λ past room whole tie call c. subst (λ (x : Call). DropAnswered (fromEmpty sizes) past seat number (event room x .answer)) (sym c) (drop-answered sizes (fromEmpty sizes) past room whole tie seat number bytes r))
 
       -- that it is answered so is `request-tells-from-empty`
       pub request-numbered-from-empty : (key wanted : Key) → client.relayRead bytes ≡ read.packet (client.routingRequest wanted) → e .call ≡ packetCall seat bytes
-          → sitter fromEmpty (pastAfter [] before) seat ≡ clientOf key
-          → (number : ℕ) (sent : List Sent) → e .sent ≡ to seat (relay.routingResponse number wanted) ∷ sent → Numbered sizes fromEmpty (pastAfter [] before) key wanted number
+          → sitter (fromEmpty sizes) (pastAfter [] before) seat ≡ clientOf key
+          → (number : ℕ) (sent : List Sent) → e .sent ≡ to seat (relay.routingResponse number wanted) ∷ sent → Numbered sizes (fromEmpty sizes) (pastAfter [] before) key wanted number
       unfolding event
       request-numbered-from-empty key wanted r =
-          of-each (λ past e. e .call ≡ packetCall seat bytes → sitter fromEmpty past seat ≡ clientOf key
-          → (number : ℕ) (sent : List Sent) → e .sent ≡ to seat (relay.routingResponse number wanted) ∷ sent → Numbered sizes fromEmpty past key wanted number)
+          of-each (λ past e. e .call ≡ packetCall seat bytes → sitter (fromEmpty sizes) past seat ≡ clientOf key
+          → (number : ℕ) (sent : List Sent) → e .sent ≡ to seat (relay.routingResponse number wanted) ∷ sent → Numbered sizes (fromEmpty sizes) past key wanted number)
           (λ past room whole tie call c by number sent s.
-          request-numbered sizes fromEmpty past room whole tie seat (setKey (heldOf (seatAt room seat)) key) (seat-holds sizes fromEmpty past room whole tie seat key by) wanted bytes r number sent
+          request-numbered sizes (fromEmpty sizes) past room whole tie seat (setKey (heldOf (seatAt room seat)) key) (seat-holds sizes (fromEmpty sizes) past room whole tie seat key by) wanted bytes r number sent
           (ap (λ (x : Call). event room x .sent) (sym c) ∙ s))

@@ -13,9 +13,9 @@ use Rattle.packet_laws.specs.Read as read
 use Rattle.packet_laws.specs.FromClient as client
 use Rattle.rules.specs.Room.{Sizes, Key, Route, free, wants, vacant, Room, Found, none, at, find, seatOf, routeTo, seatAt, routeAt, firstNumber, numberOfPlace}
 use Rattle.rules.specs.Whole.{Whole}
-use Rattle.rules.specs.Call.{Call, arrive, leave, packetCall, Answer, Sent}
+use Rattle.rules.specs.Call.{Call, arrive, leave, packetCall, tick, Answer, Sent}
 use Rattle.rules.specs.History.{Event, happens}
-use Rattle.rules.specs.Transcript.{Past, Maker, nobody, clientOf, Start, fromEmpty, isAccepted, sitter, maker, standsAfterPacket, standsAfterOwn, standsAfter, stands}
+use Rattle.rules.specs.Transcript.{Past, Maker, nobody, clientOf, Start, fromEmpty, isAccepted, putOut, isAmong, sitter, maker, standsAfterPacket, standsAfterOwn, standsAfter, stands}
 use Rattle.rules.specs.After.{pastAfter, routesIn, routesBy, Tied}
 use Rattle.after_calls.specs.GoesOn.{Connected}
 use Rattle.after_calls.specs.Given.{Asked, under, notAsked}
@@ -85,6 +85,7 @@ unfolding standsAfterOwn
 zero-own (arrive key) answer sent wanted = refl
 zero-own (leave seat) answer sent wanted = either (isAccepted answer) false
 zero-own (packetCall seat bytes) answer sent wanted = zero-packet (client.relayRead bytes) answer sent wanted
+zero-own (tick time ping) answer sent wanted = refl
 
 zero-after : (m : Maker) (e : Event) (key wanted : Key) → standsAfter m e key 0 wanted false ≡ false
 unfolding standsAfter
@@ -97,12 +98,12 @@ pub none-under-zero : (start : Start) → ((key wanted : Key) → start .standin
 unfolding stands
 none-under-zero start at-first [] key wanted = at-first key wanted
 none-under-zero start at-first (e ∷ past) key wanted =
-    ap (standsAfter (maker start past (e .call)) e key 0 wanted) (none-under-zero start at-first past key wanted)
-    ∙ zero-after (maker start past (e .call)) e key wanted
+    rw (none-under-zero start at-first past key wanted, zero-after (maker start past (e .call)) e key wanted)
+    (either (isAmong key (putOut start past (e .call) (e .answer))) false)
 
 -- from the empty room
-pub none-under-zero-from-empty : (past : Past) (key wanted : Key) → stands fromEmpty past key 0 wanted ≡ false
-none-under-zero-from-empty = none-under-zero fromEmpty (λ key wanted. refl)
+pub none-under-zero-from-empty : (sizes : Sizes) (past : Past) (key wanted : Key) → stands (fromEmpty sizes) past key 0 wanted ≡ false
+none-under-zero-from-empty sizes = none-under-zero (fromEmpty sizes) (λ key wanted. refl)
 
 -- and where the room's tables say what has happened
 pub tied-none-under-zero : (start : Start) (past : Past) (room : Room) → Tied start past room → (key wanted : Key) → stands start past key 0 wanted ≡ false
@@ -112,19 +113,19 @@ tied-none-under-zero start past room tie key wanted = tie .requests key 0 wanted
 -- ---- every moment of every history, from the empty room
 
 module _ (sizes : Sizes) (calls : List Call) (before after : List Event) (t : happens sizes calls ≡ before ++ after) where
-  pub one-seat-from-empty : (key : Key) (seat other : ℕ) → sitter fromEmpty (pastAfter [] before) seat ≡ clientOf key
-      → sitter fromEmpty (pastAfter [] before) other ≡ clientOf key → seat ≡ other
+  pub one-seat-from-empty : (key : Key) (seat other : ℕ) → sitter (fromEmpty sizes) (pastAfter [] before) seat ≡ clientOf key
+      → sitter (fromEmpty sizes) (pastAfter [] before) other ≡ clientOf key → seat ≡ other
   one-seat-from-empty =
       moment-from-empty sizes
-      (λ past. (key : Key) (seat other : ℕ) → sitter fromEmpty past seat ≡ clientOf key → sitter fromEmpty past other ≡ clientOf key → seat ≡ other)
-      (one-seat sizes fromEmpty) calls before after t
+      (λ past. (key : Key) (seat other : ℕ) → sitter (fromEmpty sizes) past seat ≡ clientOf key → sitter (fromEmpty sizes) past other ≡ clientOf key → seat ≡ other)
+      (one-seat sizes (fromEmpty sizes)) calls before after t
 
-  pub connected-differ-from-empty : (seat number other number′ : ℕ) (c : Connected fromEmpty (pastAfter [] before) seat number other number′)
+  pub connected-differ-from-empty : (seat number other number′ : ℕ) (c : Connected (fromEmpty sizes) (pastAfter [] before) seat number other number′)
       → c .key ≢ c .wanted
   connected-differ-from-empty =
-      moment-from-empty sizes (λ past. (seat number other number′ : ℕ) (c : Connected fromEmpty past seat number other number′) → c .key ≢ c .wanted)
-      (connected-differ sizes fromEmpty) calls before after t
+      moment-from-empty sizes (λ past. (seat number other number′ : ℕ) (c : Connected (fromEmpty sizes) past seat number other number′) → c .key ≢ c .wanted)
+      (connected-differ sizes (fromEmpty sizes)) calls before after t
 
-  pub asked-or-not-from-empty : (key wanted : Key) → Asked fromEmpty (pastAfter [] before) key wanted
+  pub asked-or-not-from-empty : (key wanted : Key) → Asked (fromEmpty sizes) (pastAfter [] before) key wanted
   asked-or-not-from-empty =
-      moment-from-empty sizes (λ past. (key wanted : Key) → Asked fromEmpty past key wanted) (asked-or-not sizes fromEmpty) calls before after t
+      moment-from-empty sizes (λ past. (key wanted : Key) → Asked (fromEmpty sizes) past key wanted) (asked-or-not sizes (fromEmpty sizes)) calls before after t

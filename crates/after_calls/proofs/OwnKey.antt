@@ -103,28 +103,28 @@ module _ (sizes : Sizes) (start : Start) (past : Past) (room : Room) (whole : Wh
 
 -- THE THEOREM, at each moment
 pub none-for-itself-from-empty : (sizes : Sizes) (calls : List Call) (before after : List Event) → happens sizes calls ≡ before ++ after
-    → NoneForItself fromEmpty (pastAfter [] before)
-none-for-itself-from-empty sizes = moment-from-empty sizes (NoneForItself fromEmpty) (none-for-itself sizes fromEmpty)
+    → NoneForItself (fromEmpty sizes) (pastAfter [] before)
+none-for-itself-from-empty sizes = moment-from-empty sizes (NoneForItself (fromEmpty sizes)) (none-for-itself sizes (fromEmpty sizes))
 
 module _ (sizes : Sizes) (calls : List Call) (before : List Event) (e : Event) (later : List Event) (t : happens sizes calls ≡ before ++ (e ∷ later))
-    (seat : ℕ) (bytes : List ℕ) (key : Key) (c : e .call ≡ packetCall seat bytes) (by : sitter fromEmpty (pastAfter [] before) seat ≡ clientOf key) where
+    (seat : ℕ) (bytes : List ℕ) (key : Key) (c : e .call ≡ packetCall seat bytes) (by : sitter (fromEmpty sizes) (pastAfter [] before) seat ≡ clientOf key) where
   -- the grounds for 0
   pub zero-exactly-from-empty : (wanted : Key) → client.relayRead bytes ≡ read.packet (client.routingRequest wanted)
       → (number : ℕ) (sent : List Sent) → e .sent ≡ to seat (relay.routingResponse number wanted) ∷ sent
-      → (number ≡ 0) ↔ ZeroGround sizes fromEmpty (pastAfter [] before) key wanted
+      → (number ≡ 0) ↔ ZeroGround sizes (fromEmpty sizes) (pastAfter [] before) key wanted
   unfolding event
   zero-exactly-from-empty wanted r =
-      from-empty sizes (λ past e. e .call ≡ packetCall seat bytes → sitter fromEmpty past seat ≡ clientOf key → (number : ℕ) (sent : List Sent)
-      → e .sent ≡ to seat (relay.routingResponse number wanted) ∷ sent → (number ≡ 0) ↔ ZeroGround sizes fromEmpty past key wanted)
+      from-empty sizes (λ past e. e .call ≡ packetCall seat bytes → sitter (fromEmpty sizes) past seat ≡ clientOf key → (number : ℕ) (sent : List Sent)
+      → e .sent ≡ to seat (relay.routingResponse number wanted) ∷ sent → (number ≡ 0) ↔ ZeroGround sizes (fromEmpty sizes) past key wanted)
       (λ past room whole tie call c by number sent s.
-      zero-exactly sizes fromEmpty past room whole tie seat key by wanted bytes r number sent (ap (λ (x : Call). event room x .sent) (sym c) ∙ s))
+      zero-exactly sizes (fromEmpty sizes) past room whole tie seat key by wanted bytes r number sent (ap (λ (x : Call). event room x .sent) (sym c) ∙ s))
       calls before e later t c by
 
   -- a request for the own key
-  pub own-key-from-empty : client.relayRead bytes ≡ read.packet (client.routingRequest key) → OwnKey fromEmpty (pastAfter [] before) seat key e
+  pub own-key-from-empty : client.relayRead bytes ≡ read.packet (client.routingRequest key) → OwnKey (fromEmpty sizes) (pastAfter [] before) seat key e
   unfolding event
   own-key-from-empty r =
-      from-empty sizes (λ past e. e .call ≡ packetCall seat bytes → sitter fromEmpty past seat ≡ clientOf key → OwnKey fromEmpty past seat key e)
+      from-empty sizes (λ past e. e .call ≡ packetCall seat bytes → sitter (fromEmpty sizes) past seat ≡ clientOf key → OwnKey (fromEmpty sizes) past seat key e)
       (λ past room whole tie call c by.
-      subst (λ (x : Call). OwnKey fromEmpty past seat key (event room x)) (sym c) (own-key sizes fromEmpty past room whole tie seat key by bytes r))
+      subst (λ (x : Call). OwnKey (fromEmpty sizes) past seat key (event room x)) (sym c) (own-key sizes (fromEmpty sizes) past room whole tie seat key by bytes r))
       calls before e later t c by

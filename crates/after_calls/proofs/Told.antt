@@ -262,30 +262,30 @@ module _ (sizes : Sizes) (start : Start) (past : Past) (room : Room) (whole : Wh
 pub drop-tells-from-empty : (sizes : Sizes) (calls : List Call) (before : List Event) (e : Event) (later : List Event)
     → transcript sizes (emptyRoom sizes) calls ≡ before ++ (e ∷ later)
     → (seat number : ℕ) (bytes : List ℕ) → e .call ≡ packetCall seat bytes → client.relayRead bytes ≡ read.packet (client.dropRoute number)
-    → Disconnects fromEmpty (pastAfter [] before) seat number (e .sent)
+    → Disconnects (fromEmpty sizes) (pastAfter [] before) seat number (e .sent)
 unfolding event
 drop-tells-from-empty sizes calls before e later t seat number bytes c r =
-    from-empty sizes (λ past e. e .call ≡ packetCall seat bytes → Disconnects fromEmpty past seat number (e .sent))
-    (λ past room whole tie call c. subst (λ (x : Call). Disconnects fromEmpty past seat number (event room x .sent)) (sym c) (drop-tells sizes fromEmpty past room whole tie seat number bytes r))
+    from-empty sizes (λ past e. e .call ≡ packetCall seat bytes → Disconnects (fromEmpty sizes) past seat number (e .sent))
+    (λ past room whole tie call c. subst (λ (x : Call). Disconnects (fromEmpty sizes) past seat number (event room x .sent)) (sym c) (drop-tells sizes (fromEmpty sizes) past room whole tie seat number bytes r))
     calls before e later t c
 
 pub leave-tells-from-empty : (sizes : Sizes) (calls : List Call) (before : List Event) (e : Event) (later : List Event)
     → transcript sizes (emptyRoom sizes) calls ≡ before ++ (e ∷ later)
-    → (seat : ℕ) → e .call ≡ leave seat → LeaveTells sizes fromEmpty (pastAfter [] before) seat (e .sent)
+    → (seat : ℕ) → e .call ≡ leave seat → LeaveTells sizes (fromEmpty sizes) (pastAfter [] before) seat (e .sent)
 unfolding event
 leave-tells-from-empty sizes calls before e later t seat c =
-    from-empty sizes (λ past e. e .call ≡ leave seat → LeaveTells sizes fromEmpty past seat (e .sent))
-    (λ past room whole tie call c. subst (λ (x : Call). LeaveTells sizes fromEmpty past seat (event room x .sent)) (sym c) (leave-tells sizes fromEmpty past room whole tie seat))
+    from-empty sizes (λ past e. e .call ≡ leave seat → LeaveTells sizes (fromEmpty sizes) past seat (e .sent))
+    (λ past room whole tie call c. subst (λ (x : Call). LeaveTells sizes (fromEmpty sizes) past seat (event room x .sent)) (sym c) (leave-tells sizes (fromEmpty sizes) past room whole tie seat))
     calls before e later t c
 
 pub request-tells-from-empty : (sizes : Sizes) (calls : List Call) (before : List Event) (e : Event) (later : List Event)
     → transcript sizes (emptyRoom sizes) calls ≡ before ++ (e ∷ later)
     → (seat : ℕ) (bytes : List ℕ) (key wanted : Key) → e .call ≡ packetCall seat bytes → client.relayRead bytes ≡ read.packet (client.routingRequest wanted)
-    → sitter fromEmpty (pastAfter [] before) seat ≡ clientOf key → RequestTells fromEmpty (pastAfter [] before) seat key wanted e
+    → sitter (fromEmpty sizes) (pastAfter [] before) seat ≡ clientOf key → RequestTells (fromEmpty sizes) (pastAfter [] before) seat key wanted e
 unfolding event
 request-tells-from-empty sizes calls before e later t seat bytes key wanted c r =
-    from-empty sizes (λ past e. e .call ≡ packetCall seat bytes → sitter fromEmpty past seat ≡ clientOf key → RequestTells fromEmpty past seat key wanted e)
+    from-empty sizes (λ past e. e .call ≡ packetCall seat bytes → sitter (fromEmpty sizes) past seat ≡ clientOf key → RequestTells (fromEmpty sizes) past seat key wanted e)
     (λ past room whole tie call c by.
-    subst (λ (x : Call). RequestTells fromEmpty past seat key wanted (event room x)) (sym c)
-    (request-tells sizes fromEmpty past room whole tie seat (setKey (heldOf (seatAt room seat)) key) (seat-holds sizes fromEmpty past room whole tie seat key by) wanted bytes r))
+    subst (λ (x : Call). RequestTells (fromEmpty sizes) past seat key wanted (event room x)) (sym c)
+    (request-tells sizes (fromEmpty sizes) past room whole tie seat (setKey (heldOf (seatAt room seat)) key) (seat-holds sizes (fromEmpty sizes) past room whole tie seat key by) wanted bytes r))
     calls before e later t c

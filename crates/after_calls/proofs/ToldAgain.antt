@@ -59,7 +59,7 @@ first-free (suc n) h = refl
 
 -- an arrival in the lowest empty seat
 arrived : (sizes : Sizes) (room : Room) (key : Key) (seat : ℕ) → find (seatOf key) (room .seats) ≡ none → find isVacant (room .seats) ≡ at seat
-    → seatAt (roomAfter sizes room (outcome room (arrive key))) seat ≡ holds (newcomer sizes key)
+    → seatAt (roomAfter sizes room (outcome room (arrive key))) seat ≡ holds (newcomer sizes (room .clock) key)
 unfolding outcome arriveAt accept roomAfter applyAll apply
 arrived sizes room key seat e e′ = rw (e, e′) (seat-set room seat _ (find-within isVacant (room .seats) seat e′))
 
@@ -143,12 +143,12 @@ module _ (sizes : Sizes) (room : Room) (whole : Whole sizes room) (seat other : 
       unfolding isVacant seatAt
       else q = true≢false (sym (find-hit isVacant vacant (left .seats) again lowest) ∙ ap isVacant (ap (seatAt left) q ∙ left-other))
 
-      back-here : seatAt back again ≡ holds (newcomer sizes (held .key))
+      back-here : seatAt back again ≡ holds (newcomer sizes (left .clock) (held .key))
       back-here = arrived sizes left (held .key) again not-seated lowest
 
       pub told-again-after-leave : BothTold (outcome back (packetCall again asks)) again other number′ (held′ .key)
       unfolding routeTo
       told-again-after-leave =
-          both-told sizes back (whole-after sizes left (whole-after sizes room whole (leave seat)) (arrive (held .key))) again other else (newcomer sizes (held .key)) held′ back-here
+          both-told sizes back (whole-after sizes left (whole-after sizes room whole (leave seat)) (arrive (held .key))) again other else (newcomer sizes (left .clock) (held .key)) held′ back-here
           (arrive-keeps-others sizes left again other (λ q. else (sym q)) (held .key) count answered ∙ left-other) number′ named 0
           (find-replicate (routeTo (held′ .key)) (sizes .numbers) free refl) (first-free (sizes .numbers) some) asks isRequest

@@ -4,3 +4,6 @@ pub mod Given
 pub mod OwnKey
 pub mod Told
 pub mod PingAndOutOfBand
+pub mod Ticks
+pub mod Handed
+pub mod Silent

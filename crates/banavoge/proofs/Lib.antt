@@ -1,8 +1,10 @@
 -- `Codes` has the laws of answers as signed numbers; `Reading`, `Writing`, `NodeTelling` and `HeldTelling` carry the promises of `packet`, `packet_write`,
--- `node` and `lent_list` over to the exports; `RelayCounts` bounds what a call of the relay answers.
+-- `node` and `lent_list` over to the exports; `RelayCounts` bounds what a call of the relay answers; `SittingLaws` says who sits where,
+-- by the bytes and by what has happened.
 mod Codes
 mod HeldTelling
 mod NodeTelling
 mod Reading
 mod RelayCounts
+pub mod SittingLaws
 mod Writing

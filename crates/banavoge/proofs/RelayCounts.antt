@@ -1,4 +1,4 @@
--- The count that a call of the relay answers is small: no call writes more than 2,048 bytes, document 01's bound for lent output. Assumes nothing.
+-- The count that a call of the relay answers is small: no call writes more than the papers' bound for lent output, 2,048 bytes or, of a tick, 5,120. Assumes nothing.
 use mathlib.Core.Path.{_≡_, refl, subst}
 use mathlib.Core.Bool.{Bool, true, false, cond}
 use mathlib.Core.List.{List}

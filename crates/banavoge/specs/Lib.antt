@@ -6,4 +6,5 @@ pub mod Nodes
 pub mod Nearest
 pub mod Rooms
 pub mod RelayCalls
+pub mod Sitting
 pub mod Runs

@@ -1,5 +1,5 @@
--- What the exported calls of the relay answer. The relations are those of `relay_laws` (`Arrives`, `Departs`, `Sends`), for document 01's 40 seats and 32 numbers;
--- here the answer becomes one number.
+-- What the exported calls of the relay answer. The relations are those of `relay_laws` (`Arrives`, `Departs`, `Sends`, `Ticks`), for document 01's 40 seats and 32
+-- numbers; here the answer becomes one number.
 use Prim.Native.Nat.{_≤_}
 use lib.IntN.{ℤ, pos}
 use Rattle.rules.specs.Call as rules
@@ -10,12 +10,12 @@ unfoldable pub seatCode : rules.Answer → ℤ
 seatCode (rules.accepted seat bytes) = pos seat
 seatCode (rules.refused why) = refusalCode why
 
--- of a Leave or a packet: the byte count, or minus the refusal
+-- of a Leave, a packet or a tick: the byte count, or minus the refusal
 unfoldable pub countCode : rules.Answer → ℤ
 countCode (rules.accepted seat bytes) = pos bytes
 countCode (rules.refused why) = refusalCode why
 
--- a count that a call can have: no call writes more than document 01 asks of lent output, "under 2,048 for packet and leave"
+-- a count that fits the number: no call writes more than 5,120 bytes. What each call may write is `outcome-within` (`room_laws`)
 unfoldable pub CallCounted : rules.Answer → Type 0
 CallCounted (rules.accepted seat bytes) = bytes ≤ rules.mostNeeded
 CallCounted (rules.refused why) = Unit {0}

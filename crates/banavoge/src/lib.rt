@@ -12,4 +12,5 @@ pub mod readers;
 pub mod relay_calls;
 pub mod rooms;
 pub mod runs;
+pub mod sitting;
 pub mod writers;

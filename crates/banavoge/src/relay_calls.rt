@@ -1,8 +1,9 @@
-// The calls of the relay on a room in the host's memory. Document 01's section "The room".
+// The calls of the relay on a room in the host's memory. Document 01's section "The room", and document 02's
+// "Notice dead laptops".
 //
 // Every call tests the room in full before it uses it. A refused call leaves every byte of the room and of the output.
 ghost use mathlib.Core.Path.{_≡_};
-ghost use Rattle.relay_laws.specs.Calls.{answerOf, Arrives, Departs, Sends};
+ghost use Rattle.relay_laws.specs.Calls.{answerOf, Arrives, Departs, Sends, Ticks};
 ghost use Rattle.banavoge.specs.Answers.{ToldAs};
 ghost use Rattle.banavoge.specs.RelayCalls.{seatCode, countCode, CallCounted};
 use crate::answer;
@@ -56,5 +57,14 @@ pub extern "C" fn banavoge_packet(room: &mut [u8], seat: u8, packet: &[u8], out:
     ensures { λ r. ⌜ ToldAs countCode (Sends 40 32 seat (now (packet .entry)) (now (room .entry)) (now (out .entry)) (now (room .exit)) (now (out .exit))) r ⌝ }
 {
     let given = calls::packet(room, Seat(seat), packet, out);
+    count_of(given)
+}
+
+// The clock moves on to a time, in whole seconds, with the number for those who are pinged: the byte count of what is sent, or minus 10, 11, 7 or 19.
+#[no_mangle]
+pub extern "C" fn banavoge_tick(room: &mut [u8], time: u64, number: u64, out: &mut [u8]) -> i32
+    ensures { λ r. ⌜ ToldAs countCode (Ticks 40 32 time number (now (room .entry)) (now (out .entry)) (now (room .exit)) (now (out .exit))) r ⌝ }
+{
+    let given = calls::tick(room, time, number, out);
     count_of(given)
 }

@@ -8,3 +8,4 @@ pub mod ListExports
 pub mod RoomExports
 pub mod CallExports
 pub mod RunExports
+pub mod SittingExports

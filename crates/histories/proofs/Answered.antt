@@ -1,5 +1,5 @@
--- The number that an exported call answers tells its answer: an Arrive's number is its seat, and it counts no bytes; that of a Leave or a packet is the count, and
--- the seat is the call's own; a number below 0 is that of one refusal. So what the host sees of a call is its answer. Assumes nothing.
+-- The number that an exported call answers tells its answer: an Arrive's number is its seat, and it counts no bytes; that of a Leave, a packet or a tick is the
+-- count, and the seat is the call's own, of a tick 0; a number below 0 is that of one refusal. So what the host sees of a call is its answer. Assumes nothing.
 use mathlib.Core.Path.{_≡_, refl, sym, ap, _∙_}
 use mathlib.Core.List.{List, []}
 use Prim.Native.Nat.{ℕ, zero, suc, _≤_}

@@ -11,7 +11,7 @@ use lib.IntN.{ℤ}
 use lib.ListN.{length}
 use Rattle.packet_laws.specs.Read as read
 use Rattle.packet_laws.specs.FromClient as client
-use Rattle.rules.specs.Call.{Call, packetCall, mostNeeded}
+use Rattle.rules.specs.Call.{Call, packetCall, needed}
 use Rattle.rules.specs.History.{Event, event}
 use Rattle.rules.specs.Transcript.{fromEmpty}
 use Rattle.rules.specs.After.{pastAfter}
@@ -28,19 +28,19 @@ use Rattle.histories.proofs.Histories.{after-calls, history-event}
 
 pub data-after-calls : (s n : ℕ) (lents : List Lent) (events : List Event) (b : List ℕ) → AnyCalls s n lents events b
     → (seat number : ℕ) (bytes payload : List ℕ) → client.relayRead bytes ≡ read.packet (client.routedData number payload)
-    → (out b′ out′ : List ℕ) (answer : ℤ) → mostNeeded ≤ length out → ToldAs countCode (Sends s n seat bytes b out b′ out′) answer
-    → DataGoesOn fromEmpty (pastAfter [] events) seat number payload (seen (packetCall seat bytes) answer out′)
+    → (out b′ out′ : List ℕ) (answer : ℤ) → needed (packetCall seat bytes) ≤ length out → ToldAs countCode (Sends s n seat bytes b out b′ out′) answer
+    → DataGoesOn (fromEmpty (sizesOf s n)) (pastAfter [] events) seat number payload (seen (packetCall seat bytes) answer out′)
 unfolding seen seenAs event
 data-after-calls s n lents events b h seat number bytes payload r out b′ out′ answer long sent =
-    after-calls s n (λ past e. e .call ≡ packetCall seat bytes → DataGoesOn fromEmpty past seat number payload e)
+    after-calls s n (λ past e. e .call ≡ packetCall seat bytes → DataGoesOn (fromEmpty (sizesOf s n)) past seat number payload e)
     (λ past room whole tie call c.
-    subst (λ (x : Call). DataGoesOn fromEmpty past seat number payload (event room x)) (sym c)
-    (data-goes-on (sizesOf s n) fromEmpty past room whole tie seat number bytes payload r))
+    subst (λ (x : Call). DataGoesOn (fromEmpty (sizesOf s n)) past seat number payload (event room x)) (sym c)
+    (data-goes-on (sizesOf s n) (fromEmpty (sizesOf s n)) past room whole tie seat number bytes payload r))
     lents events b h (lentWith (packetCall seat bytes) out) (seen (packetCall seat bytes) answer out′) b′ (sends seat bytes out out′ answer sent refl refl) long refl
 
 pub data-in-histories : (s n : ℕ) (events : List Event) (b′ : List ℕ) → History s n events b′
     → (before : List Event) (e : Event) (later : List Event) → events ≡ before ++ (e ∷ later)
     → (seat number : ℕ) (bytes payload : List ℕ) → e .call ≡ packetCall seat bytes → client.relayRead bytes ≡ read.packet (client.routedData number payload)
-    → DataGoesOn fromEmpty (pastAfter [] before) seat number payload e
+    → DataGoesOn (fromEmpty (sizesOf s n)) (pastAfter [] before) seat number payload e
 data-in-histories s n events b′ h before e later t =
     data-goes-on-from-empty (sizesOf s n) (callsOf events) before e later (history-event s n events b′ h before e later t)

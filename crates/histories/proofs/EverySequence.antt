@@ -1,6 +1,6 @@
--- The theorems on histories are about something. Any calls, with arrivals by keys of 32 bytes, and with any outputs lent to them, are those of a chain of exported
--- calls from whatever bytes (`every-call-made`), and so of calls from the empty room in whatever memory fits a room (`every-calls`); and every sequence of calls is
--- that of a history, with whatever output of 2,048 bytes or more, lent to each call anew (`every-sequence`). Assumes nothing.
+-- The theorems on histories are about something. Any calls, with keys of 32 bytes and with times and ping numbers of 8, and with any outputs lent to them, are those
+-- of a chain of exported calls from whatever bytes (`every-call-made`), and so of calls from the empty room in whatever memory fits a room (`every-calls`); and every sequence of calls is
+-- that of a history, with whatever output of 5,120 bytes or more, lent to each call anew (`every-sequence`). Assumes nothing.
 use mathlib.Core.Path.{_≡_, refl, sym, ap, ap₂, subst, _∙_}
 use mathlib.Core.Bool.{Bool, true, false, cond}
 use mathlib.Core.List.{List, [], _∷_, _++_}
@@ -9,7 +9,7 @@ use native.Mathlib.Omega.{arith}
 use lib.ListN.{length, drop}
 use Rattle.refusal.specs.declared.Refusal.the-variants.{RoomNotWhole}
 use Rattle.rules.specs.Room.{Key}
-use Rattle.rules.specs.Call.{Call, arrive, leave, packetCall, Sent, KeyOf32, mostNeeded, needed}
+use Rattle.rules.specs.Call.{Call, arrive, leave, packetCall, tick, Sent, FieldsFit, mostNeeded, needed}
 use Rattle.rules.specs.Outcome.{Outcome, refuse, sentBytes, outcome}
 use Rattle.rules.specs.History.{Event}
 use Rattle.rules.proofs.QuietArrival.{arrive-sends-nothing}
@@ -22,8 +22,8 @@ use Rattle.banavoge.specs.Rooms.{doneOr}
 use Rattle.banavoge.specs.RelayCalls.{seatCode, countCode}
 use Rattle.histories.specs.Seen.{seenAs, seen}
 use Rattle.histories.specs.Lent.{AllLong}
-use Rattle.histories.specs.Sequences.{KeysOf32, lentTo, CallMade, lentsTo, callsMade, AnyChainOf, ChainOf, AnyCallsOf, HistoryOf}
-use Rattle.histories.specs.History.{Step, arrives, departs, sends, none, next, BeginsEmpty, callsOf}
+use Rattle.histories.specs.Sequences.{AllFieldsFit, lentTo, CallMade, lentsTo, callsMade, AnyChainOf, ChainOf, AnyCallsOf, HistoryOf}
+use Rattle.histories.specs.History.{Step, arrives, departs, sends, ticks, none, next, BeginsEmpty, callsOf}
 
 -- ---- one call
 
@@ -58,7 +58,7 @@ module _ (s n : ℕ) where
   leaves : (b out : List ℕ) (o : Outcome) → Leaves s n o b out (o .answer) (stored b o) (output out o)
   leaves b out o = record { answers = refl; stores = refl; writes = refl }
 
-  every-call : (b : List ℕ) (call : Call) (out : List ℕ) → KeyOf32 call → Steps s n b call out
+  every-call : (b : List ℕ) (call : Call) (out : List ℕ) → FieldsFit call → Steps s n b call out
   unfolding seen seenAs
   every-call b (arrive key) out k =
       let o = withOutput s n b [] (arrive key) in
@@ -90,10 +90,19 @@ module _ (s n : ℕ) where
         step = sends seat bytes out (output out o) (countCode (o .answer)) (record { given = o .answer; relates = leaves b out o; codes = refl }) refl refl;
         is = refl;
       }
+  every-call b (tick time ping) out k =
+      let o = withOutput s n b out (tick time ping) in
+      record {
+        seen-as = seen (tick time ping) (countCode (o .answer)) (output out o);
+        left = stored b o;
+        step = ticks time ping out (output out o) (countCode (o .answer))
+            (record { given = o .answer; relates = record { fits = k; leaves = leaves b out o }; codes = refl }) refl refl;
+        is = refl;
+      }
 
 -- ---- calls one after the other
 
-pub every-call-made : (s n : ℕ) (b : List ℕ) (made : List CallMade) → KeysOf32 (callsMade made) → AnyChainOf s n b made
+pub every-call-made : (s n : ℕ) (b : List ℕ) (made : List CallMade) → AllFieldsFit (callsMade made) → AnyChainOf s n b made
 unfolding callsOf callsMade lentsTo
 every-call-made s n b [] k = record { events = []; left = b; chain = none; are = refl }
 every-call-made s n b (m ∷ made) k =
@@ -121,17 +130,18 @@ module _ (out : List ℕ) where
   module _ (long : mostNeeded ≤ length out) where
     long-lent : (call : Call) → needed (lentTo call out .call) ≤ lentTo call out .space
     long-lent (arrive key) = omega arith
-    long-lent (leave seat) = long
-    long-lent (packetCall seat bytes) = long
+    long-lent (leave seat) = omega arith
+    long-lent (packetCall seat bytes) = omega arith
+    long-lent (tick time ping) = long
 
     all-long : (calls : List Call) → AllLong (lentsTo (withOutputs calls))
     unfolding withOutputs lentsTo
     all-long [] = tt
     all-long (call ∷ calls) = (long-lent call, all-long calls)
 
-    pub every-chain : (s n : ℕ) (b : List ℕ) (calls : List Call) → KeysOf32 calls → ChainOf s n b calls
+    pub every-chain : (s n : ℕ) (b : List ℕ) (calls : List Call) → AllFieldsFit calls → ChainOf s n b calls
     every-chain s n b calls k =
-        let c = every-call-made s n b (withOutputs calls) (subst KeysOf32 (sym (calls-with calls)) k) in
+        let c = every-call-made s n b (withOutputs calls) (subst AllFieldsFit (sym (calls-with calls)) k) in
         record {
           events = c .events;
           left = c .left;
@@ -150,13 +160,13 @@ fits-begins s n memory fits =
       empties = record { given = true; relates = record { answers = sym fits; leaves = rw fits }; codes = refl };
     }
 
-pub every-calls : (s n : ℕ) (memory : List ℕ) → fitsRoom s n memory ≡ true → (made : List CallMade) → KeysOf32 (callsMade made) → AnyCallsOf s n made
+pub every-calls : (s n : ℕ) (memory : List ℕ) → fitsRoom s n memory ≡ true → (made : List CallMade) → AllFieldsFit (callsMade made) → AnyCallsOf s n made
 every-calls s n memory fits made k =
     let c = every-call-made s n (emptied s n memory) made k in
     record { events = c .events; left = c .left; calls = record { room = emptied s n memory; begun = fits-begins s n memory fits; chain = c .chain }; are = c .are }
 
 pub every-sequence : (s n : ℕ) (memory : List ℕ) → fitsRoom s n memory ≡ true → (out : List ℕ) → mostNeeded ≤ length out
-    → (calls : List Call) → KeysOf32 calls → HistoryOf s n calls
+    → (calls : List Call) → AllFieldsFit calls → HistoryOf s n calls
 every-sequence s n memory fits out long calls k =
     let c = every-chain out long s n (emptied s n memory) calls k in
     record { events = c .events; left = c .left; history = record { room = emptied s n memory; begun = fits-begins s n memory fits; chain = c .chain }; are = c .are }

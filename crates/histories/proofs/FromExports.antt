@@ -6,7 +6,7 @@ use mathlib.Core.List.{List, [], _++_}
 use lib.IntN.{pos}
 use denote.Ref.{now}
 use Rattle.refusal.specs.declared.Refusal.the-variants.{OutputTooShort}
-use Rattle.rules.specs.Call.{arrive, leave, packetCall}
+use Rattle.rules.specs.Call.{arrive, leave, packetCall, tick}
 use Rattle.rules.specs.History.{Event}
 use Rattle.banavoge.proofs.rooms.banavoge_room_empty.Kinds as empty-kinds
 use Rattle.banavoge.proofs.rooms.banavoge_room_empty.Reads as empty-reads
@@ -18,6 +18,12 @@ use Rattle.banavoge.proofs.relay_calls.banavoge_leave.Kinds as leave-kinds
 use Rattle.banavoge.proofs.relay_calls.banavoge_leave.Reads as leave-reads
 use Rattle.banavoge.proofs.relay_calls.banavoge_packet.Kinds as packet-kinds
 use Rattle.banavoge.proofs.relay_calls.banavoge_packet.Reads as packet-reads
+use Rattle.banavoge.proofs.relay_calls.banavoge_tick.Kinds as tick-kinds
+use Rattle.banavoge.proofs.relay_calls.banavoge_tick.Reads as tick-reads
+use Rattle.banavoge.proofs.sitting.banavoge_key_in.Kinds as key-in-kinds
+use Rattle.banavoge.proofs.sitting.banavoge_key_in.Reads as key-in-reads
+use Rattle.banavoge.proofs.sitting.banavoge_seat_of.Kinds as seat-of-kinds
+use Rattle.banavoge.proofs.sitting.banavoge_seat_of.Reads as seat-of-reads
 use Rattle.banavoge.proofs.runs.banavoge_play.Kinds as play-kinds
 use Rattle.banavoge.proofs.runs.banavoge_play.Reads as play-reads
 use Rattle.room_laws.specs.Store.{MakesEmpty}
@@ -26,11 +32,12 @@ use Rattle.banavoge.specs.Rooms.{doneOr, roomCode}
 use Rattle.banavoge.specs.Runs.{counts, telling}
 use Rattle.contracts.specs.Promises.{Gives}
 use Rattle.contracts.proofs.RoomExports.{banavoge-room-empty, banavoge-room-check}
-use Rattle.contracts.proofs.CallExports.{banavoge-arrive, banavoge-leave, banavoge-packet}
+use Rattle.contracts.proofs.CallExports.{banavoge-arrive, banavoge-leave, banavoge-packet, banavoge-tick}
+use Rattle.contracts.proofs.SittingExports.{banavoge-key-in, banavoge-seat-of}
 use Rattle.contracts.proofs.RunExports.{banavoge-play}
 use Rattle.histories.specs.Seen.{seen}
 use Rattle.histories.specs.Lent.{Lent, lentWith}
-use Rattle.histories.specs.History.{Step, arrives, departs, sends, BeginsEmpty, AnyCalls, History}
+use Rattle.histories.specs.History.{Step, arrives, departs, sends, ticks, BeginsEmpty, AnyCalls, History}
 use Rattle.histories.specs.RunSeen.{runSeen}
 use Rattle.histories.specs.ExportedCalls.{hostMemory, noPlaces, Exported}
 use Rattle.histories.specs.ExportedCalls as exported
@@ -62,6 +69,13 @@ pub packet-step : Gives 3 packet-kinds.ps packet-kinds.r packet-reads.Post
     let call = packetCall seat (now packet) in
     Step 40 32 (now room) (lentWith call (now out)) (seen call answer (now out′)) (now room′))
 packet-step κs args answer left p = sends _ _ _ _ answer (banavoge-packet .gives κs args answer left p) refl refl
+
+-- `banavoge_tick`
+pub tick-step : Gives 2 tick-kinds.ps tick-kinds.r tick-reads.Post
+    (λ κs (room, (time, (number, (out, _)))) answer (room′, (_, (_, (out′, _)))).
+    let call = tick time number in
+    Step 40 32 (now room) (lentWith call (now out)) (seen call answer (now out′)) (now room′))
+tick-step κs args answer left p = ticks _ _ _ _ answer (banavoge-tick .gives κs args answer left p) refl refl
 
 -- `banavoge_play` behind any calls goes on with them, and behind a history with that
 pub play-behind-calls : Gives 6 play-kinds.ps play-kinds.r play-reads.Post
@@ -100,6 +114,20 @@ pub packet-exported : Gives 3 packet-kinds.ps packet-kinds.r packet-reads.Post
     (λ κs (room, (seat, (packet, (out, _)))) answer (room′, (_, (_, (out′, _)))).
     Exported 40 32 (hostMemory (now room) (now out) noPlaces) answer (hostMemory (now room′) (now out′) noPlaces))
 packet-exported κs args answer left p = exported.sends _ _ (banavoge-packet .gives κs args answer left p)
+
+pub tick-exported : Gives 2 tick-kinds.ps tick-kinds.r tick-reads.Post
+    (λ κs (room, (time, (number, (out, _)))) answer (room′, (_, (_, (out′, _)))).
+    Exported 40 32 (hostMemory (now room) (now out) noPlaces) answer (hostMemory (now room′) (now out′) noPlaces))
+tick-exported κs args answer left p = exported.ticks _ _ (banavoge-tick .gives κs args answer left p)
+
+pub key-in-exported : Gives 2 key-in-kinds.ps key-in-kinds.r key-in-reads.Post
+    (λ κs (room, (seat, (key, _))) answer (_, (_, (key′, _))).
+    Exported 40 32 (hostMemory (now room) (now key) noPlaces) answer (hostMemory (now room) (now key′) noPlaces))
+key-in-exported κs args answer left p = exported.tellsKey _ (banavoge-key-in .gives κs args answer left p)
+
+pub seat-of-exported : Gives 2 seat-of-kinds.ps seat-of-kinds.r seat-of-reads.Post
+    (λ κs (room, (key, _)) answer _. Exported 40 32 (hostMemory (now room) [] noPlaces) answer (hostMemory (now room) [] noPlaces))
+seat-of-exported κs args answer left p = exported.tellsSeat _ (banavoge-seat-of .gives κs args answer left p)
 
 pub play-exported : Gives 6 play-kinds.ps play-kinds.r play-reads.Post
     (λ κs (room, (calls, (allowance, (out, (played, (read, (written, _))))))) answer (room′, (_, (_, (out′, (played′, (read′, (written′, _))))))).

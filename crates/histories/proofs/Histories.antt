@@ -14,13 +14,13 @@ use lib.ListN.{length, drop}
 use Rattle.refusal.specs.declared.Refusal.the-variants.{OutputTooShort}
 use Rattle.rules.specs.Room.{Sizes, baseSizes, Key, Room, emptyRoom, sizesOf}
 use Rattle.rules.specs.Whole.{Whole}
-use Rattle.rules.specs.Call.{Call, arrive, leave, packetCall, Answer, accepted, KeyOf32, needed}
+use Rattle.rules.specs.Call.{Call, arrive, leave, packetCall, tick, Answer, accepted, FieldsFit, needed}
 use Rattle.rules.specs.Outcome.{Outcome, refuse, sentBytes, outcome, roomAfter}
 use Rattle.rules.specs.History.{Event, event, transcript}
 use Rattle.rules.specs.Transcript.{Past, Start, fromEmpty}
 use Rattle.rules.specs.After.{roomAfterAll, pastAfter, Tied}
 use Rattle.rules.specs.Accepted.{MadeAt}
-use Rattle.rules.proofs.RefusedOrAccepted.{outcome-made, leave-made-at, packet-made-at}
+use Rattle.rules.proofs.RefusedOrAccepted.{outcome-made, leave-made-at, packet-made-at, tick-made-at}
 use Rattle.rules.proofs.QuietArrival.{arrive-sends-nothing}
 use Rattle.rules.proofs.Tied.{tied-empty}
 use Rattle.room_laws.specs.Layout.{fitsRoom}
@@ -29,7 +29,7 @@ use Rattle.room_laws.specs.Whole.{roomWhole}
 use Rattle.room_laws.specs.Store.{storeAll, emptied, MakesEmpty}
 use Rattle.room_laws.proofs.WholeLaws.{whole-view}
 use Rattle.room_laws.proofs.EmptyLaws.{empty-whole, empty-view}
-use Rattle.relay_laws.specs.Calls.{written, Leaves, tested, withOutput, Arrives, Departs, Sends}
+use Rattle.relay_laws.specs.Calls.{written, Leaves, tested, withOutput, Arrives, Departs, Sends, Ticks}
 use Rattle.records.proofs.RoundTrips.{all-short}
 use Rattle.relay_laws.proofs.OutcomeLeaves.{made-written}
 use Rattle.relay_laws.proofs.CallsLaws.{by-call}
@@ -38,7 +38,7 @@ use Rattle.banavoge.specs.Rooms.{doneOr}
 use Rattle.banavoge.specs.RelayCalls.{seatCode, countCode}
 use Rattle.histories.specs.Seen.{recordsRead, seenAs, acceptedWith, answered, seen}
 use Rattle.histories.specs.Lent.{Lent, lentWith, lentOutcome, lentEvent, lentTranscript, lentRoomAfter, AllLong, callsLent}
-use Rattle.histories.specs.History.{Step, arrives, departs, sends, AnyChain, none, next, Chain, BeginsEmpty, AnyCalls, History, callsOf}
+use Rattle.histories.specs.History.{Step, arrives, departs, sends, ticks, AnyChain, none, next, Chain, BeginsEmpty, AnyCalls, History, callsOf}
 use Rattle.histories.specs.Steps.{StepRight, EqualsSteps, Right, EqualsRules}
 use Rattle.histories.proofs.ReadBack.{written-read}
 use Rattle.histories.proofs.Answered.{seat-answered, count-answered, refusal-answered}
@@ -84,6 +84,14 @@ module _ (s n : ℕ) (b : List ℕ) where
       ∙ ap countCode
       (sym (seat-tells (packetCall seat bytes) seat (λ count. refl) (packet-made-at (viewRoom s n b) seat bytes) out number (c .given) (c .relates .answers) (c .codes)))
 
+  pub tick-number : (time ping : ℕ) (out b′ out′ : List ℕ) (number : ℤ) → ToldAs countCode (Ticks s n time ping b out b′ out′) number
+      → number ≡ countCode (answered (tick time ping) number)
+  unfolding acceptedWith
+  tick-number time ping out b′ out′ number c =
+      c .codes
+      ∙ ap countCode
+      (sym (seat-tells (tick time ping) 0 (λ count. refl) (tick-made-at (viewRoom s n b) time ping) out number (c .given) (c .relates .leaves .answers) (c .codes)))
+
 -- ---- one step
 
 module _ (s n : ℕ) (b : List ℕ) (whole : roomWhole s n b ≡ true) where
@@ -92,7 +100,7 @@ module _ (s n : ℕ) (b : List ℕ) (whole : roomWhole s n b ≡ true) where
   unfolding withOutput tested lentOutcome
   whole-lent call out = rw whole
 
-  module _ (l : Lent) (key : KeyOf32 (l .call)) (given : Answer) (out b′ out′ : List ℕ) (left : Leaves s n (lentOutcome (viewRoom s n b) l) b out given b′ out′) where
+  module _ (l : Lent) (key : FieldsFit (l .call)) (given : Answer) (out b′ out′ : List ℕ) (left : Leaves s n (lentOutcome (viewRoom s n b) l) b out given b′ out′) where
     read-right : recordsRead given out′ ≡ lentOutcome (viewRoom s n b) l .sent
     read-right =
         let o = lentOutcome (viewRoom s n b) l in
@@ -135,6 +143,12 @@ module _ (s n : ℕ) (b : List ℕ) (whole : roomWhole s n b ≡ true) where
       subst (λ (x : Lent). StepRight s n b x e b′) (sym lends)
       (leaves-right (lentWith call out) tt (c .given) out b′ out′ left number
       (seat-tells s n b call seat (λ count. refl) (packet-made-at (viewRoom s n b) seat bytes) out number (c .given) (c .relates .answers) (c .codes)) e q)
+  step-right l e b′ (ticks time ping out out′ number c lends q) =
+      let call = tick time ping in
+      let left = subst (λ (o : Outcome). Leaves s n o b out (c .given) b′ out′) (whole-lent call out) (c .relates .leaves) in
+      subst (λ (x : Lent). StepRight s n b x e b′) (sym lends)
+      (leaves-right (lentWith call out) (c .relates .fits) (c .given) out b′ out′ left number
+      (seat-tells s n b call 0 (λ count. refl) (tick-made-at (viewRoom s n b) time ping) out number (c .given) (c .relates .leaves .answers) (c .codes)) e q)
 
 -- ---- any calls
 
@@ -187,9 +201,9 @@ any-chain-tied s n b ls es b′ (next {b₁ = b₁} {l = l} {e = e} {lents = len
     (rw (r .sees, r .room) (lent-tied (sizesOf s n) start past (viewRoom s n b) (whole-view s n b w) tie l))
 
 pub any-calls-tied : (s n : ℕ) (lents : List Lent) (events : List Event) (b′ : List ℕ) → AnyCalls s n lents events b′
-    → Tied fromEmpty (pastAfter [] events) (viewRoom s n b′)
+    → Tied (fromEmpty (sizesOf s n)) (pastAfter [] events) (viewRoom s n b′)
 any-calls-tied s n lents events b′ h =
-    any-chain-tied s n (h .room) lents events b′ (h .chain) (begun-whole s n (h .room) (h .begun)) fromEmpty []
+    any-chain-tied s n (h .room) lents events b′ (h .chain) (begun-whole s n (h .room) (h .begun)) (fromEmpty (sizesOf s n)) []
     (rw (begun-view s n (h .room) (h .begun)) (tied-empty (sizesOf s n)))
 
 -- ---- histories: the outputs are long enough
@@ -213,7 +227,7 @@ long-step-right s n b w l e b′ step long =
 
 -- so what is proved of each call in each whole room that says what has happened holds of each exported call, lent an output that is long enough, after any calls
 pub after-calls : (s n : ℕ) (P : Past → Event → Type 0)
-    → ((past : Past) (room : Room) → Whole (sizesOf s n) room → Tied fromEmpty past room → (call : Call) → P past (event room call))
+    → ((past : Past) (room : Room) → Whole (sizesOf s n) room → Tied (fromEmpty (sizesOf s n)) past room → (call : Call) → P past (event room call))
     → (lents : List Lent) (events : List Event) (b : List ℕ) → AnyCalls s n lents events b
     → (l : Lent) (e : Event) (b′ : List ℕ) → Step s n b l e b′ → needed (l .call) ≤ l .space → P (pastAfter [] events) e
 after-calls s n P each lents events b h l e b′ step long =

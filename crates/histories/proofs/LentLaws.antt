@@ -14,7 +14,7 @@ use Rattle.rules.specs.History.{Event, event, transcript}
 use Rattle.rules.specs.Transcript.{Past, Start}
 use Rattle.rules.specs.After.{roomAfterAll, Tied}
 use Rattle.rules.specs.Accepted.{RefusedOrAccepted, refusal}
-use Rattle.rules.specs.Call.{KeyOf32, mostNeeded, needed}
+use Rattle.rules.specs.Call.{FieldsFit, mostNeeded, needed}
 use Rattle.rules.proofs.RefusedOrAccepted.{outcome-made}
 use Rattle.rules.proofs.Tied.{tied-after, tied-refused}
 use Rattle.rules.proofs.WithinOutput.{needs-within}
@@ -46,7 +46,7 @@ module _ (s n : ℕ) (b : List ℕ) (whole : roomWhole s n b ≡ true) (l : Lent
   lent-within = by-space (λ o. length (sentBytes (o .sent)) ≤ mostNeeded) (viewRoom s n b) l (omega (arith, outcome-within s n b whole (l .call), needs-within (l .call))) (unfold refuse sentBytes in omega arith)
 
   -- what is stored is what the rules do, and stays whole
-  pub lent-stored : KeyOf32 (l .call)
+  pub lent-stored : FieldsFit (l .call)
       → (viewRoom s n (storeAll s n b (lentOutcome (viewRoom s n b) l .changes)) ≡ roomAfter (sizesOf s n) (viewRoom s n b) (lentOutcome (viewRoom s n b) l))
       × (roomWhole s n (storeAll s n b (lentOutcome (viewRoom s n b) l .changes)) ≡ true)
   lent-stored key =

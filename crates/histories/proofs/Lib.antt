@@ -1,18 +1,22 @@
 -- `ReadBack`, what is read in an output that begins with records; `Answered`, the number that an export answers tells its answer; `LentLaws`, calls with any
 -- output; `Histories`, demand 2 of any calls and of every history; `DataInHistories`, its sentence on data; `RequestsInHistories`, one seat for a key, the
--- grounds for 0 and a client's own key; `IsolationInHistories`, demand 3; `EverySequence`, every sequence of calls has a history; `FromExports`, the contract
--- of an exported call is a step; `RefusedLeaves`, a refused export leaves all as before, and a room that is not whole is refused. Of nearest lists, packets,
--- nodes and frames: `ListHistories`, demand 2 of lists, with the k nearest; `EveryList`, any calls on a list have a history; `WrittenAndRead`, reading what
--- was written and writing what was read; `FrameStreams`, a stream of frames, however it is cut; `OtherRefusedLeaves`, a refused export leaves all as before,
--- but for two numbers of the reader of frames; `FromOtherExports`, their contracts. Of runs of stored calls: `RunIsChain`, a run is a chain of the single
--- calls; `RunSeen`, what it wrote reads back; `RunStops`, what each stop means and how a second run goes on; `RunEnds`, with enough allowance and output it
--- ends at the end; `RunHistories`, demands 2 and 3.
+-- grounds for 0 and a client's own key; `TicksInHistories`, what a tick does, the 40 seconds and who sits in a seat; `PongsInHistories`, what a pong does,
+-- and where a key sits; `HandedInHistories`, what a tick hands a client; `IsolationInHistories`, demand 3; `EverySequence`, every sequence
+-- of calls has a history; `FromExports`, the contract of an exported call is a step; `RefusedLeaves`, a refused export leaves all as before, and a room that is
+-- not whole is refused. Of nearest lists, packets, nodes and frames: `ListHistories`, demand 2 of lists, with the k nearest; `EveryList`, any calls on a list
+-- have a history; `WrittenAndRead`, reading what was written and writing what was read; `FrameStreams`, a stream of frames, however it is cut;
+-- `OtherRefusedLeaves`, a refused export leaves all as before, but for two numbers of the reader of frames; `FromOtherExports`, their contracts. Of runs of
+-- stored calls: `RunIsChain`, a run is a chain of the single calls; `RunSeen`, what it wrote reads back; `RunStops`, what each stop means and how a second run
+-- goes on; `RunEnds`, with enough allowance and output it ends at the end; `RunHistories`, demands 2 and 3.
 pub mod ReadBack
 pub mod Answered
 pub mod LentLaws
 pub mod Histories
 pub mod DataInHistories
 pub mod RequestsInHistories
+pub mod TicksInHistories
+pub mod PongsInHistories
+pub mod HandedInHistories
 pub mod IsolationInHistories
 pub mod EverySequence
 pub mod FromExports

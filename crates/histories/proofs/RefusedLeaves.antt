@@ -1,25 +1,25 @@
 -- "A refusal answers its number with 0 bytes written; room, list and lent output are as before the call." One statement for every export of a room, on any memory:
 -- where it answers below 0, the memory of the room, the output and every place that it was handed are as before (`refused-leaves`). And those that test
 -- the room, on memory that is not a whole room, answer minus 11 and leave it all (`not-whole-refused`); so where a seat names its own key
--- (`names-itself-refused`). Assumes nothing.
+-- (`names-itself-refused`) and where a ping time is after the clock (`pinged-later-refused`). Assumes nothing.
 use mathlib.Core.Path.{_≡_, refl, sym, ap, ap₂, subst, _∙_}
 use mathlib.Core.Bool.{Bool, true, false, cond}
 use mathlib.Core.List.{List, []}
-use Prim.Native.Nat.{ℕ, _≤_}
+use Prim.Native.Nat.{ℕ, _≤_, _<_}
 use native.Mathlib.Omega.{arith}
 use lib.IntN.{ℤ}
 use lib.ListN.{length}
 use borrow.Author.Tests.{le-leb}
 use Rattle.refusal.specs.declared.Refusal.{Refusal}
 use Rattle.refusal.specs.declared.Refusal.the-variants.{OutputTooShort, RoomNotWhole}
-use Rattle.rules.specs.Call.{Call, arrive, leave, packetCall, Answer, accepted, refused, needed}
+use Rattle.rules.specs.Call.{Call, arrive, leave, packetCall, tick, Answer, accepted, refused, needed}
 use Rattle.rules.specs.Outcome.{Outcome, refuse, accept, sentBytes}
 use Rattle.rules.specs.Accepted.{RefusedOrAccepted, refusal, acceptance}
 use Rattle.rules.specs.Room.{sizesOf, Held, wants, holds, seatAt, routeAt}
 use Rattle.room_laws.specs.View.{viewRoom}
 use Rattle.room_laws.specs.Whole.{roomWhole}
 use Rattle.room_laws.specs.Store.{storeAll, emptied, MakesEmpty}
-use Rattle.room_laws.proofs.WholeLaws.{names-itself}
+use Rattle.room_laws.proofs.WholeLaws.{names-itself, pinged-later}
 use Rattle.relay.specs.declared.play.Run as code
 use Rattle.relay_laws.specs.Calls.{Leaves, tested, ifLong, withOutput}
 use Rattle.relay_laws.proofs.CallsLaws.{call-made}
@@ -27,8 +27,9 @@ use Rattle.relay.specs.Play.{run, played, Playing, playing, LeavesRun, Plays}
 use Rattle.banavoge.specs.Answers.{refusalCode}
 use Rattle.banavoge.specs.Rooms.{doneOr}
 use Rattle.banavoge.specs.RelayCalls.{seatCode, countCode}
+use Rattle.banavoge.specs.Sitting.{Told, turned, sits, whoSits, sitCode, keyThen, TellsSitter, seatOfKey}
 use Rattle.banavoge.specs.Runs.{runCode, Counts, runCounts, Telling, runTold}
-use Rattle.histories.specs.ExportedCalls.{HostMemory, hostMemory, noPlaces, Exported, empties, checks, arrives, departs, sends, plays, TestsRoom, Below0}
+use Rattle.histories.specs.ExportedCalls.{HostMemory, hostMemory, noPlaces, Exported, empties, checks, arrives, departs, sends, ticks, tellsKey, tellsSeat, plays, TestsRoom, Below0}
 
 -- ---- single calls
 
@@ -83,6 +84,16 @@ module _ (s n allowance : ℕ) (stored b out b′ out′ : List ℕ) where
 same-memory : (places : Counts) {b out b′ out′ : List ℕ} → (b′ ≡ b) × (out′ ≡ out) → hostMemory b′ out′ places ≡ hostMemory b out places
 same-memory places e = ap₂ (λ (x y : List ℕ). hostMemory x y places) (e .0) (e .1)
 
+-- a key that is not told is not written
+key-kept : (s n : ℕ) (b before : List ℕ) (seat : ℕ) {after : List ℕ} {answer : ℤ} → TellsSitter s n seat b before after answer → Below0 answer
+    → hostMemory b after noPlaces ≡ hostMemory b before noPlaces
+unfolding sitCode keyThen
+key-kept s n b before seat c below = ap (λ (x : List ℕ). hostMemory b x noPlaces) (c .leaves ∙ go (whoSits s n b seat) (subst Below0 (c .answers) below))
+  where
+    go : (t : Told) → Below0 (sitCode t) → keyThen t before ≡ before
+    go (turned why) h = refl
+    go (sits key) h = absurd h
+
 pub refused-leaves : {s n : ℕ} {before after : HostMemory} {answer : ℤ} → Exported s n before answer after → Below0 answer → after ≡ before
 unfolding seatCode countCode runTold
 refused-leaves {s} {n} (empties {b = b} {b′ = b′} c) below =
@@ -94,6 +105,10 @@ refused-leaves {s} {n} (departs {b = b} {out = out} {b′ = b′} {out′ = out�
     same-memory noPlaces (by-number s n b out b′ out′ countCode (λ seat count below. below) _ (call-made s n b out _) (c .given) (subst Below0 (c .codes) below) (c .relates))
 refused-leaves {s} {n} (sends {b = b} {out = out} {b′ = b′} {out′ = out′} seat bytes c) below =
     same-memory noPlaces (by-number s n b out b′ out′ countCode (λ seat count below. below) _ (call-made s n b out _) (c .given) (subst Below0 (c .codes) below) (c .relates))
+refused-leaves {s} {n} (ticks {b = b} {out = out} {b′ = b′} {out′ = out′} time number c) below =
+    same-memory noPlaces (by-number s n b out b′ out′ countCode (λ seat count below. below) _ (call-made s n b out _) (c .given) (subst Below0 (c .codes) below) (c .relates .leaves))
+refused-leaves {s} {n} (tellsKey {b = b} {before = before} seat c) below = key-kept s n b before seat c below
+refused-leaves (tellsSeat key e) below = refl
 refused-leaves {s} {n} (plays {b = b} {out = out} {b′ = b′} {out′ = out′} {before = before} allowance stored c) below =
     let refused = subst Below0 (ap (λ (t : Telling). t .answer) (c .codes)) below in
     let left = run-leaves s n allowance stored b out b′ out′ (c .given) refused (c .relates) in
@@ -122,7 +137,7 @@ eleven-below answer e = subst Below0 (sym e) tt
 module _ {s n : ℕ} where
   not-whole-answer : {before after : HostMemory} {answer : ℤ} (c : Exported s n before answer after) → TestsRoom c → roomWhole s n (before .room) ≡ false
       → answer ≡ refusalCode RoomNotWhole
-  unfolding doneOr seatCode countCode runTold runCode playing
+  unfolding doneOr seatCode countCode runTold runCode playing whoSits sitCode seatOfKey
   not-whole-answer (empties c) tests bad = absurd tests
   not-whole-answer (checks e) tests bad = e ∙ rw bad
   not-whole-answer (arrives {b = b} {b′ = b′} {answer = answer} key c) tests bad =
@@ -131,6 +146,10 @@ module _ {s n : ℕ} where
       not-whole-code s n b out (leave seat) tests bad countCode refl b′ out′ (c .given) answer (c .relates) (c .codes)
   not-whole-answer (sends {b = b} {out = out} {b′ = b′} {out′ = out′} {answer = answer} seat bytes c) tests bad =
       not-whole-code s n b out (packetCall seat bytes) tests bad countCode refl b′ out′ (c .given) answer (c .relates) (c .codes)
+  not-whole-answer (ticks {b = b} {out = out} {b′ = b′} {out′ = out′} {answer = answer} time number c) tests bad =
+      not-whole-code s n b out (tick time number) tests bad countCode refl b′ out′ (c .given) answer (c .relates .leaves) (c .codes)
+  not-whole-answer (tellsKey seat c) tests bad = c .answers ∙ rw bad
+  not-whole-answer (tellsSeat key e) tests bad = e ∙ rw bad
   not-whole-answer (plays {before = before} allowance stored c) tests bad =
       ap (λ (t : Telling). t .answer) (c .codes ∙ ap (runTold before) (rw bad at (c .relates .answers)))
 
@@ -144,4 +163,10 @@ module _ {s n : ℕ} where
   pub names-itself-refused : {before after : HostMemory} {answer : ℤ} (c : Exported s n before answer after) → TestsRoom c
       → (seat : ℕ) (held : Held) (number : ℕ) → seatAt (viewRoom s n (before .room)) seat ≡ holds held → routeAt (held .routes) number ≡ wants (held .key)
       → (answer ≡ refusalCode RoomNotWhole) × (after ≡ before)
-  names-itself-refused {before = before} c tests seat held number sits names = not-whole-refused c tests (names-itself s n (before .room) seat held number sits names)
+  names-itself-refused {before = before} c tests seat held number there names = not-whole-refused c tests (names-itself s n (before .room) seat held number there names)
+
+  -- "A ping time after the clock makes a room not whole."
+  pub pinged-later-refused : {before after : HostMemory} {answer : ℤ} (c : Exported s n before answer after) → TestsRoom c
+      → (seat : ℕ) (held : Held) → seatAt (viewRoom s n (before .room)) seat ≡ holds held → viewRoom s n (before .room) .clock < held .ping .time
+      → (answer ≡ refusalCode RoomNotWhole) × (after ≡ before)
+  pinged-later-refused {before = before} c tests seat held there late = not-whole-refused c tests (pinged-later s n (before .room) seat held there late)

@@ -13,15 +13,15 @@ use lib.ListN.{length, length-append}
 use lib.Seq.{drop-append-seam}
 use Rattle.rules.specs.Room.{Sizes, Key, Room, sizesOf}
 use Rattle.rules.specs.Whole.{Whole, ShortKeys}
-use Rattle.rules.specs.Call.{Call, arrive, leave, packetCall, mostNeeded}
+use Rattle.rules.specs.Call.{Call, arrive, leave, packetCall, tick, needed}
 use Rattle.rules.specs.Outcome.{sentBytes, outcome, roomAfter}
 use Rattle.rules.specs.History.{Event, event, transcript}
 use Rattle.rules.specs.After.{roomAfterAll}
 use Rattle.rules.proofs.Whole.{whole-after}
-use Rattle.rules.proofs.WithinOutput.{sent-within, keys-stay-short, needs-within}
+use Rattle.rules.proofs.WithinOutput.{sent-within, keys-stay-short}
 use Rattle.room_laws.specs.View.{viewRoom}
 use Rattle.room_laws.specs.Whole.{roomWhole}
-use Rattle.room_laws.proofs.WholeLaws.{whole-few, whole-view}
+use Rattle.room_laws.proofs.WholeLaws.{whole-few-seats, whole-few, whole-view}
 use Rattle.room_laws.proofs.OutcomeLaws.{view-keys}
 use Rattle.stored.specs.Stored.{storedBytes, storedAll, Storable, firstCall, call}
 use Rattle.stored.proofs.StoredLaws.{first-within}
@@ -90,7 +90,7 @@ head-within sizes room c calls =
     omega (arith, length-entry-head (o .answer))
 
 pub run-ends-written : (sizes : Sizes) (calls : List Call) → AllStorable calls → (room : Room) (allowance space : ℕ) → length calls ≤ allowance
-    → (1 ≤ length calls → writtenFor sizes room calls + mostNeeded ≤ space)
+    → (1 ≤ length calls → writtenFor sizes room calls + 2048 ≤ space)
     → run sizes allowance room (storedAll calls) space ≡ record { calls = calls; why = End }
 run-ends-written sizes calls a room allowance space enough fits =
     run-ends-left sizes calls a room allowance space enough
@@ -109,14 +109,29 @@ unfolding Storable
 key-short (arrive k) s key e = let q : k ≡ key = cc in omega (arith, s .long, ap length q)
 key-short (leave seat) s key e = let z : _≡_ {A = ℕ} 0 1 = cc in omega arith
 key-short (packetCall seat bytes) s key e = let z : _≡_ {A = ℕ} 0 1 = cc in omega arith
+key-short (tick time number) s key e = absurd s
 
-module _ (sizes : Sizes) (few : sizes .numbers ≤ 240) where
-  -- what is written for a call
-  pub entry-within : (room : Room) → Whole sizes room → ShortKeys room → (c : Call) → length (entryBytes (event room c)) ≤ mostSpace
+-- a stored call, which is no tick, needs 2,048 bytes at most
+stored-needs : (c : Call) → Storable c → needed c ≤ 2048
+unfolding Storable
+stored-needs (arrive k) s = omega arith
+stored-needs (leave seat) s = omega arith
+stored-needs (packetCall seat bytes) s = omega arith
+stored-needs (tick time number) s = absurd s
+
+module _ (sizes : Sizes) (seats : sizes .seats ≤ 40) (few : sizes .numbers ≤ 240) where
+  -- what is written for a stored call
+  pub entry-within : (room : Room) → Whole sizes room → ShortKeys room → (c : Call) → Storable c → length (entryBytes (event room c)) ≤ mostSpace
   unfolding entryBytes event
-  entry-within room whole keys c =
+  entry-within room whole keys c a =
       let o = outcome room c in
-      omega (arith, length-append (entryHead (o .answer)) (sentBytes (o .sent)), length-entry-head (o .answer), sent-within sizes few room whole keys c, needs-within c)
+      omega (
+        arith,
+        length-append (entryHead (o .answer)) (sentBytes (o .sent)),
+        length-entry-head (o .answer),
+        sent-within sizes seats few room whole keys c,
+        stored-needs c a,
+      )
 
   written-within : (calls : List Call) → AllStorable calls → (room : Room) → Whole sizes room → ShortKeys room
       → writtenFor sizes room calls ≤ length calls * mostSpace
@@ -124,7 +139,7 @@ module _ (sizes : Sizes) (few : sizes .numbers ≤ 240) where
   written-within [] a room whole keys = omega arith
   written-within (c ∷ calls) a room whole keys =
       let after = roomAfter sizes room (outcome room c) in
-      let short = entry-within room whole keys c in
+      let short = entry-within room whole keys c (a .0) in
       let l = length-append (entryBytes (event room c)) (entriesBytes (transcript sizes after calls)) in
       let rest = written-within calls (a .1) after (whole-after sizes room whole c) (keys-stay-short sizes room whole keys c (key-short c (a .0))) in
       omega arith
@@ -156,4 +171,4 @@ module _ (s n allowance : ℕ) (calls : List Call) (b out : List ℕ) (before : 
 
   pub plays-all : length calls * mostSpace ≤ length out → AllPlayed s n calls b t b′
   plays-all fits =
-      plays-all-left (each-left (sizesOf s n) (whole-few s n b whole) calls storable (viewRoom s n b) (whole-view s n b whole) (view-keys s n b) (length out) fits)
+      plays-all-left (each-left (sizesOf s n) (whole-few-seats s n b whole) (whole-few s n b whole) calls storable (viewRoom s n b) (whole-view s n b whole) (view-keys s n b) (length out) fits)

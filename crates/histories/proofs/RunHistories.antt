@@ -9,7 +9,7 @@ use mathlib.Core.Path.{_≡_}
 use mathlib.Core.Bool.{false}
 use mathlib.Core.List.{List, [], _++_}
 use Prim.Native.Nat.{ℕ}
-use Rattle.rules.specs.Room.{Key}
+use Rattle.rules.specs.Room.{Key, sizesOf}
 use Rattle.rules.specs.History.{Event}
 use Rattle.rules.specs.Transcript.{fromEmpty}
 use Rattle.isolation.specs.Record.{recordFor, packetsFor, answersFor, zeroForC}
@@ -58,10 +58,10 @@ run-history s n stored t b′ out′ r =
 
 pub isolation-in-runs : (s n : ℕ) (stored₁ stored₂ : List ℕ) (t₁ t₂ : Telling) (b₁ b₂ out₁ out₂ : List ℕ)
     → RunFromEmpty s n stored₁ t₁ b₁ out₁ → RunFromEmpty s n stored₂ t₂ b₂ out₂ → (c : Key)
-    → zeroForC fromEmpty [] c (runSeen stored₁ t₁ out₁) ≡ false
-    → zeroForC fromEmpty [] c (runSeen stored₂ t₂ out₂) ≡ false
-    → recordFor fromEmpty [] c (runSeen stored₁ t₁ out₁) ≡ recordFor fromEmpty [] c (runSeen stored₂ t₂ out₂)
-    → (packetsFor fromEmpty [] c (runSeen stored₁ t₁ out₁) ≡ packetsFor fromEmpty [] c (runSeen stored₂ t₂ out₂))
-    × (answersFor fromEmpty [] c (runSeen stored₁ t₁ out₁) ≡ answersFor fromEmpty [] c (runSeen stored₂ t₂ out₂))
+    → zeroForC (fromEmpty (sizesOf s n)) [] c (runSeen stored₁ t₁ out₁) ≡ false
+    → zeroForC (fromEmpty (sizesOf s n)) [] c (runSeen stored₂ t₂ out₂) ≡ false
+    → recordFor (fromEmpty (sizesOf s n)) [] c (runSeen stored₁ t₁ out₁) ≡ recordFor (fromEmpty (sizesOf s n)) [] c (runSeen stored₂ t₂ out₂)
+    → (packetsFor (fromEmpty (sizesOf s n)) [] c (runSeen stored₁ t₁ out₁) ≡ packetsFor (fromEmpty (sizesOf s n)) [] c (runSeen stored₂ t₂ out₂))
+    × (answersFor (fromEmpty (sizesOf s n)) [] c (runSeen stored₁ t₁ out₁) ≡ answersFor (fromEmpty (sizesOf s n)) [] c (runSeen stored₂ t₂ out₂))
 isolation-in-runs s n stored₁ stored₂ t₁ t₂ b₁ b₂ out₁ out₂ r₁ r₂ =
     isolation-in-histories s n (runSeen stored₁ t₁ out₁) (runSeen stored₂ t₂ out₂) b₁ b₂ (run-history s n stored₁ t₁ b₁ out₁ r₁) (run-history s n stored₂ t₂ b₂ out₂ r₂)

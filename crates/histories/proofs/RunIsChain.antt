@@ -25,14 +25,15 @@ use Rattle.room_laws.specs.Store.{storeAll}
 use Rattle.stored.specs.Stored.{storedBytes}
 use Rattle.relay.specs.Play.{entryBytes, entriesBytes, Next, stops, plays, Run, goOn, run, changesAll, played, playing, LeavesRun, Plays}
 use Rattle.relay.specs.Play as play
-use Rattle.relay.proofs.PlayLaws.{next-is, restOf, store-all-append}
+use Rattle.relay_laws.proofs.PartLaws.{store-all-append}
+use Rattle.relay.proofs.PlayLaws.{next-is, restOf}
 use Rattle.relay.proofs.RunCases.{stored-key}
 use Rattle.banavoge.specs.Answers.{ToldAs}
 use Rattle.banavoge.specs.Runs.{stopNumber, runCode, Counts, runCounts, Telling, telling, runTold}
 use Rattle.histories.specs.Lent.{Lent, AllLong}
 use Rattle.histories.specs.History.{AnyChain, none, next, Chain, callsOf}
 use Rattle.histories.specs.Runs.{InFront, runOn, runEvents, readBy, writtenFor, SameAsRun}
-use Rattle.histories.specs.Sequences.{KeysOf32}
+use Rattle.histories.specs.Sequences.{AllFieldsFit}
 use Rattle.histories.proofs.Histories.{long-step-right, chain-runs}
 use Rattle.histories.proofs.EverySequence.{every-chain}
 
@@ -91,7 +92,7 @@ run-in-front sizes (suc more) room stored space =
     go (plays c) e k = (next-is (suc more) stored space c e .first, k c)
 
 -- so each arrival is by a key of 32 bytes: no other is a stored call
-keys-in-front : (stored : List ℕ) (calls : List Call) → InFront stored calls → KeysOf32 calls
+keys-in-front : (stored : List ℕ) (calls : List Call) → InFront stored calls → AllFieldsFit calls
 keys-in-front stored [] f = tt
 keys-in-front stored (c ∷ calls) f = (stored-key stored c (f .0), keys-in-front (drop (length (storedBytes c)) stored) calls (f .1))
 

@@ -7,17 +7,18 @@ use lib.IntN.{ℤ, pos, negsuc}
 use lib.ListN.{length}
 use Rattle.refusal.specs.declared.Refusal.the-variants.{OutputTooShort, RoomNotWhole}
 use Rattle.rules.specs.Room.{Key}
-use Rattle.rules.specs.Call.{leave, packetCall, needed}
+use Rattle.rules.specs.Call.{leave, packetCall, tick, needed}
 use Rattle.room_laws.specs.Whole.{roomWhole}
 use Rattle.room_laws.specs.Store.{MakesEmpty}
-use Rattle.relay_laws.specs.Calls.{Arrives, Departs, Sends}
+use Rattle.relay_laws.specs.Calls.{Arrives, Departs, Sends, Ticks}
 use Rattle.relay.specs.Play.{Plays}
 use Rattle.banavoge.specs.Answers.{ToldAs}
 use Rattle.banavoge.specs.Rooms.{doneOr}
 use Rattle.banavoge.specs.RelayCalls.{seatCode, countCode}
+use Rattle.banavoge.specs.Sitting.{TellsSitter, seatOfKey}
 use Rattle.banavoge.specs.Runs.{Counts, counts, runTold}
 
--- the memory of a room, the output, and the places for counts
+-- the memory of a room, the output or the 32 bytes for a key, and the places for counts
 pub record HostMemory : Type 0 where
   pub room : List ℕ
   pub out : List ℕ
@@ -40,18 +41,26 @@ pub data Exported (s n : ℕ) : HostMemory → ℤ → HostMemory → Type 0 whe
       → Exported s n (hostMemory b out noPlaces) answer (hostMemory b′ out′ noPlaces)
   sends : {b out b′ out′ : List ℕ} {answer : ℤ} (seat : ℕ) (bytes : List ℕ) → ToldAs countCode (Sends s n seat bytes b out b′ out′) answer
       → Exported s n (hostMemory b out noPlaces) answer (hostMemory b′ out′ noPlaces)
+  ticks : {b out b′ out′ : List ℕ} {answer : ℤ} (time number : ℕ) → ToldAs countCode (Ticks s n time number b out b′ out′) answer
+      → Exported s n (hostMemory b out noPlaces) answer (hostMemory b′ out′ noPlaces)
+  tellsKey : {b before after : List ℕ} {answer : ℤ} (seat : ℕ) → TellsSitter s n seat b before after answer
+      → Exported s n (hostMemory b before noPlaces) answer (hostMemory b after noPlaces)
+  tellsSeat : {b : List ℕ} {answer : ℤ} (key : Key) → answer ≡ seatOfKey s n b key → Exported s n (hostMemory b [] noPlaces) answer (hostMemory b [] noPlaces)
   plays : {b out b′ out′ : List ℕ} {before after : Counts} {answer : ℤ} (allowance : ℕ) (stored : List ℕ)
       → ToldAs (runTold before) (Plays s n allowance stored b out b′ out′) (record { answer = answer; counts = after })
       → Exported s n (hostMemory b out before) answer (hostMemory b′ out′ after)
 
--- the calls that are refused where the room is not whole, whatever else is wrong with them: "Every lent state is tested in full before use". Of a Leave and a
--- packet those with output long enough, since 10 comes before 11; `banavoge_room_empty` makes a room and tests none
+-- the calls that are refused where the room is not whole, whatever else is wrong with them: "Every lent state is tested in full before use". Of a Leave, a
+-- packet and a tick those with output long enough, since 10 comes before 11; `banavoge_room_empty` makes a room and tests none
 abbrev pub TestsRoom : {s n : ℕ} {before after : HostMemory} {answer : ℤ} → Exported s n before answer after → Type 0
 TestsRoom (empties c) = ⊥
 TestsRoom (checks e) = Unit {0}
 TestsRoom (arrives key c) = Unit {0}
 TestsRoom (departs {out = out} seat c) = needed (leave seat) ≤ length out
 TestsRoom (sends {out = out} seat bytes c) = needed (packetCall seat bytes) ≤ length out
+TestsRoom (ticks {out = out} time number c) = needed (tick time number) ≤ length out
+TestsRoom (tellsKey seat c) = Unit {0}
+TestsRoom (tellsSeat key e) = Unit {0}
 TestsRoom (plays allowance stored c) = Unit {0}
 
 -- an answer below 0: the call was refused

@@ -1,17 +1,18 @@
 -- Histories as the host makes them. Document 01, "The record for a client": "A history is any sequence of Arrive, Leave and packet calls, with any bytes,
 -- refused ones included. The first gets the empty room, each later one the room that the last returned; nothing else writes the room meanwhile. Each lent
--- output is long enough that 10 is not given." The room is lent bytes, for s seats with n connection numbers each. A step is the relation that the contract of
--- an exported call states (`banavoge`, `ToldAs`; held in `contracts`), on the bytes given and left, and is seen by the number that the export answers.
+-- output is long enough that 10 is not given." And document 02: "Ticks are calls of a history too". The room is lent bytes, for s seats with n connection numbers
+-- each. A step is the relation that the contract of an exported call states (`banavoge`, `ToldAs`; held in `contracts`), on the bytes given and left, and is seen
+-- by the number that the export answers.
 use mathlib.Core.List.{List, [], _∷_}
 use mathlib.Core.Path.{_≡_}
 use Prim.Native.Nat.{ℕ}
 use lib.IntN.{ℤ, pos}
 use Rattle.refusal.specs.declared.Refusal.the-variants.{OutputTooShort}
 use Rattle.rules.specs.Room.{Key}
-use Rattle.rules.specs.Call.{Call, arrive, leave, packetCall}
+use Rattle.rules.specs.Call.{Call, arrive, leave, packetCall, tick}
 use Rattle.rules.specs.History.{Event}
 use Rattle.room_laws.specs.Store.{MakesEmpty}
-use Rattle.relay_laws.specs.Calls.{Arrives, Departs, Sends}
+use Rattle.relay_laws.specs.Calls.{Arrives, Departs, Sends, Ticks}
 use Rattle.banavoge.specs.Answers.{ToldAs}
 use Rattle.banavoge.specs.Rooms.{doneOr}
 use Rattle.banavoge.specs.RelayCalls.{seatCode, countCode}
@@ -20,8 +21,8 @@ use Rattle.histories.specs.Lent.{Lent, lentWith, AllLong}
 
 -- ---- one call
 
--- `banavoge_arrive`, `banavoge_leave` or `banavoge_packet`, the call l, on the room's bytes b: it leaves b′ and is seen as e. An Arrive is lent no output; the
--- output lent to a Leave or a packet has any length
+-- `banavoge_arrive`, `banavoge_leave`, `banavoge_packet` or `banavoge_tick`, the call l, on the room's bytes b: it leaves b′ and is seen as e. An Arrive is lent
+-- no output; the output lent to the others has any length
 pub data Step (s n : ℕ) (b : List ℕ) (l : Lent) (e : Event) (b′ : List ℕ) : Type 0 where
   arrives : (key : Key) (number : ℤ) → ToldAs seatCode (Arrives s n key b b′) number
       → l ≡ lentWith (arrive key) [] → e ≡ seen (arrive key) number [] → Step s n b l e b′
@@ -29,6 +30,8 @@ pub data Step (s n : ℕ) (b : List ℕ) (l : Lent) (e : Event) (b′ : List ℕ
       → l ≡ lentWith (leave seat) out → e ≡ seen (leave seat) number out′ → Step s n b l e b′
   sends : (seat : ℕ) (bytes out out′ : List ℕ) (number : ℤ) → ToldAs countCode (Sends s n seat bytes b out b′ out′) number
       → l ≡ lentWith (packetCall seat bytes) out → e ≡ seen (packetCall seat bytes) number out′ → Step s n b l e b′
+  ticks : (time ping : ℕ) (out out′ : List ℕ) (number : ℤ) → ToldAs countCode (Ticks s n time ping b out b′ out′) number
+      → l ≡ lentWith (tick time ping) out → e ≡ seen (tick time ping) number out′ → Step s n b l e b′
 
 -- ---- one after the other
 

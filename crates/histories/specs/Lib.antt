@@ -2,7 +2,8 @@
 -- and document 01's steps for them; `History`, histories as the host makes them; `Steps`, what is said of calls next to document 01's steps; `Sequences`, the
 -- chains and histories of given calls; `RunSeen`, what the host sees of a run of stored calls; `Runs`, what is said of such runs; `ExportedCalls`, the exports
 -- of a room and what the host lends them; `ListHistory`, nearest lists as the host keeps them; `WrittenAndRead`, a packet or a node written by one export and
--- read by another; `FrameStream`, a stream of frames as the host reads it; `OtherExports`, the exports that write and are lent no room.
+-- read by another; `FrameStream`, a stream of frames as the host reads it; `OtherExports`, the exports that write and are lent no room;
+-- `HandedWhenWritten`, what a client is handed by a tick, by who sits in a seat when a record for it is written.
 pub mod Seen
 pub mod Lent
 pub mod History
@@ -15,3 +16,4 @@ pub mod ListHistory
 pub mod WrittenAndRead
 pub mod FrameStream
 pub mod OtherExports
+pub mod HandedWhenWritten

@@ -5,7 +5,7 @@ use Prim.Native.Nat.{ℕ, suc}
 use lib.IntN.{ℤ, pos, negsuc}
 use lib.ListN.{take}
 use Rattle.refusal.specs.Numbers.{refusalOf}
-use Rattle.rules.specs.Call.{Call, arrive, leave, packetCall, Answer, accepted, refused, Sent}
+use Rattle.rules.specs.Call.{Call, arrive, leave, packetCall, tick, Answer, accepted, refused, Sent}
 use Rattle.rules.specs.History.{Event}
 use Rattle.records.specs.Read.{recordsIn}
 use Rattle.relay_laws.specs.Calls.{written}
@@ -22,11 +22,13 @@ seenAs call given out = record { call = call; answer = given; sent = recordsRead
 
 -- ---- the number
 
--- of 0 or more: an Arrive answers its seat, and "writes nothing"; a Leave or a packet answers how many bytes it wrote, and its seat is the call's own
+-- of 0 or more: an Arrive answers its seat, and "writes nothing"; a Leave, a packet or a tick answers how many bytes it wrote, and the seat of the first two is
+-- the call's own
 unfoldable pub acceptedWith : Call → ℕ → Answer
 acceptedWith (arrive key) seat = accepted seat 0
 acceptedWith (leave seat) count = accepted seat count
 acceptedWith (packetCall seat bytes) count = accepted seat count
+acceptedWith (tick time ping) count = accepted 0 count
 
 -- below 0: minus a refusal's number
 unfoldable pub answered : Call → ℤ → Answer

@@ -2,23 +2,24 @@
 use mathlib.Core.List.{List, [], _∷_}
 use mathlib.Core.Path.{_≡_}
 use Prim.Native.Nat.{ℕ}
-use Rattle.rules.specs.Call.{Call, arrive, leave, packetCall, KeyOf32}
+use Rattle.rules.specs.Call.{Call, arrive, leave, packetCall, tick, FieldsFit}
 use Rattle.rules.specs.History.{Event}
 use Rattle.histories.specs.Lent.{Lent, lentWith}
 use Rattle.histories.specs.History.{AnyChain, Chain, AnyCalls, History, callsOf}
 
 -- ---- the calls
 
--- each arrival is by a key of 32 bytes
-abbrev pub KeysOf32 : List Call → Type 0
-KeysOf32 [] = Unit {0}
-KeysOf32 (call ∷ calls) = KeyOf32 call × KeysOf32 calls
+-- each arrival is by a key of 32 bytes, and each tick brings a time and a number of 8 bytes
+abbrev pub AllFieldsFit : List Call → Type 0
+AllFieldsFit [] = Unit {0}
+AllFieldsFit (call ∷ calls) = FieldsFit call × AllFieldsFit calls
 
 -- an Arrive is lent no output
 abbrev pub lentTo : Call → List ℕ → Lent
 lentTo (arrive key) out = lentWith (arrive key) []
 lentTo (leave seat) out = lentWith (leave seat) out
 lentTo (packetCall seat bytes) out = lentWith (packetCall seat bytes) out
+lentTo (tick time ping) out = lentWith (tick time ping) out
 
 -- a call, and the output that the host has for it
 pub record CallMade : Type 0 where

@@ -1,11 +1,12 @@
 -- The law of one call: in a whole room that says what has happened says, observing the entries that a call adds to C's record yields what the
 -- call does: the view of the room after it, the packets it hands to C, and the answer if the call is C's own; unless the call is another client's
--- request for C that is answered with 0. A list of cases, one for each kind of call, of C and of another client. Assumes nothing.
+-- request for C that is answered with 0. A list of cases, one for each kind of call, of C and of another client; a tick is nobody's, and its law is in
+-- `OneTick`. Assumes nothing.
 use mathlib.Core.Path.{_≡_, refl, sym, ap, _∙_, subst}
 use mathlib.Core.Bool.{Bool, true, false, _&&_, cond, true≢false}
-use mathlib.Core.List.{List, [], _∷_, _++_, map, append-nil}
+use mathlib.Core.List.{List, [], _∷_, append-nil}
 use Prim.Native.Nat.{ℕ, _-_}
-use lib.Dec.{eqb}
+use lib.Dec.{eqb, ltb}
 use lib.ListN.{getD, set, length}
 use lib.Seq.{set-getD}
 use Rattle.key.specs.Keys.{sameKey}
@@ -15,28 +16,22 @@ use Rattle.packet_laws.specs.Read as read
 use Rattle.packet_laws.specs.FromClient as client
 use Rattle.packet_laws.specs.FromRelay as relay
 use Rattle.packet_laws.proofs.ReadBounds.{request-key-long}
-use Rattle.rules.specs.Room.{Sizes, Key, Route, free, wants, Seat, vacant, holds, Room, Found, none, at, orLater, find, seatOf, isVacant, routeTo, isFree, seatAt, routeAt, firstNumber, numberOfPlace, Peer, alone, joined, newcomer, setSeat, Held, setKey, setRoute}
+use Rattle.rules.specs.Room.{Sizes, Key, Route, free, wants, Seat, vacant, holds, Room, Found, none, at, find, seatOf, isVacant, routeTo, isFree, seatAt, routeAt, firstNumber, numberOfPlace, Peer, alone, joined, newcomer, setSeat, Held, noneSince, setKey, setPing, setRoute}
 use Rattle.rules.specs.Whole.{Whole}
-use Rattle.rules.specs.Call.{Call, arrive, leave, packetCall, Answer, accepted, refused, Sent}
-use Rattle.rules.specs.Outcome.{withRoute, apply, applyAll, Outcome, refuse, sentBytes, accept, answerOnly, to, roomAfter, peer, toPeer, arriveAt, tellPeer, tellPeers, leaveFrom, tellBoth, requestAt, dropAt, oobTo, carryTo, dataAt, act, actOn, packetFrom, outcome}
+use Rattle.rules.specs.Call.{Call, arrive, leave, packetCall, tick, Answer, accepted, refused, Sent}
+use Rattle.rules.specs.Outcome.{withRoute, withoutPing, apply, applyAll, Outcome, refuse, sentBytes, accept, answerOnly, to, roomAfter, peer, toPeer, arriveAt, leaveFrom, tellBoth, requestAt, dropAt, oobTo, carryTo, dataAt, pongAt, act, actOn, packetFrom, tickAt, outcome}
 use Rattle.rules.specs.History.{Event, event}
-use Rattle.rules.specs.Transcript.{Past, Start, isAccepted, maker, numberAnswered, stands}
+use Rattle.rules.specs.Transcript.{Past, Start, isAccepted, putOut, maker, numberAnswered, stands, isClient}
 use Rattle.rules.specs.After.{clientIn, Tied}
-use Rattle.isolation.specs.Record.{Entry, arrived, departed, own, toC, droppedC, dataForC, entryIf, byKey, otherPacket, otherCall, ifAccepted, madeBy, entriesBy, entries, isClient, handedIf, handed, answerIf, asksFor, turnsAway}
-use Rattle.rules.proofs.FindLaws.{Once, find-hit, find-replicate, find-set-same, once-tail, once-first, find-clear, free-not-to, wanted-place}
+use Rattle.isolation.specs.Record.{Entry, arrived, departed, own, toC, droppedC, dataForC, ticked, entryIf, byKey, otherPacket, otherCall, ifAccepted, madeBy, ofTick, entriesBy, entries, handedIf, handed, answerIf, asksFor, turnsAway}
+use Rattle.rules.proofs.FindLaws.{Once, find-hit, find-replicate, find-set-same, find-clear, free-not-to, wanted-place}
 use Rattle.rules.proofs.Whole.{wanted-once, key-found}
 use Rattle.rules.proofs.AnswerLaws.{zero-answered}
 use Rattle.rules.proofs.Tied.{tied-here}
 use Rattle.rules.proofs.SentLaws.{count-same}
-use Rattle.isolation.proofs.View.{openSeat, ownSeat, otherSeat, View, isFound, viewSeatIf, viewSeat, project, namesC, placeOf, Observed, observed, packetAt, only, toOne, toBoth, counted, ownArrival, ownLeave, ownAnswer, ownRequest, ownDrop, ownOob, ownCarry, ownData, ownAct, ownPacket, ownCall, otherArrived, otherDeparted, otherDropped, otherAsked, otherToC, arrivedIf, departedIf, observe, observedThen, observeAll, SeatView, setView, setViews}
-use Rattle.isolation.proofs.ViewLaws.{map-set, found-later, find-put, held-law, open-law, view-at, held-as, isJoined, connected-law, handedBy, handed-law, handed-append, hand-only, else-seat, not-handed, found-held, packet-law, own-held, peer-else, own-not-handed, own-tells, count-told, count-both, count-tells}
-
--- what an outcome is to C: the view of the room after it, the packets for C, and the answers that C gets
-abbrev observedOf : Sizes → Key → Room → Outcome → List Answer → Observed
-observedOf sizes c room o answers = observed (project c (roomAfter sizes room o)) (handedBy c room (o .sent)) answers
-
-observed-same : {v v′ : View} {h h′ : List (List ℕ)} {t t′ : List Answer} → v ≡ v′ → h ≡ h′ → t ≡ t′ → observed v h t ≡ observed v′ h′ t′
-observed-same a b d = rw (a, b, d)
+use Rattle.isolation.proofs.View.{openSeat, ownSeat, otherSeat, View, isFound, viewSeat, project, namesC, placeOf, Observed, observed, packetAt, only, toOne, toBoth, counted, ownArrival, ownLeave, ownAnswer, ownRequest, ownDrop, ownOob, ownCarry, ownData, ownPong, ownAct, ownPacket, ownCall, otherArrived, otherDeparted, otherDropped, otherAsked, otherToC, arrivedIf, departedIf, observe, observedThen, observeAll, setView, setViews}
+use Rattle.isolation.proofs.ViewLaws.{find-put, held-law, open-law, view-at, held-as, view-own, view-other, project-set, left-open, isJoined, connected-law, handedBy, handed-law, hand-only, else-seat, not-handed, found-held, packet-law, own-held, peer-else, own-not-handed, own-tells, other-lost, observedOf, observed-same, count-told, count-both, count-tells}
+use Rattle.isolation.proofs.OneTick.{tick-law}
 
 counted-same : (seat : ℕ) (a b : List Sent) → length (sentBytes b) ≡ length (sentBytes a) → counted seat a ≡ accepted seat (length (sentBytes b)) ∷ []
 unfolding counted
@@ -67,24 +62,6 @@ observe-departed sizes c v call = rw (same-refl c) (observe-one sizes c v (own c
 
 -- ---- C's own calls
 
-view-own : (c : Key) (held : Held) → held .key ≡ c → viewSeat c (holds held) ≡ ownSeat held
-unfolding viewSeat viewSeatIf
-view-own c held mine = rw (mine, same-refl c)
-
-view-other : (c : Key) (held : Held) → sameKey (held .key) c ≡ false → viewSeat c (holds held) ≡ otherSeat (held .key) (isFound (find (routeTo c) (held .routes)))
-unfolding viewSeat viewSeatIf
-view-other c held hk = rw hk
-
--- the view where a seat becomes another
-project-set : (c : Key) (room : Room) (seat : ℕ) (s : Seat) (v : SeatView) → viewSeat c s ≡ v → project c (setSeat room seat s) ≡ setView (project c room) seat v
-unfolding project
-project-set c room seat s v e = ap (setViews (project c room)) (map-set (viewSeat c) (room .seats) seat s ∙ ap (set (map (viewSeat c) (room .seats)) seat) e)
-
--- the view where a seat becomes empty
-left-open : (c : Key) (room : Room) (seat : ℕ) → project c (setSeat room seat vacant) ≡ setView (project c room) seat openSeat
-unfolding viewSeat
-left-open c room seat = project-set c room seat vacant openSeat refl
-
 -- its arrival
 own-arrival : (sizes : Sizes) (c : Key) (room : Room) (seated empty : Found) → find (seatOf c) (room .seats) ≡ seated → find isVacant (room .seats) ≡ empty
     → ownCall sizes c (project c room) (arrive c) ≡ observedOf sizes c room (arriveAt seated empty c) (arriveAt seated empty c .answer ∷ [])
@@ -92,7 +69,7 @@ unfolding ownCall project ownArrival arriveAt refuse accept roomAfter applyAll a
 own-arrival sizes c room (at seat) empty hf he = rw (held-law c c room, hf)
 own-arrival sizes c room none none hf he = rw (held-law c c room, open-law c room, hf, he)
 own-arrival sizes c room none (at seat) hf he =
-    rw (held-law c c room, open-law c room, hf, he) (observed-same (sym (project-set c room seat _ _ (view-own c (newcomer sizes c) refl))) refl refl)
+    rw (held-law c c room, open-law c room, hf, he) (observed-same (sym (project-set c room seat _ _ (view-own c (newcomer sizes (room .clock) c) refl))) refl refl)
 
 module _ (sizes : Sizes) (room : Room) (whole : Whole sizes room) (c : Key) (seat : ℕ) (held : Held) (sits : seatAt room seat ≡ holds (setKey held c)) where
   -- all that its seat holds
@@ -161,13 +138,19 @@ module _ (sizes : Sizes) (room : Room) (whole : Whole sizes room) (c : Key) (sea
   own-data bytes free = refl
   own-data bytes (wants wanted) = rw (connected-law c room seat wanted) (own-carry wanted bytes (peer room seat c wanted) refl)
 
+  -- a pong: its own ping is no more outstanding, or all is as it was
+  own-pong : (t : Bool) → ownPong t (project c room) seat all ≡ observedOf sizes c room (pongAt t seat) (pongAt t seat .answer ∷ [])
+  unfolding ownPong pongAt accept roomAfter applyAll apply handedBy counted withoutPing
+  own-pong true = rw sits (observed-same (sym (project-set c room seat _ _ (view-own c (setPing all (noneSince (held .ping .time))) refl))) refl refl)
+  own-pong false = refl
+
   own-act : (r : Read client.FromClient)
       → ownAct r c (project c room) seat all ≡ observedOf sizes c room (actOn r room seat all) (actOn r room seat all .answer ∷ [])
   unfolding ownAct actOn act refuse accept roomAfter applyAll handedBy handedIf to counted project
   own-act (read.packet (client.routingRequest wanted)) = own-request wanted (sameKey wanted c) (find (routeTo wanted) (held .routes)) (find isFree (held .routes))
   own-act (read.packet (client.dropRoute number)) = own-drop number (routeAt (held .routes) number)
   own-act (read.packet (client.ping n)) = observed-same refl (rw here) (counted-same seat _ _ (count-same _ _ [] [] refl refl))
-  own-act (read.packet (client.pong n)) = refl
+  own-act (read.packet (client.pong n)) = own-pong (eqb n (held .ping .number))
   own-act (read.packet (client.oobSend wanted bytes)) = rw (held-law c wanted room) (own-oob wanted bytes (find (seatOf wanted) (room .seats)) refl)
   own-act (read.packet (client.routedData number bytes)) = own-data bytes (routeAt (held .routes) number)
   own-act (read.refused why) = refl
@@ -192,8 +175,8 @@ other-arrival : (sizes : Sizes) (c : Key) (room : Room) (key : Key) → sameKey 
 unfolding observe arrivedIf otherArrived project arriveAt accept roomAfter applyAll apply handedBy isFree isFound
 other-arrival sizes c room key hk seat e = rw (hk, open-law c room, e) (observed-same (sym (project-set c room seat _ _ new-other)) refl refl)
   where
-    new-other : viewSeat c (holds (newcomer sizes key)) ≡ otherSeat key false
-    new-other = view-other c (newcomer sizes key) hk ∙ ap (otherSeat key) (ap isFound (find-replicate (routeTo c) (sizes .numbers) free (free-not-to c free refl)))
+    new-other : viewSeat c (holds (newcomer sizes (room .clock) key)) ≡ otherSeat key false
+    new-other = view-other c (newcomer sizes (room .clock) key) hk ∙ ap (otherSeat key) (ap isFound (find-replicate (routeTo c) (sizes .numbers) free (free-not-to c free refl)))
 
 -- another client, `key`, sits in `seat`
 module _ (sizes : Sizes) (room : Room) (whole : Whole sizes room) (c : Key) (seat : ℕ) (held : Held) (sits : seatAt room seat ≡ holds held) (hk : sameKey (held .key) c ≡ false) where
@@ -393,6 +376,13 @@ module _ (sizes : Sizes) (room : Room) (whole : Whole sizes room) (c : Key) (sea
         observe-call _ (e ∙ ap (λ (k : Key). read.packet (client.oobSend k payload)) q) ∙ rw q (oob-mine payload (find (seatOf c) (room .seats)) refl)
     note-oob wanted payload e false hw = oob-else payload wanted hw (find (seatOf wanted) (room .seats)) refl
 
+    -- a pong: no ping but C's own is in the view
+    pong-noted : (t : Bool) → observeAll sizes c (project c room) (ifAccepted (pongAt t seat .answer) []) ≡ observedOf sizes c room (pongAt t seat) []
+    unfolding pongAt accept ifAccepted observeAll roomAfter applyAll apply handedBy withoutPing
+    pong-noted true =
+        rw sits (observed-same (sym (project-set c room seat _ _ (view-other c (setPing held (noneSince (held .ping .time))) hk) ∙ other-same _ refl)) refl refl)
+    pong-noted false = refl
+
     note-act : (r : Read client.FromClient) → client.relayRead bytes ≡ r
         → ((isAccepted (actOn r room seat held .answer) && asksFor c r) && eqb (numberAnswered (actOn r room seat held .sent)) 0) ≡ false
         → Noted r (actOn r room seat held) ≡ observedOf sizes c room (actOn r room seat held) []
@@ -402,33 +392,17 @@ module _ (sizes : Sizes) (room : Room) (whole : Whole sizes room) (c : Key) (sea
         (note-request wanted e (sameKey wanted c) refl (sameKey wanted (held .key)) (find (routeTo wanted) (held .routes)) (find isFree (held .routes)) refl refl (rw (request-accepted wanted (sameKey wanted (held .key)) (find (routeTo wanted) (held .routes)) (find isFree (held .routes))) at z))
     note-act (read.packet (client.dropRoute number)) e z = note-drop number (routeAt (held .routes) number) refl
     note-act (read.packet (client.ping n)) e z = observed-same refl (rw not-held) refl
-    note-act (read.packet (client.pong n)) e z = refl
+    note-act (read.packet (client.pong n)) e z = pong-noted (eqb n (held .ping .number))
     note-act (read.packet (client.oobSend wanted payload)) e z = rw (oob-noted payload (find (seatOf wanted) (room .seats))) (note-oob wanted payload e (sameKey wanted c) refl)
     note-act (read.packet (client.routedData number payload)) e z = note-data number payload (routeAt (held .routes) number) refl
     note-act (read.refused why) e z = refl
 
-  -- its departure: C is handed one notice, and only where it was named
-  other-tells : (t : List Route) → Once (routeTo c) free t
-      → handedBy c room (tellPeers room seat (held .key) t) ≡ only (isFound (find (routeTo c) t)) (handedBy c room (toPeer relay.disconnectNotice (peer room seat (held .key) c)))
-  unfolding tellPeers tellPeer handedBy find isFound only routeTo orLater
-  other-tells [] o = refl
-  other-tells (free ∷ t) o = other-tells t (once-tail (routeTo c) free free t o) ∙ ap (λ b. only b (handedBy c room (toPeer relay.disconnectNotice (peer room seat (held .key) c)))) (sym (found-later (find (routeTo c) t)))
-  other-tells (wants wanted ∷ t) o =
-      handed-append c room (toPeer relay.disconnectNotice (peer room seat (held .key) wanted)) (tellPeers room seat (held .key) t) ∙ go (sameKey wanted c) refl (other-tells t (once-tail (routeTo c) free (wants wanted) t o))
-    where
-      mine : List (List ℕ)
-      mine = handedBy c room (toPeer relay.disconnectNotice (peer room seat (held .key) c))
-
-      go : (b : Bool) → sameKey wanted c ≡ b → handedBy c room (tellPeers room seat (held .key) t) ≡ only (isFound (find (routeTo c) t)) mine
-          → (handedBy c room (toPeer relay.disconnectNotice (peer room seat (held .key) wanted)) ++ handedBy c room (tellPeers room seat (held .key) t)) ≡ only (isFound (orLater b (find (routeTo c) t))) mine
-      go true hw ih = rw (ih, once-first (routeTo c) free (wants wanted) t o hw, same-sound wanted c hw) (append-nil mine)
-      go false hw ih = rw (not-handed c room seat (held .key) wanted relay.disconnectNotice hw, found-later (find (routeTo c) t)) ih
-
+  -- its departure
   other-leave : observe sizes c (project c room) (departed (held .key)) ≡ observedOf sizes c room (leaveFrom (holds held) room seat) []
   unfolding observe departedIf otherDeparted project leaveFrom accept roomAfter applyAll apply
   other-leave =
       rw (hk, held-law c (held .key) room, key-found sizes room whole seat held sits)
-      (observed-same (sym (left-open c room seat)) (rw (names-here, handed-packet relay.disconnectNotice) (sym (other-tells (held .routes) once))) refl)
+      (observed-same (sym (left-open c room seat)) (rw names-here (other-lost sizes room whole c seat held sits hk)) refl)
 
 -- ---- all calls
 
@@ -483,7 +457,7 @@ module _ (sizes : Sizes) (start : Start) (past : Past) (room : Room) (whole : Wh
   leave-from : (seat : ℕ) (s : Seat) → seatAt room seat ≡ s
       → observeAll sizes c (project c room) (entriesBy (clientIn s) start past c (made (leave seat) (leaveFrom s room seat)))
       ≡ observedOf sizes c room (leaveFrom s room seat) (answerIf (isClient c (clientIn s)) (leaveFrom s room seat .answer))
-  unfolding entriesBy clientIn isClient answerIf leaveFrom refuse observeAll roomAfter applyAll handedBy
+  unfolding entriesBy ofTick clientIn isClient answerIf leaveFrom refuse observeAll roomAfter applyAll handedBy
   leave-from seat vacant e = refl
   leave-from seat (holds held) e = leave-by seat (held .key) held e (sameKey (held .key) c) refl
 
@@ -491,17 +465,29 @@ module _ (sizes : Sizes) (start : Start) (past : Past) (room : Room) (whole : Wh
       → turnsAway c (clientIn s) (made (packetCall seat bytes) (packetFrom s room seat bytes)) (packetCall seat bytes) ≡ false
       → observeAll sizes c (project c room) (entriesBy (clientIn s) start past c (made (packetCall seat bytes) (packetFrom s room seat bytes)))
       ≡ observedOf sizes c room (packetFrom s room seat bytes) (answerIf (isClient c (clientIn s)) (packetFrom s room seat bytes .answer))
-  unfolding entriesBy clientIn isClient answerIf packetFrom refuse observeAll roomAfter applyAll handedBy turnsAway
+  unfolding entriesBy ofTick clientIn isClient answerIf packetFrom refuse observeAll roomAfter applyAll handedBy turnsAway
   packet-from seat bytes vacant e z = refl
   packet-from seat bytes (holds held) e z = packet-by seat bytes (held .key) held e (sameKey (held .key) c) refl z
+
+  -- a tick, refused or not: its one entry
+  tick-by : (time number : ℕ) (zero back : Bool) → eqb number 0 ≡ zero → ltb time (room .clock) ≡ back
+      → observeAll sizes c (project c room) (ofTick (tick time number) (putOut start past (tick time number) (tickAt zero back room time number .answer)))
+      ≡ observedOf sizes c room (tickAt zero back room time number) []
+  unfolding ofTick observe
+  tick-by time number zero back ez eb =
+      observe-one sizes c (project c room) (ticked time number (putOut start past (tick time number) (tickAt zero back room time number .answer)))
+      ∙ tick-law sizes start past room whole tie c time number zero back ez eb
 
   pub one-call : (call : Call) → turnsAway c (maker start past call) (event room call) call ≡ false
       → observeAll sizes c (project c room) (entries start past c (event room call))
       ≡ observed (project c (roomAfter sizes room (outcome room call))) (handed start past c (event room call .sent)) (answerIf (isClient c (maker start past call)) (event room call .answer))
-  unfolding entries entriesBy event outcome maker isClient
+  unfolding entries entriesBy event outcome maker isClient answerIf
   one-call (arrive key) z =
       rw (handed-law start past room tie c (arriveAt (find (seatOf key) (room .seats)) (find isVacant (room .seats)) key .sent))
       (arrive-by key (sameKey key c) refl (find (seatOf key) (room .seats)) (find isVacant (room .seats)) refl refl)
   one-call (leave seat) z = rw (handed-law start past room tie c (leaveFrom (seatAt room seat) room seat .sent), tie .sits seat) (leave-from seat (seatAt room seat) refl)
   one-call (packetCall seat bytes) z =
       rw (handed-law start past room tie c (packetFrom (seatAt room seat) room seat bytes .sent), tie .sits seat) (packet-from seat bytes (seatAt room seat) refl (rw (tie .sits seat) at z))
+  one-call (tick time number) z =
+      rw (handed-law start past room tie c (tickAt (eqb number 0) (ltb time (room .clock)) room time number .sent))
+      (tick-by time number (eqb number 0) (ltb time (room .clock)) refl refl)

@@ -1,10 +1,10 @@
--- C's view of a room: who sits where, C's own routes, and for every other seat whether one of its routes names C. And what observing an entry of the
--- record for C yields: the view after it, the packets handed to C, the answers to C's calls. Only `project` is given a room. These are means of the proof
--- of demand 3: the statement, `two-histories`, does not name them.
+-- C's view of a room: the clock, who sits where, C's own routes and ping, and for every other seat whether one of its routes names C. And what observing an entry
+-- of the record for C yields: the view after it, the packets handed to C, the answers to C's calls. Only `project` is given a room. Other clients' pings are
+-- not in the view: all that they do to C is in the ticks' entries. These are means of the proof of demand 3: the statement, `two-histories`, does not name them.
 use mathlib.Core.Bool.{Bool, true, false, not, cond}
 use mathlib.Core.List.{List, [], _∷_, _++_, map}
 use Prim.Native.Nat.{ℕ, _-_}
-use lib.Dec.{eqb}
+use lib.Dec.{eqb, ltb}
 use lib.ListN.{getD, set, length}
 use Rattle.refusal.specs.declared.Refusal.the-variants.{RoomFull, AlreadySeated, NoSuchRoute, NotConnected}
 use Rattle.key.specs.Keys.{sameKey}
@@ -12,10 +12,11 @@ use Rattle.packet_laws.specs.Read.{Read}
 use Rattle.packet_laws.specs.Read as read
 use Rattle.packet_laws.specs.FromClient as client
 use Rattle.packet_laws.specs.FromRelay as relay
-use Rattle.rules.specs.Room.{Sizes, Key, Route, free, wants, Seat, vacant, holds, Room, Found, none, at, find, routeTo, isFree, routeAt, firstNumber, numberOfPlace, Held, newcomer, setRoute}
-use Rattle.rules.specs.Call.{Call, arrive, leave, packetCall, Answer, accepted, refused, Sent}
-use Rattle.rules.specs.Outcome.{sentBytes, to}
-use Rattle.isolation.specs.Record.{Entry, arrived, departed, own, toC, droppedC, dataForC}
+use Rattle.rules.specs.Room.{Sizes, Key, Route, free, wants, Seat, vacant, holds, Room, Found, none, at, find, routeTo, isFree, routeAt, firstNumber, numberOfPlace, placesFrom, Held, noneSince, newcomer, setPing, setRoute}
+use Rattle.rules.specs.Call.{Call, arrive, leave, packetCall, tick, Answer, accepted, refused, Sent}
+use Rattle.rules.specs.Outcome.{sentBytes, to, overdue, isDue}
+use Rattle.rules.specs.Transcript.{isAmong}
+use Rattle.isolation.specs.Record.{Entry, arrived, departed, own, toC, droppedC, dataForC, ticked, strike}
 
 -- ---- the view
 
@@ -28,10 +29,14 @@ pub data SeatView : Type 0 where
 
 pub record View : Type 0 where
   pub seats : List SeatView
+  pub clock : ℕ
 
--- with its seats replaced, and with one of them
+-- with its clock replaced; with its seats, and with one of them
+abbrev pub setTime : View → ℕ → View
+setTime v time = record { seats = v .seats; clock = time }
+
 abbrev pub setViews : View → List SeatView → View
-setViews v seats = record { seats = seats }
+setViews v seats = record { seats = seats; clock = v .clock }
 
 abbrev pub setView : View → ℕ → SeatView → View
 setView v seat s = setViews v (set (v .seats) seat s)
@@ -49,7 +54,7 @@ viewSeat c vacant = openSeat
 viewSeat c (holds held) = viewSeatIf (sameKey (held .key) c) c held
 
 unfoldable pub project : Key → Room → View
-project c room = record { seats = map (viewSeat c) (room .seats) }
+project c room = record { seats = map (viewSeat c) (room .seats); clock = room .clock }
 
 -- ---- looking things up
 
@@ -126,7 +131,7 @@ counted seat sent = accepted seat (length (sentBytes sent)) ∷ []
 unfoldable pub ownArrival : Sizes → Found → Found → Key → View → Observed
 ownArrival sizes (at seat) empty c v = observed v [] (refused AlreadySeated ∷ [])
 ownArrival sizes none none c v = observed v [] (refused RoomFull ∷ [])
-ownArrival sizes none (at seat) c v = observed (setView v seat (ownSeat (newcomer sizes c))) [] (counted seat [])
+ownArrival sizes none (at seat) c v = observed (setView v seat (ownSeat (newcomer sizes (v .clock) c))) [] (counted seat [])
 
 unfoldable pub noticeByView : Key → View → ℕ → Route → List Sent
 noticeByView c v seat free = []
@@ -173,12 +178,17 @@ unfoldable pub ownData : Route → Key → View → ℕ → List ℕ → Observe
 ownData free c v seat bytes = observed v [] (refused NoSuchRoute ∷ [])
 ownData (wants wanted) c v seat bytes = ownCarry (isConnected c v seat wanted) v seat bytes
 
+-- a pong: one with the number that is outstanding clears it
+unfoldable pub ownPong : Bool → View → ℕ → Held → Observed
+ownPong true v seat held = observed (setView v seat (ownSeat (setPing held (noneSince (held .ping .time))))) [] (counted seat [])
+ownPong false v seat held = observed v [] (counted seat [])
+
 unfoldable pub ownAct : Read client.FromClient → Key → View → ℕ → Held → Observed
 ownAct (read.packet (client.routingRequest wanted)) c v seat held =
     ownRequest (sameKey wanted (held .key)) (find (routeTo wanted) (held .routes)) (find isFree (held .routes)) c v seat held wanted
 ownAct (read.packet (client.dropRoute number)) c v seat held = ownDrop (routeAt (held .routes) number) c v seat held number
 ownAct (read.packet (client.ping n)) c v seat held = observed v (relay.relayBytes (relay.pong n) ∷ []) (counted seat (to 0 (relay.pong n) ∷ []))
-ownAct (read.packet (client.pong n)) c v seat held = observed v [] (counted seat [])
+ownAct (read.packet (client.pong n)) c v seat held = ownPong (eqb n (held .ping .number)) v seat held
 ownAct (read.packet (client.oobSend wanted bytes)) c v seat held = ownOob (find (isHeldBy c wanted) (v .seats)) c v seat wanted bytes
 ownAct (read.packet (client.routedData number bytes)) c v seat held = ownData (routeAt (held .routes) number) c v seat bytes
 ownAct (read.refused why) c v seat held = observed v [] (refused why ∷ [])
@@ -192,6 +202,7 @@ unfoldable pub ownCall : Sizes → Key → View → Call → Observed
 ownCall sizes c v (arrive key) = ownArrival sizes (find (isHeldBy c c) (v .seats)) (find isOpen (v .seats)) c v
 ownCall sizes c v (leave seat) = ownLeave (getD (v .seats) seat openSeat) c v seat
 ownCall sizes c v (packetCall seat bytes) = ownPacket (getD (v .seats) seat openSeat) c v seat (client.relayRead bytes)
+ownCall sizes c v (tick time number) = observed v [] []
 
 -- ---- other clients' calls
 
@@ -199,9 +210,13 @@ unfoldable pub otherArrived : Found → View → Key → Observed
 otherArrived none v key = observed v [] []
 otherArrived (at seat) v key = observed (setView v seat (otherSeat key false)) [] []
 
+-- what C is handed where a client with this key leaves, if a route of it names C
+abbrev pub lostNotice : Bool → Key → View → Key → List (List ℕ)
+lostNotice names c v key = only names (packetAt relay.disconnectNotice (placeOf c v key))
+
 unfoldable pub otherDeparted : Found → Key → View → Key → Observed
 otherDeparted none c v key = observed v [] []
-otherDeparted (at seat) c v key = observed (setView v seat openSeat) (only (namesC c (getD (v .seats) seat openSeat)) (packetAt relay.disconnectNotice (placeOf c v key))) []
+otherDeparted (at seat) c v key = observed (setView v seat openSeat) (lostNotice (namesC c (getD (v .seats) seat openSeat)) c v key) []
 
 unfoldable pub otherDropped : Found → Key → View → Key → Observed
 otherDropped none c v key = observed v [] []
@@ -222,6 +237,7 @@ unfoldable pub otherToC : Key → View → Key → Call → Observed
 otherToC c v key (arrive k) = observed v [] []
 otherToC c v key (leave seat) = observed v [] []
 otherToC c v key (packetCall seat bytes) = otherAsked c v key seat (client.relayRead bytes)
+otherToC c v key (tick time number) = observed v [] []
 
 -- an arrival or a departure of C itself is observed with its own call, which is the entry after it
 unfoldable pub arrivedIf : Bool → View → Key → Observed
@@ -232,6 +248,55 @@ unfoldable pub departedIf : Bool → Key → View → Key → Observed
 departedIf true c v key = observed v [] []
 departedIf false c v key = otherDeparted (find (isHeldBy c key) (v .seats)) c v key
 
+-- ---- ticks
+
+-- a seat that goes: C's own by its own ping and the time, another's by its key. So whether C itself is among the keys is not asked
+unfoldable pub goes : ℕ → List Key → SeatView → Bool
+goes time out openSeat = false
+goes time out (ownSeat held) = overdue time (held .ping)
+goes time out (otherSeat key b) = isAmong key out
+
+-- what C is handed where a seat goes: by its own departure nothing, nor by another's once it has left itself, since then it has no place for the other's key
+unfoldable pub lostBy : SeatView → Key → View → List (List ℕ)
+lostBy openSeat c v = []
+lostBy (ownSeat held) c v = []
+lostBy (otherSeat key b) c v = lostNotice b c v key
+
+-- seats that go, one after the other, each from the view that the last left
+unfoldable pub seatsGo : Key → View → List ℕ → Observed
+seatsGo c v [] = observed v [] []
+seatsGo c v (seat ∷ seats) =
+    let rest = seatsGo c (setView v seat openSeat) seats in
+    observed (rest .view) (lostBy (getD (v .seats) seat openSeat) c v ++ rest .packets) []
+
+-- then C's own seat is pinged where it is due
+unfoldable pub isOwnDue : ℕ → SeatView → Bool
+isOwnDue time openSeat = false
+isOwnDue time (ownSeat held) = isDue time (holds held)
+isOwnDue time (otherSeat key b) = false
+
+unfoldable pub pingedIf : Bool → ℕ → ℕ → Held → SeatView
+pingedIf true time number held = ownSeat (setPing held (record { time = time; number = number }))
+pingedIf false time number held = ownSeat held
+
+unfoldable pub pingedView : ℕ → ℕ → SeatView → SeatView
+pingedView time number openSeat = openSeat
+pingedView time number (ownSeat held) = pingedIf (isDue time (holds held)) time number held
+pingedView time number (otherSeat key b) = otherSeat key b
+
+-- what it is handed by that
+unfoldable pub pingsHeard : ℕ → ℕ → List SeatView → List (List ℕ)
+pingsHeard time number [] = []
+pingsHeard time number (s ∷ l) = only (isOwnDue time s) (relay.relayBytes (relay.ping number) ∷ []) ++ pingsHeard time number l
+
+-- a tick: refused where its number is 0 or its time before the clock
+unfoldable pub tickSeen : Bool → Bool → Key → View → ℕ → ℕ → List Key → Observed
+tickSeen true back c v time number out = observed v [] []
+tickSeen false true c v time number out = observed v [] []
+tickSeen false false c v time number out =
+    let left = seatsGo c (setTime v time) (placesFrom (goes time out) 0 (v .seats)) in
+    observed (setViews (left .view) (map (pingedView time number) (left .view .seats))) (left .packets ++ pingsHeard time number (left .view .seats)) []
+
 -- ---- one entry, and a whole record
 
 unfoldable pub observe : Sizes → Key → View → Entry → Observed
@@ -241,6 +306,7 @@ observe sizes c v (own call) = ownCall sizes c v call
 observe sizes c v (toC key call) = otherToC c v key call
 observe sizes c v (droppedC key) = otherDropped (find (isHeldBy c key) (v .seats)) c v key
 observe sizes c v (dataForC key bytes) = observed v (packetAt (λ n. relay.routedData n bytes) (placeOf c v key)) []
+observe sizes c v (ticked time number out) = tickSeen (eqb number 0) (ltb time (v .clock)) c v time number (strike c out)
 
 unfoldable pub observedThen : Observed → Observed → Observed
 observedThen s t = observed (t .view) (s .packets ++ t .packets) (s .answers ++ t .answers)

@@ -1,8 +1,8 @@
 -- What a view says of the room that it is of: where a key sits, which seat is open, whether C is connected, which of C's numbers names another
--- client; and which of the packets of an outcome are for C, and how many bytes an answer counts. Assumes nothing.
+-- client; and which of the packets of an outcome are for C, those of a departure among them, and how many bytes an answer counts. Assumes nothing.
 use mathlib.Core.Path.{_≡_, refl, sym, ap, ap₂, _∙_}
 use mathlib.Core.Bool.{Bool, true, false, cond, true≢false, false≢true}
-use mathlib.Core.List.{List, [], _∷_, _++_, map}
+use mathlib.Core.List.{List, [], _∷_, _++_, map, append-nil}
 use Prim.Native.Nat.{ℕ, zero, suc, _+_}
 use native.Mathlib.Nat.{suc-inj}
 use native.Mathlib.Omega.{arith}
@@ -12,18 +12,18 @@ use borrow.Author.Tests.{eqb-true}
 use Rattle.key.specs.Keys.{sameKey}
 use Rattle.key.proofs.Same.{same-refl, same-sound}
 use Rattle.packet_laws.specs.FromRelay as relay
-use Rattle.rules.specs.Room.{Sizes, Key, Route, free, wants, Seat, vacant, holds, Room, Found, none, at, orLater, find, seatOf, isVacant, routeTo, routesOf, seatAt, Peer, alone, joined, Held, setKey}
+use Rattle.rules.specs.Room.{Sizes, Key, Route, free, wants, Seat, vacant, holds, Room, Found, none, at, orLater, find, seatOf, isVacant, routeTo, routesOf, seatAt, Peer, alone, joined, Held, setKey, setSeat}
 use Rattle.rules.specs.Whole.{Whole}
-use Rattle.rules.specs.Call.{Sent}
-use Rattle.rules.specs.Outcome.{sentBytes, to, joinedBy, peerAt, peerIn, peer, toPeer, tellBoth, tellPeer, tellPeers}
-use Rattle.rules.specs.Transcript.{Past, Start}
+use Rattle.rules.specs.Call.{Answer, Sent}
+use Rattle.rules.specs.Outcome.{Outcome, refuse, sentBytes, accept, to, roomAfter, joinedBy, peerAt, peerIn, peer, toPeer, tellBoth, tellPeer, tellPeers, leaveFrom}
+use Rattle.rules.specs.Transcript.{Past, Start, isClient}
 use Rattle.rules.specs.After.{clientIn, Tied}
-use Rattle.isolation.specs.Record.{isClient, handedIf, handed}
-use Rattle.rules.proofs.FindLaws.{clash, find-hit}
-use Rattle.rules.proofs.Whole.{key-once}
+use Rattle.isolation.specs.Record.{handedIf, handed}
+use Rattle.rules.proofs.FindLaws.{Once, clash, find-hit, once-tail, once-first}
+use Rattle.rules.proofs.Whole.{key-once, wanted-once}
 use Rattle.rules.proofs.PeerLaws.{peer-has}
 use Rattle.rules.proofs.SentLaws.{count-append, count-same}
-use Rattle.isolation.proofs.View.{openSeat, isFound, viewSeatIf, viewSeat, project, isOpen, isHeldBy, ownRoutes, namesC, isConnectedIn, isConnected, placeIf, placeOf, packetAt, only, toOne, toBoth, noticeByView, noticesByView}
+use Rattle.isolation.proofs.View.{SeatView, openSeat, ownSeat, otherSeat, View, setViews, setView, isFound, viewSeatIf, viewSeat, project, isOpen, isHeldBy, ownRoutes, namesC, isConnectedIn, isConnected, placeIf, placeOf, Observed, observed, packetAt, only, toOne, toBoth, noticeByView, noticesByView, lostNotice, lostBy}
 
 -- ---- lists
 
@@ -106,6 +106,24 @@ module _ (c : Key) where
       go : (t : Bool) → namesC c (viewSeatIf t c held) ≡ isFound (find (routeTo c) (held .routes))
       go true = refl
       go false = refl
+
+pub view-own : (c : Key) (held : Held) → held .key ≡ c → viewSeat c (holds held) ≡ ownSeat held
+unfolding viewSeat viewSeatIf
+view-own c held mine = rw (mine, same-refl c)
+
+pub view-other : (c : Key) (held : Held) → sameKey (held .key) c ≡ false → viewSeat c (holds held) ≡ otherSeat (held .key) (isFound (find (routeTo c) (held .routes)))
+unfolding viewSeat viewSeatIf
+view-other c held hk = rw hk
+
+-- the view where a seat becomes another
+pub project-set : (c : Key) (room : Room) (seat : ℕ) (s : Seat) (v : SeatView) → viewSeat c s ≡ v → project c (setSeat room seat s) ≡ setView (project c room) seat v
+unfolding project
+project-set c room seat s v e = ap (setViews (project c room)) (map-set (viewSeat c) (room .seats) seat s ∙ ap (set (map (viewSeat c) (room .seats)) seat) e)
+
+-- the view where a seat becomes empty
+pub left-open : (c : Key) (room : Room) (seat : ℕ) → project c (setSeat room seat vacant) ≡ setView (project c room) seat openSeat
+unfolding viewSeat
+left-open c room seat = project-set c room seat vacant openSeat refl
 
 -- ---- connected
 
@@ -228,6 +246,52 @@ module _ (sizes : Sizes) (room : Room) (whole : Whole sizes room) (c : Key) (sea
   own-tells [] = refl
   own-tells (free ∷ t) = own-tells t
   own-tells (wants wanted ∷ t) = handed-append c room (toPeer relay.disconnectNotice (peer room seat c wanted)) (tellPeers room seat c t) ∙ rw (own-not-handed wanted relay.disconnectNotice, own-tells t)
+
+-- ---- a seat that is left
+
+-- another client's notices: C is handed one, and only where it was named
+module _ (c : Key) (room : Room) (seat : ℕ) (key : Key) where
+  abbrev notice : List (List ℕ)
+  notice = handedBy c room (toPeer relay.disconnectNotice (peer room seat key c))
+
+  other-tells : (t : List Route) → Once (routeTo c) free t → handedBy c room (tellPeers room seat key t) ≡ only (isFound (find (routeTo c) t)) notice
+  unfolding tellPeers tellPeer handedBy find isFound only routeTo orLater
+  other-tells [] o = refl
+  other-tells (free ∷ t) o = other-tells t (once-tail (routeTo c) free free t o) ∙ ap (λ b. only b notice) (sym (found-later (find (routeTo c) t)))
+  other-tells (wants wanted ∷ t) o =
+      handed-append c room (toPeer relay.disconnectNotice (peer room seat key wanted)) (tellPeers room seat key t) ∙ go (sameKey wanted c) refl (other-tells t (once-tail (routeTo c) free (wants wanted) t o))
+    where
+      go : (b : Bool) → sameKey wanted c ≡ b → handedBy c room (tellPeers room seat key t) ≡ only (isFound (find (routeTo c) t)) notice
+          → (handedBy c room (toPeer relay.disconnectNotice (peer room seat key wanted)) ++ handedBy c room (tellPeers room seat key t)) ≡ only (isFound (orLater b (find (routeTo c) t))) notice
+      go true hw ih = rw (ih, once-first (routeTo c) free (wants wanted) t o hw, same-sound wanted c hw) (append-nil notice)
+      go false hw ih = rw (not-handed c room seat key wanted relay.disconnectNotice hw, found-later (find (routeTo c) t)) ih
+
+module _ (sizes : Sizes) (room : Room) (whole : Whole sizes room) (c : Key) (seat : ℕ) where
+  pub other-lost : (held : Held) → seatAt room seat ≡ holds held → sameKey (held .key) c ≡ false
+      → lostNotice (isFound (find (routeTo c) (held .routes))) c (project c room) (held .key) ≡ handedBy c room (leaveFrom (holds held) room seat .sent)
+  unfolding leaveFrom accept
+  other-lost held sits hk =
+      ap (only (isFound (find (routeTo c) (held .routes)))) (packet-law c room seat (held .key) held sits hk relay.disconnectNotice)
+      ∙ sym (other-tells c room seat (held .key) (held .routes) (wanted-once sizes room whole seat held sits c))
+
+  -- whoever leaves it, C or another
+  pub lost-law : (s : Seat) → seatAt room seat ≡ s → lostBy (viewSeat c s) c (project c room) ≡ handedBy c room (leaveFrom s room seat .sent)
+  unfolding lostBy viewSeat viewSeatIf handedBy leaveFrom refuse accept
+  lost-law vacant e = refl
+  lost-law (holds held) e = go (sameKey (held .key) c) refl
+    where
+      go : (t : Bool) → sameKey (held .key) c ≡ t
+          → lostBy (viewSeatIf t c held) c (project c room) ≡ handedBy c room (tellPeers room seat (held .key) (held .routes))
+      go true h = let q = same-sound (held .key) c h in rw q (sym (own-tells sizes room whole c seat held (e ∙ ap (λ (k : Key). holds (setKey held k)) q) (held .routes)))
+      go false h = other-lost held e h
+
+-- ---- what an outcome is to C: the view of the room after it, the packets for C, and the answers that C gets
+
+abbrev pub observedOf : Sizes → Key → Room → Outcome → List Answer → Observed
+observedOf sizes c room o answers = observed (project c (roomAfter sizes room o)) (handedBy c room (o .sent)) answers
+
+pub observed-same : {v v′ : View} {h h′ : List (List ℕ)} {t t′ : List Answer} → v ≡ v′ → h ≡ h′ → t ≡ t′ → observed v h t ≡ observed v′ h′ t′
+observed-same a b d = rw (a, b, d)
 
 -- ---- how many bytes
 

@@ -16,10 +16,10 @@ use Rattle.packet_laws.specs.Read.{Read}
 use Rattle.packet_laws.specs.Read as read
 use Rattle.packet_laws.specs.FromClient as client
 use Rattle.rules.specs.Room.{Key, baseSizes, emptyRoom}
-use Rattle.rules.specs.Call.{Call, arrive, leave, packetCall, Answer, accepted, refused}
+use Rattle.rules.specs.Call.{Call, arrive, leave, packetCall, tick, Answer, accepted, refused}
 use Rattle.rules.specs.History.{Event, transcript, happens}
-use Rattle.rules.specs.Transcript.{Past, Maker, nobody, clientOf, Start, fromEmpty, isAccepted, maker, stands}
-use Rattle.isolation.specs.Record.{Entry, arrived, departed, own, toC, droppedC, dataForC, entryIf, byKey, otherPacket, otherCall, ifAccepted, madeBy, entriesBy, entries, recordFor, isClient, handed, packetsFor, answerIf, answersFor}
+use Rattle.rules.specs.Transcript.{Past, Maker, nobody, clientOf, Start, fromEmpty, isAccepted, putOut, maker, stands, isClient}
+use Rattle.isolation.specs.Record.{Entry, arrived, departed, own, toC, droppedC, dataForC, ticked, entryIf, byKey, otherPacket, otherCall, ifAccepted, madeBy, ofTick, entriesBy, entries, recordFor, handed, packetsFor, answerIf, answersFor}
 use Rattle.isolation.specs.Relays.{Relay, TakesSteps, Isolates, answersOf, sentOf, allRefused, firstOnly, silent}
 use Rattle.rules.specs.Accepted.{allCounted}
 use Rattle.isolation.proofs.Recorded.{recorded}
@@ -128,6 +128,7 @@ ownAnswers a (own call ∷ es) = a ∷ ownAnswers a es
 ownAnswers a (toC key call ∷ es) = ownAnswers a es
 ownAnswers a (droppedC key ∷ es) = ownAnswers a es
 ownAnswers a (dataForC key bytes ∷ es) = ownAnswers a es
+ownAnswers a (ticked time number out ∷ es) = ownAnswers a es
 
 own-append : (a : Answer) (es es′ : List Entry) → ownAnswers a (es ++ es′) ≡ ownAnswers a es ++ ownAnswers a es′
 unfolding ownAnswers
@@ -138,6 +139,7 @@ own-append a (own call ∷ es) es′ = ap (λ (l : List Answer). a ∷ l) (own-a
 own-append a (toC key call ∷ es) es′ = own-append a es es′
 own-append a (droppedC key ∷ es) es′ = own-append a es es′
 own-append a (dataForC key bytes ∷ es) es′ = own-append a es es′
+own-append a (ticked time number out ∷ es) es′ = own-append a es es′
 
 module _ (a : Answer) where
   entry-none : (b : Bool) (e : Entry) → ownAnswers a (e ∷ []) ≡ [] → ownAnswers a (entryIf b e) ≡ []
@@ -150,6 +152,7 @@ module _ (a : Answer) where
   by-key-none key (arrive k) answer = entry-none (isAccepted answer) (arrived key) refl
   by-key-none key (leave seat) answer = entry-none (isAccepted answer) (departed key) refl
   by-key-none key (packetCall seat bytes) answer = refl
+  by-key-none key (tick time number) answer = refl
 
   packet-none : (c key : Key) (call : Call) (names : ℕ → Bool) (r : Read client.FromClient) → ownAnswers a (otherPacket c key call names r) ≡ []
   unfolding otherPacket ownAnswers
@@ -166,6 +169,7 @@ module _ (a : Answer) where
   other-none c key (arrive k) names = refl
   other-none c key (leave seat) names = refl
   other-none c key (packetCall seat bytes) names = packet-none c key (packetCall seat bytes) names (client.relayRead bytes)
+  other-none c key (tick time number) names = refl
 
   accepted-none : (answer : Answer) (es : List Entry) → ownAnswers a es ≡ [] → ownAnswers a (ifAccepted answer es) ≡ []
   unfolding ifAccepted ownAnswers
@@ -179,9 +183,16 @@ module _ (a : Answer) where
       own-append a (byKey key (e .call) (e .answer)) (ifAccepted (e .answer) (otherCall c key (e .call) names))
       ∙ rw (by-key-none key (e .call) (e .answer)) (accepted-none (e .answer) _ (other-none c key (e .call) names))
 
+  tick-none : (call : Call) (out : List Key) → ownAnswers a (ofTick call out) ≡ []
+  unfolding ofTick ownAnswers
+  tick-none (arrive key) out = refl
+  tick-none (leave seat) out = refl
+  tick-none (packetCall seat bytes) out = refl
+  tick-none (tick time number) out = refl
+
   entries-own : (m : Maker) (start : Start) (past : Past) (c : Key) (e : Event) → ownAnswers a (entriesBy m start past c e) ≡ answerIf (isClient c m) a
   unfolding entriesBy isClient answerIf ownAnswers
-  entries-own nobody start past c e = refl
+  entries-own nobody start past c e = tick-none (e .call) (putOut start past (e .call) (e .answer))
   entries-own (clientOf key) start past c e = made-own (sameKey key c) c key e (λ number. stands start past key number c)
 
   answers-by-record : (start : Start) (past : Past) (c : Key) (calls : List Call) → answersFor start past c (silent a calls) ≡ ownAnswers a (recordFor start past c (silent a calls))
@@ -194,8 +205,8 @@ module _ (a : Answer) where
 
   pub silent-isolates : Isolates (silent a)
   silent-isolates c h₁ h₂ z₁ z₂ e = (
-    nothing-handed a fromEmpty [] c h₁ ∙ sym (nothing-handed a fromEmpty [] c h₂),
-    answers-by-record fromEmpty [] c h₁ ∙ ap (ownAnswers a) e ∙ sym (answers-by-record fromEmpty [] c h₂),
+    nothing-handed a (fromEmpty baseSizes) [] c h₁ ∙ sym (nothing-handed a (fromEmpty baseSizes) [] c h₂),
+    answers-by-record (fromEmpty baseSizes) [] c h₁ ∙ ap (ownAnswers a) e ∙ sym (answers-by-record (fromEmpty baseSizes) [] c h₂),
   )
 
   -- and demand 2 turns it away

@@ -1,4 +1,5 @@
--- The record for a client, what it is handed and what its calls are answered. Document 01, "The record for a client".
+-- The record for a client, what it is handed and what its calls are answered. Document 01, "The record for a client", and for ticks document 02, "Notice dead
+-- laptops".
 use mathlib.Core.Bool.{Bool, true, false, _&&_, cond}
 use mathlib.Core.List.{List, [], _∷_, _++_}
 use Prim.Native.Nat.{ℕ}
@@ -8,12 +9,12 @@ use Rattle.packet_laws.specs.Read.{Read}
 use Rattle.packet_laws.specs.Read as read
 use Rattle.packet_laws.specs.FromClient as client
 use Rattle.rules.specs.Room.{Key}
-use Rattle.rules.specs.Call.{Call, arrive, leave, packetCall, Answer, accepted, refused, Sent}
+use Rattle.rules.specs.Call.{Call, arrive, leave, packetCall, tick, Answer, accepted, refused, Sent}
 use Rattle.rules.specs.History.{Event}
-use Rattle.rules.specs.Transcript.{Past, Maker, nobody, clientOf, Start, isAccepted, sitter, maker, numberAnswered, stands}
+use Rattle.rules.specs.Transcript.{Past, Maker, nobody, clientOf, Start, isAccepted, sitter, putOut, maker, numberAnswered, stands, isClient}
 
 pub data Entry : Type 0 where
-  -- "every accepted arrival and every departure, by key"
+  -- "every accepted arrival and every departure, by key"; a departure by a tick stands in that tick's entry
   arrived : Key → Entry
   departed : Key → Entry
   -- "every call made by C, in full, its refused arrivals and packets included"
@@ -24,6 +25,9 @@ pub data Entry : Type 0 where
   -- the record is the smaller, so what is claimed of equal records is no weaker
   droppedC : Key → Entry
   dataForC : Key → List ℕ → Entry
+  -- document 02: "Ticks are calls of a history too; each joins every record for C in full, with the departures it causes marked there as its own, so that a
+  -- Leave after a tick reads otherwise." The time, the ping number, and the keys of those that the tick puts out, in rising seat order
+  ticked : ℕ → ℕ → List Key → Entry
 
 -- one entry where a test holds, else none
 unfoldable pub entryIf : Bool → Entry → List Entry
@@ -35,6 +39,7 @@ unfoldable pub byKey : Key → Call → Answer → List Entry
 byKey key (arrive k) answer = entryIf (isAccepted answer) (arrived key)
 byKey key (leave seat) answer = entryIf (isAccepted answer) (departed key)
 byKey key (packetCall seat bytes) answer = []
+byKey key (tick time number) answer = []
 
 -- an accepted packet of another client, `key`
 unfoldable pub otherPacket : Key → Key → Call → (ℕ → Bool) → Read client.FromClient → List Entry
@@ -50,6 +55,7 @@ unfoldable pub otherCall : Key → Key → Call → (ℕ → Bool) → List Entr
 otherCall c key (arrive k) namesC = []
 otherCall c key (leave seat) namesC = []
 otherCall c key (packetCall seat bytes) namesC = otherPacket c key (packetCall seat bytes) namesC (client.relayRead bytes)
+otherCall c key (tick time number) namesC = []
 
 unfoldable pub ifAccepted : Answer → List Entry → List Entry
 ifAccepted (accepted seat count) entries = entries
@@ -60,8 +66,16 @@ unfoldable pub madeBy : Bool → Key → Key → Event → (ℕ → Bool) → Li
 madeBy true c key e namesC = byKey key (e .call) (e .answer) ++ (own (e .call) ∷ [])
 madeBy false c key e namesC = byKey key (e .call) (e .answer) ++ ifAccepted (e .answer) (otherCall c key (e .call) namesC)
 
+-- "each joins every record for C in full": accepted or refused, one entry for each tick, with those whom it puts out; a refused one puts out nobody
+unfoldable pub ofTick : Call → List Key → List Entry
+ofTick (arrive key) out = []
+ofTick (leave seat) out = []
+ofTick (packetCall seat bytes) out = []
+ofTick (tick time number) out = ticked time number out ∷ []
+
+-- a tick is nobody's, and so is a call in an empty seat, which adds nothing
 unfoldable pub entriesBy : Maker → Start → Past → Key → Event → List Entry
-entriesBy nobody start past c e = []
+entriesBy nobody start past c e = ofTick (e .call) (putOut start past (e .call) (e .answer))
 entriesBy (clientOf key) start past c e = madeBy (sameKey key c) c key e (λ number. stands start past key number c)
 
 -- what an event adds to the record for C
@@ -72,17 +86,34 @@ unfoldable pub recordFor : Start → Past → Key → List Event → List Entry
 recordFor start past c [] = []
 recordFor start past c (e ∷ events) = entries start past c e ++ recordFor start (e ∷ past) c events
 
--- ---- what C is handed: "those in the output records for the seat C holds when each is written"
+-- ---- less than the record: C's own departures by ticks are struck out. Who is put out is in the record for C by the paper's words, C itself too; demand 3 is
+-- also proved where all but that is equal
 
-unfoldable pub isClient : Key → Maker → Bool
-isClient c nobody = false
-isClient c (clientOf key) = sameKey key c
+unfoldable pub keyUnless : Bool → Key → List Key → List Key
+keyUnless true key keys = keys
+keyUnless false key keys = key ∷ keys
+
+unfoldable pub strike : Key → List Key → List Key
+strike c [] = []
+strike c (key ∷ keys) = keyUnless (sameKey key c) key (strike c keys)
+
+unfoldable pub withoutOwn : Key → Entry → Entry
+withoutOwn c (arrived key) = arrived key
+withoutOwn c (departed key) = departed key
+withoutOwn c (own call) = own call
+withoutOwn c (toC key call) = toC key call
+withoutOwn c (droppedC key) = droppedC key
+withoutOwn c (dataForC key bytes) = dataForC key bytes
+withoutOwn c (ticked time number out) = ticked time number (strike c out)
+
+-- ---- what C is handed: "those in the output records for the seat C holds when each is written"
 
 unfoldable pub handedIf : Bool → List ℕ → List (List ℕ) → List (List ℕ)
 handedIf true bytes rest = bytes ∷ rest
 handedIf false bytes rest = rest
 
--- by who sits there before the call: an Arrive sends nothing, and a Leave empties its seat last
+-- by who sits there before the call. An Arrive sends nothing, so no seat is taken in a call that sends. A Leave empties its seat last. In a tick a record may go
+-- to a seat that the same tick empties: it is written before that, while who sat there before the tick still does
 unfoldable pub handed : Start → Past → Key → List Sent → List (List ℕ)
 handed start past c [] = []
 handed start past c (s ∷ rest) = handedIf (isClient c (sitter start past (s .seat))) (s .bytes) (handed start past c rest)
@@ -119,6 +150,7 @@ turnsAway c (clientOf key) e (arrive k) = false
 turnsAway c (clientOf key) e (leave seat) = false
 turnsAway c (clientOf key) e (packetCall seat bytes) =
     cond (sameKey key c) false ((isAccepted (e .answer) && asksFor c (client.relayRead bytes)) && eqb (numberAnswered (e .sent)) 0)
+turnsAway c (clientOf key) e (tick time number) = false
 
 unfoldable pub zeroForC : Start → Past → Key → List Event → Bool
 zeroForC start past c [] = false

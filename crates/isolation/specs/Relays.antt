@@ -21,10 +21,10 @@ TakesSteps relay = (calls : List Call) → relay calls ≡ happens baseSizes cal
 -- else differs, C is handed the same packets in both, byte for byte and in the same order. And each of C's own calls gets the same answer or the same refusal
 -- in both."
 abbrev pub Isolates : Relay → Type 0
-Isolates relay = (c : Key) (h₁ h₂ : List Call) → zeroForC fromEmpty [] c (relay h₁) ≡ false → zeroForC fromEmpty [] c (relay h₂) ≡ false
-    → recordFor fromEmpty [] c (relay h₁) ≡ recordFor fromEmpty [] c (relay h₂)
-    → (packetsFor fromEmpty [] c (relay h₁) ≡ packetsFor fromEmpty [] c (relay h₂))
-    × (answersFor fromEmpty [] c (relay h₁) ≡ answersFor fromEmpty [] c (relay h₂))
+Isolates relay = (c : Key) (h₁ h₂ : List Call) → zeroForC (fromEmpty baseSizes) [] c (relay h₁) ≡ false → zeroForC (fromEmpty baseSizes) [] c (relay h₂) ≡ false
+    → recordFor (fromEmpty baseSizes) [] c (relay h₁) ≡ recordFor (fromEmpty baseSizes) [] c (relay h₂)
+    → (packetsFor (fromEmpty baseSizes) [] c (relay h₁) ≡ packetsFor (fromEmpty baseSizes) [] c (relay h₂))
+    × (answersFor (fromEmpty baseSizes) [] c (relay h₁) ≡ answersFor (fromEmpty baseSizes) [] c (relay h₂))
 
 -- ---- what is told of events
 

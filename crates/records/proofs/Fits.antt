@@ -8,11 +8,11 @@ use borrow.Author.Tests.{le-leb, ne-eqb}
 use lib.ListN.{length, length-append}
 use Rattle.wire.proofs.Numbers.{length-bytesOf}
 use Rattle.packet_laws.specs.Read.{Read, packet}
-use Rattle.packet_laws.specs.FromRelay.{FromRelay, FitsRelay, routingResponse, connectNotice, disconnectNotice, pong, oobReceived, routedData, relayBytes}
+use Rattle.packet_laws.specs.FromRelay.{FromRelay, FitsRelay, routingResponse, connectNotice, disconnectNotice, ping, pong, oobReceived, routedData, relayBytes}
 use Rattle.packet_laws.specs.Table.{lengthRight, numberRight}
 use Rattle.packet_laws.specs.Judged.{relayJudged}
 use Rattle.packet_laws.proofs.KindLaws.{size-within}
-use Rattle.packet_laws.proofs.Judged.{relay-response-judged, relay-connect-judged, relay-disconnect-judged, relay-pong-judged, relay-oob-judged, relay-data-judged}
+use Rattle.packet_laws.proofs.Judged.{relay-response-judged, relay-connect-judged, relay-disconnect-judged, relay-ping-judged, relay-pong-judged, relay-oob-judged, relay-data-judged}
 use Rattle.rules.specs.Call.{Sent}
 use Rattle.rules.specs.Outcome.{to}
 use Rattle.records.specs.Output.{Appends, fitting, fittingRecord, WritesRecord, Answers, none, given}
@@ -57,6 +57,10 @@ module _ {seat at next : ℕ} {out left : List ℕ} where
   pub answered-fits : (n : ℕ) → 0 < n → at + 12 ≤ length out → WritesRecord seat (pong n) out at next left → Appends (to seat (pong n) ∷ []) out at next left
   unfolding relayBytes FitsRelay
   answered-fits n z h w = let l = length-bytesOf 8 n in plain (pong n) _ (relay-pong-judged n (w .fits) (omega arith)) (omega arith) w
+
+  pub pinged-fits : (n : ℕ) → 0 < n → at + 12 ≤ length out → WritesRecord seat (ping n) out at next left → Appends (to seat (ping n) ∷ []) out at next left
+  unfolding relayBytes FitsRelay
+  pinged-fits n z h w = let l = length-bytesOf 8 n in plain (ping n) _ (relay-ping-judged n (w .fits) (omega arith)) (omega arith) w
 
   pub out-of-band-fits : (key bytes : List ℕ) → 1 ≤ length bytes → length bytes ≤ 1024 → at + 1060 ≤ length out
       → WritesRecord seat (oobReceived key bytes) out at next left

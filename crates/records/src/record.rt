@@ -3,7 +3,7 @@
 ghost use mathlib.Core.Path.{_≡_};
 ghost use Prim.Native.Nat.{ℕ, _+_, _≤_};
 ghost use lib.ListN.{length};
-ghost use Rattle.packet_laws.specs.FromRelay.{routingResponse, connectNotice, disconnectNotice, pong, oobReceived, routedData};
+ghost use Rattle.packet_laws.specs.FromRelay.{routingResponse, connectNotice, disconnectNotice, ping, pong, oobReceived, routedData};
 ghost use Rattle.records.specs.Output.{WritesRecord, behindHead, nextAfter, headed};
 use crate::HEAD;
 use key::Key;
@@ -72,6 +72,15 @@ pub fn answered(out: &mut [u8], at: usize, seat: Seat, ping: u64) -> usize
 {
     let start = behind_head(out.len(), at);
     let written = packet_write::pong(ping, &mut out[start..]);
+    head(out, at, seat, written)
+}
+
+// A ping for a seat.
+pub fn pinged(out: &mut [u8], at: usize, seat: Seat, number: u64) -> usize
+    ensures { λ r. ⌜ WritesRecord (seat .0) (ping number) (now (out .entry)) at r (now (out .exit)) ⌝ }
+{
+    let start = behind_head(out.len(), at);
+    let written = packet_write::ping(number, &mut out[start..]);
     head(out, at, seat, written)
 }
 

@@ -2,7 +2,7 @@
 use mathlib.Core.Path.{refl}
 use native.Mathlib.Omega.{arith}
 use Rattle.refusal.specs.declared.Refusal.{Refusal}
-use Rattle.refusal.specs.declared.Refusal.the-variants.{RoomFull, AlreadySeated, NotSeated, PacketSize, UnexpectedKind, WrongLength, ZeroPing, NoSuchRoute, NotConnected, OutputTooShort, RoomNotWhole, ListSize, KeyNotHeld, ListNotWhole, UnknownFamily, NodeCutShort, BytesAfterNodes, BadFrame}
+use Rattle.refusal.specs.declared.Refusal.the-variants.{RoomFull, AlreadySeated, NotSeated, PacketSize, UnexpectedKind, WrongLength, ZeroPing, NoSuchRoute, NotConnected, OutputTooShort, RoomNotWhole, ListSize, KeyNotHeld, ListNotWhole, UnknownFamily, NodeCutShort, BytesAfterNodes, BadFrame, ClockBack}
 use Rattle.refusal.specs.Numbers.{refusals, withNumber, refusalOf, LookedUp}
 
 pub looked-up : (why : Refusal) → LookedUp why
@@ -25,3 +25,4 @@ looked-up UnknownFamily = record { positive = omega arith; found = refl }
 looked-up NodeCutShort = record { positive = omega arith; found = refl }
 looked-up BytesAfterNodes = record { positive = omega arith; found = refl }
 looked-up BadFrame = record { positive = omega arith; found = refl }
+looked-up ClockBack = record { positive = omega arith; found = refl }

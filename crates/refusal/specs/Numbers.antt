@@ -1,11 +1,11 @@
--- Document 01, "Refusal numbers": the table, row by row, with the row of document 02 behind it, and the table looked up by number.
+-- Document 01, "Refusal numbers": the table, row by row, with the rows of document 02 behind it, and the table looked up by number.
 use mathlib.Core.Bool.{cond}
 use mathlib.Core.List.{List, [], _∷_}
 use mathlib.Core.Path.{_≡_}
 use Prim.Native.Nat.{ℕ, _≤_}
 use lib.Dec.{eqb}
 use Rattle.refusal.specs.declared.Refusal.{Refusal}
-use Rattle.refusal.specs.declared.Refusal.the-variants.{RoomFull, AlreadySeated, NotSeated, PacketSize, UnexpectedKind, WrongLength, ZeroPing, NoSuchRoute, NotConnected, OutputTooShort, RoomNotWhole, ListSize, KeyNotHeld, ListNotWhole, UnknownFamily, NodeCutShort, BytesAfterNodes, BadFrame}
+use Rattle.refusal.specs.declared.Refusal.the-variants.{RoomFull, AlreadySeated, NotSeated, PacketSize, UnexpectedKind, WrongLength, ZeroPing, NoSuchRoute, NotConnected, OutputTooShort, RoomNotWhole, ListSize, KeyNotHeld, ListNotWhole, UnknownFamily, NodeCutShort, BytesAfterNodes, BadFrame, ClockBack}
 
 abbrev pub refusalNumber : Refusal → ℕ
 -- "arrival with all 40 seats taken"
@@ -26,7 +26,8 @@ refusalNumber ZeroPing = 7
 refusalNumber NoSuchRoute = 8
 -- "data on a waiting route"
 refusalNumber NotConnected = 9
--- "lent output too short: under 2,048 for packet and leave, under the exact length for a writer"; document 02: "10 for a keep that is too short"
+-- "lent output too short: under 2,048 for packet and leave, under the exact length for a writer"; document 02: "10 for a keep that is too short",
+-- "10 (tick output under 5,120)"
 refusalNumber OutputTooShort = 10
 -- "room not whole"
 refusalNumber RoomNotWhole = 11
@@ -45,6 +46,8 @@ refusalNumber BytesAfterNodes = 17
 -- document 02: "18 for a length under 17 or above 2,048, as soon as both length bytes are there; 18 for a reader holding 2 or more bytes that start no unfinished
 -- frame"
 refusalNumber BadFrame = 18
+-- document 02: "19 for a clock that goes back"
+refusalNumber ClockBack = 19
 
 -- every refusal
 unfoldable pub refusals : List Refusal
@@ -67,6 +70,7 @@ refusals =
     ∷ NodeCutShort
     ∷ BytesAfterNodes
     ∷ BadFrame
+    ∷ ClockBack
     ∷ []
 
 -- the first of these with a number; `other` where none has it

@@ -1,4 +1,4 @@
-// Why a call is refused: document 01's section "Refusal numbers", in its order, and 18 of document 02.
+// Why a call is refused: document 01's section "Refusal numbers", in its order, and 18 and 19 of document 02.
 //
 // One enum serves the whole library, so that a host prints every refusal by one table.
 ghost use mathlib.Core.Path.{_≡_};
@@ -23,6 +23,7 @@ pub enum Refusal {
     NodeCutShort,
     BytesAfterNodes,
     BadFrame,
+    ClockBack,
 }
 
 impl Refusal {
@@ -49,6 +50,7 @@ impl Refusal {
             Refusal::NodeCutShort => 16,
             Refusal::BytesAfterNodes => 17,
             Refusal::BadFrame => 18,
+            Refusal::ClockBack => 19,
         }
     }
 }

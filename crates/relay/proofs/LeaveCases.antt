@@ -5,7 +5,7 @@ use mathlib.Core.List.{List, [], _∷_, _++_, append-assoc, append-nil}
 use Prim.Native.Nat.{ℕ, suc, _+_, _-_, _≤_, _<_}
 use native.Mathlib.Nat.{add-sub-cancel-left}
 use native.Mathlib.Omega.{arith}
-use lib.ListN.{length, take, drop, getD}
+use lib.ListN.{length, take, drop, getD, take-append-drop}
 use lib.Seq.{take-suc, take-all}
 use borrow.Author.Tests.{lt-ltb}
 use Rattle.refusal.specs.declared.Refusal.the-variants.{NotSeated}
@@ -14,10 +14,11 @@ use Rattle.packet.specs.declared.ConnectionNumber.{ConnectionNumber}
 use Rattle.table_laws.specs.Table.{keyOfPlace}
 use Rattle.table_laws.proofs.KeyOrder.{both}
 use Rattle.table_laws.proofs.TableLaws.{key-record}
-use Rattle.rules.specs.Room.{Key, Route, free, wants, Seat, vacant, holds, Room, isVacant, seatAt, firstNumber, numberOfPlace}
+use Rattle.rules.specs.Room.{sizesOf, Key, Route, free, wants, Seat, vacant, holds, Room, isVacant, seatAt, firstNumber, numberOfPlace}
 use Rattle.rules.specs.Call.{Sent, leave, accepted, refused}
 use Rattle.rules.specs.Outcome.{peer, to, toPeer, tellPeer, tellPeers, sentBytes, outcome, leaveFrom, accept, refuse, seatEmptied}
-use Rattle.rules.proofs.WithinOutput.{tell-within}
+use Rattle.rules.proofs.SentLaws.{count-append}
+use Rattle.rules.proofs.WithinOutput.{tell-within, leave-within}
 use Rattle.seat.specs.declared.Seat as seats
 use Rattle.room.specs.declared.lookup.Wanted.{Wanted}
 use Rattle.room_laws.specs.Layout.{keyBytes, seatBytes, seatTable, seatStart, routesTable}
@@ -30,9 +31,10 @@ use Rattle.room_laws.proofs.LayoutLaws.{seats-fit}
 use Rattle.room.proofs.LookupSteps.{has-seat-facts, key-in-seat}
 use Rattle.room_laws.proofs.LookupLaws.{taken-is, taken-holds}
 use Rattle.room_laws.proofs.TablesLaws.{seat-key-stands}
-use Rattle.room_laws.proofs.WholeLaws.{whole-fits}
+use Rattle.room_laws.proofs.WholeLaws.{whole-fits, whole-few, whole-view}
 use Rattle.room.specs.declared.peer.Peer as code
 use Rattle.relay_laws.specs.Calls.{Leaves}
+use Rattle.relay_laws.specs.Steps.{Made, TellsFit, departure, LeaveFits}
 use Rattle.relay.specs.Steps.{Sits}
 use Rattle.relay.proofs.SeatedClient.{wanted-free, wanted-wants, sits-numbered, route-of-number}
 use Rattle.room.proofs.PeersFound.{found-joined, found-alone}
@@ -119,28 +121,39 @@ module _ (room : Room) (seat : ℕ) (key : Key) where
       ∙ ap (λ (x : List Sent). tellPeers room seat key (take place routes) ++ x) (tells-one (getD routes place free))
 
   -- no peer yet
-  pub tells-begun : (routes : List Route) (out : List ℕ) → Appends (tellPeers room seat key (take 0 routes)) out 0 0 out
+  pub tells-begun : (routes : List Route) (out : List ℕ) (at : ℕ) → Appends (tellPeers room seat key (take 0 routes)) out at at out
   unfolding tellPeers
-  tells-begun routes out = appends-none out 0
+  tells-begun routes out at = appends-none out at
 
   -- one number more
-  pub tells-more : (routes : List Route) (place : ℕ) → place < length routes → (out : List ℕ) (at next : ℕ) (left last : List ℕ)
-      → Appends (tellPeers room seat key (take place routes)) out 0 at left
-      → Appends (tellPeer room seat key (getD routes (16 + place - 16) free)) left at next last
-      → Appends (tellPeers room seat key (take (place + 1) routes)) out 0 next last
-  tells-more routes place h out at next left last a b =
+  pub tells-more : (routes : List Route) (place : ℕ) → place < length routes → (out : List ℕ) (at : ℕ) → at ≤ length out → (mid next : ℕ) (left last : List ℕ)
+      → Appends (tellPeers room seat key (take place routes)) out at mid left
+      → Appends (tellPeer room seat key (getD routes (16 + place - 16) free)) left mid next last
+      → Appends (tellPeers room seat key (take (place + 1) routes)) out at next last
+  tells-more routes place h out at start mid next left last a b =
       let m : List Sent = tellPeer room seat key (getD routes place free) in
-      appends-as (tellPeers room seat key (take (place + 1) routes)) (tellPeers room seat key (take place routes) ++ m) out 0 next last (tells-next routes place h)
-      (appends-more (tellPeers room seat key (take place routes)) m out 0 at next left last (omega arith) a
-      (appends-as m (tellPeer room seat key (getD routes (16 + place - 16) free)) left at next last
+      appends-as (tellPeers room seat key (take (place + 1) routes)) (tellPeers room seat key (take place routes) ++ m) out at next last (tells-next routes place h)
+      (appends-more (tellPeers room seat key (take place routes)) m out at mid next left last start a
+      (appends-as m (tellPeer room seat key (getD routes (16 + place - 16) free)) left mid next last
       (ap (λ (x : ℕ). tellPeer room seat key (getD routes x free)) (sym (add-sub-cancel-left 16 place))) b))
 
   -- every number
-  pub tells-all : (routes : List Route) (place : ℕ) → length routes ≤ place → (out : List ℕ) (next : ℕ) (last : List ℕ)
-      → Appends (tellPeers room seat key (take place routes)) out 0 next last → Appends (tellPeers room seat key routes) out 0 next last
-  tells-all routes place h out next last a =
-      appends-as (tellPeers room seat key routes) (tellPeers room seat key (take place routes)) out 0 next last
+  pub tells-all : (routes : List Route) (place : ℕ) → length routes ≤ place → (out : List ℕ) (at next : ℕ) (last : List ℕ)
+      → Appends (tellPeers room seat key (take place routes)) out at next last → Appends (tellPeers room seat key routes) out at next last
+  tells-all routes place h out at next last a =
+      appends-as (tellPeers room seat key routes) (tellPeers room seat key (take place routes)) out at next last
       (ap (tellPeers room seat key) (sym (take-all place routes h))) a
+
+  -- the first of them take no more bytes than all
+  pub tells-some : (routes : List Route) (place : ℕ)
+      → length (sentBytes (tellPeers room seat key (take place routes))) ≤ length (sentBytes (tellPeers room seat key routes))
+  tells-some routes place =
+      omega (
+        arith,
+        ap (λ (r : List Route). length (sentBytes (tellPeers room seat key r))) (take-append-drop place routes),
+        ap (λ (l : List Sent). length (sentBytes l)) (tells-append (take place routes) (drop place routes)),
+        count-append (tellPeers room seat key (take place routes)) (tellPeers room seat key (drop place routes)),
+      )
 
   -- a record of 5 bytes at most
   pub tell-next : (route : Route) (out : List ℕ) (at next : ℕ) (left : List ℕ) → Appends (tellPeer room seat key route) out at next left → next ≤ at + 5
@@ -173,15 +186,27 @@ module _ (s n : ℕ) (b : List ℕ) (whole : roomWhole s n b ≡ true) (i : ℕ)
       taken-holds s n b whole i h
       ∙ ap (λ (k : Key). holds (seatHeld s n b i k)) (sym (e ∙ key-of-taken h))
 
-  pub leave-seat : (key : Key) → Sits s n b i key → (out : List ℕ) (bytes : ℕ) (b′ out′ : List ℕ)
-      → Appends (tellPeers (viewRoom s n b) i key (viewRoutes n (routesTable s n b i))) out 0 bytes out′
-      → b′ ≡ store s n b (seatEmptied i)
+  -- its departure, behind the first `at` bytes of the output
+  module _ (key : Key) (sits : Sits s n b i key) (out : List ℕ) (at : ℕ) where
+    pub leave-fits : LeaveFits s n b i out at → TellsFit s n b i key out at
+    unfolding leaveFrom accept
+    leave-fits h = rw sits at h
+
+    pub departs : (next : ℕ) (b′ out′ : List ℕ) → Appends (tellPeers (viewRoom s n b) i key (viewRoutes n (routesTable s n b i))) out at next out′
+        → b′ ≡ store s n b (seatEmptied i) → Made s n (departure s n b i) b out at b′ next out′
+    unfolding leaveFrom accept storeAll
+    departs next b′ out′ a f = record { stores = rw sits f; writes = rw sits a }
+
+  -- a departure takes 1,200 bytes at most
+  pub leave-room : (out : List ℕ) → 2048 ≤ length out → LeaveFits s n b i out 0
+  leave-room out h = omega (arith, leave-within (sizesOf s n) (whole-few s n b whole) (viewRoom s n b) (whole-view s n b whole) i (seatAt (viewRoom s n b) i) refl)
+
+  -- and is the leave
+  pub leave-made : taken s n b i ≡ true → (out : List ℕ) (bytes : ℕ) (b′ out′ : List ℕ) → Made s n (departure s n b i) b out 0 b′ bytes out′
       → Leaves s n (outcome (viewRoom s n b) (leave i)) b out (accepted i bytes) b′ out′
-  unfolding outcome leaveFrom accept storeAll
-  leave-seat key sits out bytes b′ out′ a f =
-      let sent : List Sent = tellPeers (viewRoom s n b) i key (viewRoutes n (routesTable s n b i)) in
-      record {
-        answers = rw sits (ap (accepted i) (appends-front-answer sent out bytes out′ a));
-        stores = rw sits f;
-        writes = rw sits (appends-front sent out bytes out′ a);
-      }
+  unfolding outcome leaveFrom accept
+  leave-made h out bytes b′ out′ made = record {
+    answers = let e = appends-front-answer (departure s n b i .sent) out bytes out′ (made .writes) in rw (taken-holds s n b whole i h) (ap (accepted i) (rw (taken-holds s n b whole i h) at e));
+    stores = made .stores;
+    writes = appends-front (departure s n b i .sent) out bytes out′ (made .writes);
+  }

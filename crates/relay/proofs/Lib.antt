@@ -5,7 +5,9 @@ pub mod CarryCases
 pub mod LeaveCases
 pub mod DropCases
 pub mod RequestCases
+pub mod PongCases
 pub mod PacketCases
+pub mod TickCases
 pub mod PlayTested
 pub mod LentParts
 pub mod PlayLaws

@@ -9,7 +9,7 @@ use lib.Seq.{take-all}
 use borrow.Author.Tests.{le-leb}
 use Rattle.key.specs.Keys.{keyOf}
 use Rattle.rules.specs.Room.{Key, Room}
-use Rattle.rules.specs.Call.{Call, arrive, leave, packetCall, Answer, Sent}
+use Rattle.rules.specs.Call.{Call, arrive, leave, packetCall, tick, Answer, Sent}
 use Rattle.rules.specs.Outcome.{outcome, sentBytes}
 use Rattle.rules.proofs.QuietArrival.{arrive-sends-nothing}
 use Rattle.seat.specs.declared.Seat.{Seat}
@@ -27,8 +27,15 @@ use Rattle.relay.specs.PlaySteps.{Reads, Makes}
 pub record CallRead (stored : List ℕ) (shown : StoredCall) (size : ℕ) : Type 0 where
   pub made : Call
   pub first : firstCall stored ≡ call made
-  pub shows : shown ≡ shownCall made
+  pub shows : read.Call shown size ≡ shownCall made (length (storedBytes made))
   pub takes : size ≡ length (storedBytes made)
+
+shown-size : (c : Call) (shown : StoredCall) (size k : ℕ) → read.Call shown size ≡ shownCall c k → size ≡ k
+unfolding shownCall
+shown-size (arrive key) shown size k e = cc
+shown-size (leave seat) shown size k e = cc
+shown-size (packetCall seat bytes) shown size k e = cc
+shown-size (tick time number) shown size k e = absurd (false≢true (cc))
 
 pub call-read : (stored : List ℕ) (shown : StoredCall) (size : ℕ) → read.Call shown size ≡ shownFirst (firstCall stored) → CallRead stored shown size
 unfolding shownFirst
@@ -36,15 +43,21 @@ call-read stored shown size e = go (firstCall stored) refl e
   where
     go : (f : First) → firstCall stored ≡ f → read.Call shown size ≡ shownFirst f → CallRead stored shown size
     go none q e = let z : read.Call shown size ≡ read.None = e in absurd (false≢true (cc))
-    go (call c) q e = record { made = c; first = q; shows = cc; takes = cc }
+    go (call c) q e = record { made = c; first = q; shows = e; takes = shown-size c shown size (length (storedBytes c)) e }
 
 pub none-read : (stored : List ℕ) → read.None ≡ shownFirst (firstCall stored) → firstCall stored ≡ none
-unfolding shownFirst
-none-read stored e = go (firstCall stored) e
+unfolding shownFirst shownCall
+none-read stored e = go (firstCall stored) refl e
   where
-    go : (f : First) → read.None ≡ shownFirst f → f ≡ none
-    go none e = refl
-    go (call c) e = cc
+    -- each form is shown as a call
+    shown : (c : Call) → Formed (getD stored 0 0) (getD stored 1 0) (givenIn stored) c → read.None ≡ shownCall c (length (storedBytes c)) → ⊥
+    shown c (arrives a b l) e = false≢true (cc)
+    shown c (leaves a l) e = false≢true (cc)
+    shown c (sends a) e = false≢true (cc)
+
+    go : (f : First) → firstCall stored ≡ f → read.None ≡ shownFirst f → firstCall stored ≡ none
+    go none q e = q
+    go (call c) q e = absurd (shown c (first-is stored c q .form) e)
 
 -- ---- each kind of call
 
@@ -61,23 +74,24 @@ module _ (stored : List ℕ) where
       let f = first-is stored (q .made) (q .first) in
       go (q .made) (q .first) (q .shows) f (f .form)
     where
-      go : (c : Call) → firstCall stored ≡ call c → Arrive ≡ shownCall c → Fronts stored c → Formed (getD stored 0 0) (getD stored 1 0) (givenIn stored) c → ArriveRead
+      go : (c : Call) → firstCall stored ≡ call c → read.Call Arrive (r .size) ≡ shownCall c (length (storedBytes c)) → Fronts stored c → Formed (getD stored 0 0) (getD stored 1 0) (givenIn stored) c → ArriveRead
       go c q e f (arrives a b l) =
           let k : sizeIn stored ≡ 32 = sym (f .long) ∙ l in
           let same : givenIn stored ≡ take 32 (drop 4 stored) = ap (λ (n : ℕ). take n (drop 4 stored)) k in
           let t = f .there in
           record { there = omega arith; long = ap length (sym same) ∙ l; first = q ∙ ap (λ (x : List ℕ). call (arrive x)) same }
-      go c q e f (leaves a l) = let z : Arrive ≡ shownCall (leave (getD stored 1 0)) = e in absurd (false≢true (cc))
-      go c q e f (sends a) = let z : Arrive ≡ shownCall (packetCall (getD stored 1 0) (givenIn stored)) = e in absurd (false≢true (cc))
+      go c q e f (leaves a l) = absurd (false≢true (cc))
+      go c q e f (sends a) = absurd (false≢true (cc))
 
   pub leave-read : (seat : Seat) → Reads stored (Leave seat) → firstCall stored ≡ call (leave (seat .0))
   unfolding shownCall
   leave-read seat r = let q = call-read stored (Leave seat) (r .size) (r .is) in go (q .made) (q .first) (q .shows)
     where
-      go : (c : Call) → firstCall stored ≡ call c → Leave seat ≡ shownCall c → firstCall stored ≡ call (leave (seat .0))
-      go (arrive key) q e = let z : Leave seat ≡ Arrive = e in absurd (false≢true (cc))
+      go : (c : Call) → firstCall stored ≡ call c → read.Call (Leave seat) (r .size) ≡ shownCall c (length (storedBytes c)) → firstCall stored ≡ call (leave (seat .0))
+      go (arrive key) q e = absurd (false≢true (cc))
       go (leave i) q e = let same : seat ≡ record { 0 = i } = cc in q ∙ ap (λ (x : Seat). call (leave (x .0))) (sym same)
-      go (packetCall i bytes) q e = let z : Leave seat ≡ Packet (record { 0 = i }) (length bytes) = e in absurd (false≢true (cc))
+      go (packetCall i bytes) q e = absurd (false≢true (cc))
+      go (tick time number) q e = absurd (false≢true (cc))
 
   pub record PacketRead (seat : Seat) (size : ℕ) : Type 0 where
     pub there : 4 + size ≤ length stored
@@ -90,11 +104,10 @@ module _ (stored : List ℕ) where
       let f = first-is stored (q .made) (q .first) in
       go (q .made) (q .first) (q .shows) f (f .form)
     where
-      go : (c : Call) → firstCall stored ≡ call c → Packet seat size ≡ shownCall c → Fronts stored c → Formed (getD stored 0 0) (getD stored 1 0) (givenIn stored) c → PacketRead seat size
-      go c q e f (arrives a b l) = let z : Packet seat size ≡ Arrive = e in absurd (false≢true (cc))
-      go c q e f (leaves a l) = let z : Packet seat size ≡ shownCall (leave (getD stored 1 0)) = e in absurd (false≢true (cc))
+      go : (c : Call) → firstCall stored ≡ call c → read.Call (Packet seat size) (r .size) ≡ shownCall c (length (storedBytes c)) → Fronts stored c → Formed (getD stored 0 0) (getD stored 1 0) (givenIn stored) c → PacketRead seat size
+      go c q e f (arrives a b l) = absurd (false≢true (cc))
+      go c q e f (leaves a l) = absurd (false≢true (cc))
       go c q e f (sends a) =
-          let z : Packet seat size ≡ Packet (record { 0 = getD stored 1 0 }) (length (givenIn stored)) = e in
           let k : size ≡ length (givenIn stored) = cc in
           let same : seat ≡ record { 0 = getD stored 1 0 } = cc in
           let t = f .there in

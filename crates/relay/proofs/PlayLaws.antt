@@ -1,17 +1,16 @@
 -- Laws of a run of stored calls: what comes next, and a run as its first call and the rest. Assumes nothing.
 use mathlib.Core.Path.{_≡_, refl, ap, _∙_, subst}
 use mathlib.Core.Bool.{Bool, true, false, false≢true, cond}
-use mathlib.Core.List.{List, [], _∷_, _++_}
+use mathlib.Core.List.{List, [], _∷_}
 use Prim.Native.Nat.{ℕ, zero, suc, _-_, _≤_, _<_}
 use native.Mathlib.Omega.{arith}
 use lib.Dec.{eqb, leb}
 use lib.ListN.{length, drop}
 use borrow.Author.Tests.{le-leb, lt-leb, leb-true, eq-eqb, ne-eqb, eqb-false}
 use Rattle.rules.specs.Room.{Sizes, Room}
-use Rattle.rules.specs.Call.{Call, arrive, leave, packetCall}
-use Rattle.rules.specs.Outcome.{Change, outcome, roomAfter}
+use Rattle.rules.specs.Call.{Call, arrive, leave, packetCall, tick}
+use Rattle.rules.specs.Outcome.{outcome, roomAfter}
 use Rattle.rules.specs.History.{event}
-use Rattle.room_laws.specs.Store.{storeAll}
 use Rattle.stored.specs.Stored.{storedBytes, First, none, call, firstCall}
 use Rattle.relay.specs.declared.play.Stop.{Stop}
 use Rattle.relay.specs.declared.play.Stop.the-variants.{End, NoCall, Allowance, Output}
@@ -24,6 +23,7 @@ pub least-space : (c : Call) → leastSpace c ≡ mostSpace
 least-space (arrive key) = refl
 least-space (leave seat) = refl
 least-space (packetCall seat bytes) = refl
+least-space (tick time number) = refl
 
 pub space-within : (c : Call) → leastSpace c ≤ mostSpace
 space-within c = let e = least-space c in omega arith
@@ -113,10 +113,3 @@ module _ (sizes : Sizes) (room : Room) (stored : List ℕ) (space : ℕ) where
   run-plays (suc more) c e =
       let one-less : more ≡ suc more - 1 = omega arith in
       ap (λ (x : Next). goOn x (restOf more)) e ∙ ap (λ (k : ℕ). firstThen c (restOf k c)) one-less
-
--- ---- changes, one run after the other
-
-pub store-all-append : (s n : ℕ) (b : List ℕ) (changes later : List Change) → storeAll s n b (changes ++ later) ≡ storeAll s n (storeAll s n b changes) later
-unfolding storeAll
-store-all-append s n b [] later = refl
-store-all-append s n b (change ∷ changes) later = store-all-append s n _ changes later

@@ -7,7 +7,7 @@ use native.Mathlib.Nat.{zero-add, add-zero}
 use native.Mathlib.Omega.{arith}
 use lib.ListN.{length, getD, drop, length-append}
 use Rattle.rules.specs.Room.{Room, sizesOf}
-use Rattle.rules.specs.Call.{Call, KeyOf32}
+use Rattle.rules.specs.Call.{Call, FieldsFit}
 use Rattle.rules.specs.Outcome.{outcome, roomAfter}
 use Rattle.rules.specs.History.{event, transcript}
 use Rattle.room_laws.specs.View.{viewRoom}
@@ -21,7 +21,8 @@ use Rattle.relay.specs.declared.play.Stop.{Stop}
 use Rattle.records.specs.Output.{appended}
 use Rattle.relay.specs.Play.{entryBytes, entriesBytes, plays, next, Run, run, changesAll, played, LeavesRun}
 use Rattle.records.proofs.AppendLaws.{length-appended, appended-more, appended-front, appended-none}
-use Rattle.relay.proofs.PlayLaws.{ended, firstThen, run-plays, store-all-append, next-is}
+use Rattle.relay.proofs.PlayLaws.{ended, firstThen, run-plays, next-is}
+use Rattle.relay_laws.proofs.PartLaws.{store-all-append}
 
 -- ---- what is left to play
 
@@ -62,10 +63,10 @@ rests-all s n r b out given b′ out′ w =
 -- ---- a call, and then the rest
 
 -- an arrival that was stored has a key of 32 bytes
-pub stored-key : (stored : List ℕ) (c : Call) → firstCall stored ≡ call c → KeyOf32 c
+pub stored-key : (stored : List ℕ) (c : Call) → firstCall stored ≡ call c → FieldsFit c
 stored-key stored c e = go c (first-is stored c e .form)
   where
-    go : (c : Call) → Formed (getD stored 0 0) (getD stored 1 0) (givenIn stored) c → KeyOf32 c
+    go : (c : Call) → Formed (getD stored 0 0) (getD stored 1 0) (givenIn stored) c → FieldsFit c
     go c (arrives a b l) = l
     go c (leaves a l) = tt
     go c (sends a) = tt

@@ -9,7 +9,7 @@ use lib.Dec.{eqb, leb}
 use lib.ListN.{length, drop}
 use Rattle.refusal.specs.declared.Refusal.the-variants.{RoomNotWhole}
 use Rattle.rules.specs.Room.{Sizes, Room}
-use Rattle.rules.specs.Call.{Call, mostNeeded, arrive, leave, needed, packetCall}
+use Rattle.rules.specs.Call.{Call, arrive, leave, needed, packetCall, tick}
 use Rattle.rules.specs.Outcome.{Change, outcome, roomAfter, sentBytes}
 use Rattle.rules.specs.History.{Event, event, transcript}
 unfoldable pub use Rattle.records.specs.Entry.{entryHead}
@@ -43,10 +43,12 @@ abbrev pub leastSpace : Call → ℕ
 leastSpace (arrive key) = 4 + 2048
 leastSpace (leave seat) = 4 + needed (leave seat)
 leastSpace (packetCall seat bytes) = 4 + needed (packetCall seat bytes)
+-- a tick has no stored form: this number is never used
+leastSpace (tick time number) = 4 + 2048
 
--- no call is asked for more
+-- no stored call is asked for more
 abbrev pub mostSpace : ℕ
-mostSpace = 4 + mostNeeded
+mostSpace = 4 + 2048
 
 unfoldable pub nextCall : First → ℕ → Next
 nextCall none space = stops NoCall

@@ -12,6 +12,8 @@ ghost use Rattle.room_laws.specs.View.{viewRoom, viewRoutes};
 ghost use Rattle.room_laws.specs.Whole.{roomWhole};
 ghost use Rattle.records.specs.Output.{Appends};
 ghost use Rattle.relay_laws.specs.Calls.{answerOf, Leaves};
+ghost use Rattle.room_laws.specs.Lookup.{taken};
+ghost use Rattle.relay_laws.specs.Steps.{Made, TellsFit, departure, LeaveFits};
 ghost use Rattle.relay.specs.Steps.{Sits};
 use key::Key;
 use packet::ConnectionNumber;
@@ -57,18 +59,37 @@ fn tell_peers(
     seat: Seat,
     key: Key,
     out: &mut [u8],
+    at: usize,
 ) -> usize
-    requires { ⌜ (roomWhole seats numbers (now memory) ≡ true) × Sits seats numbers (now memory) (seat .0) (key .0) × (2048 ≤ length (now out)) ⌝ }
-    ensures { λ r. ⌜ Appends (tellPeers (viewRoom seats numbers (now (memory .entry))) (seat .0) (key .0) (viewRoutes numbers (routesTable seats numbers (now (memory .entry)) (seat .0)))) (now (out .entry)) 0 r (now (out .exit)) ⌝ }
+    requires { ⌜ (roomWhole seats numbers (now memory) ≡ true) × Sits seats numbers (now memory) (seat .0) (key .0) × TellsFit seats numbers (now memory) (seat .0) (key .0) (now out) at ⌝ }
+    ensures { λ r. ⌜ Appends (tellPeers (viewRoom seats numbers (now (memory .entry))) (seat .0) (key .0) (viewRoutes numbers (routesTable seats numbers (now (memory .entry)) (seat .0)))) (now (out .entry)) at r (now (out .exit)) ⌝ }
 {
-    let mut at = 0;
+    let mut next = at;
     let mut place = 0;
     while place < numbers {
         let number = ConnectionNumber(Room::FIRST_NUMBER + place as u8);
-        at = tell_peer(memory, seats, numbers, seat, key, number, out, at);
+        next = tell_peer(memory, seats, numbers, seat, key, number, out, next);
         place += 1;
     }
-    at
+    next
+}
+
+// The client of a taken seat of a whole room leaves; its records go behind the first `at` bytes of the output.
+pub(crate) fn depart(
+    memory: &mut [u8],
+    seats: usize,
+    numbers: usize,
+    seat: Seat,
+    out: &mut [u8],
+    at: usize,
+) -> usize
+    requires { ⌜ (roomWhole seats numbers (now memory) ≡ true) × (taken seats numbers (now memory) (seat .0) ≡ true) × LeaveFits seats numbers (now memory) (seat .0) (now out) at ⌝ }
+    ensures { λ r. ⌜ Made seats numbers (departure seats numbers (now (memory .entry)) (seat .0)) (now (memory .entry)) (now (out .entry)) at (now (memory .exit)) r (now (out .exit)) ⌝ }
+{
+    let key = lookup::key_in(memory, seats, numbers, seat);
+    let next = tell_peers(memory, seats, numbers, seat, key, out, at);
+    change::empty_seat(memory, seats, numbers, seat);
+    next
 }
 
 // The client in a seat of a whole room leaves: 3.
@@ -85,8 +106,5 @@ pub(crate) fn step(
     if !lookup::is_taken(memory, seats, numbers, seat) {
         return Answer::Refused(Refusal::NotSeated);
     }
-    let key = lookup::key_in(memory, seats, numbers, seat);
-    let bytes = tell_peers(memory, seats, numbers, seat, key, out);
-    change::empty_seat(memory, seats, numbers, seat);
-    Answer::Accepted(seat, bytes)
+    Answer::Accepted(seat, depart(memory, seats, numbers, seat, out, 0))
 }

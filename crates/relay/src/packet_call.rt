@@ -13,6 +13,7 @@ ghost use Rattle.relay_laws.specs.Calls.{answerOf, Leaves};
 ghost use Rattle.relay.specs.Steps.{Sits, Shows};
 use crate::carry;
 use crate::drop;
+use crate::pong;
 use crate::request;
 use key::Key;
 use packet::relay;
@@ -58,7 +59,7 @@ fn act(
             out,
         ),
         ClientPacket::Ping(ping) => Answer::Accepted(seat, record::answered(out, 0, seat, ping)),
-        ClientPacket::Pong(_) => Answer::Accepted(seat, 0),
+        ClientPacket::Pong(number) => pong::step(memory, seats, numbers, seat, number),
         ClientPacket::OobSend { key: _, payload: _ } => carry::out_of_band(
             memory,
             seats,

@@ -1,3 +1,7 @@
--- `OutcomeLeaves` of what an outcome leaves, `CallsLaws` of the tests before a step.
+-- `OutcomeLeaves` of what an outcome leaves, `PartLaws` of one that is made part by part, `TickTests` and `TickParts` of the parts of a tick, `CallsLaws` of the tests before a
+-- step.
 pub mod OutcomeLeaves
+pub mod PartLaws
+pub mod TickTests
+pub mod TickParts
 pub mod CallsLaws

@@ -26,7 +26,8 @@ pub record Leaves (s n : ℕ) (o : Outcome) (b out : List ℕ) (given : rules.An
 unfoldable pub tested : ℕ → ℕ → List ℕ → rules.Call → Outcome
 tested s n b call = cond (roomWhole s n b) (outcome (viewRoom s n b) call) (refuse RoomNotWhole)
 
--- "Order for a packet call: 10, 11, 3, ..", "Leave: 10, 11, 3": 10 comes first
+-- "Order for a packet call: 10, 11, 3, ..", "Leave: 10, 11, 3", and of a tick, document 02: "10 (tick output under 5,120), 11, 7, 19 for a clock that goes
+-- back": 10 comes first
 unfoldable pub ifLong : ℕ → rules.Call → Outcome → Outcome
 ifLong space call o = cond (leb (rules.needed call) space) o (refuse OutputTooShort)
 
@@ -48,3 +49,8 @@ Departs s n seat b out b′ out′ given = Leaves s n (withOutput s n b out (rul
 -- a packet of the client in a seat
 abbrev pub Sends : (s n seat : ℕ) (packet b out b′ out′ : List ℕ) (given : rules.Answer) → Type 0
 Sends s n seat packet b out b′ out′ given = Leaves s n (withOutput s n b out (rules.packetCall seat packet)) b out given b′ out′
+
+-- Tick(time, number): document 02, "A tick brings the time and a nonzero ping number." Each is a number of 8 bytes
+pub record Ticks (s n time number : ℕ) (b out b′ out′ : List ℕ) (given : rules.Answer) : Type 0 where
+  pub fits : rules.FieldsFit (rules.tick time number)
+  pub leaves : Leaves s n (withOutput s n b out (rules.tick time number)) b out given b′ out′

@@ -5,7 +5,7 @@ use mathlib.Core.List.{List}
 use Prim.Native.Nat.{ℕ, _≤_}
 use native.Mathlib.Omega.{arith}
 use lib.ListN.{length, drop, length-append}
-use Rattle.rules.specs.Call.{Call, Answer}
+use Rattle.rules.specs.Call.{Call, arrive, leave, packetCall, tick, Answer}
 use Rattle.rules.specs.Outcome.{sentBytes}
 use Rattle.relay_laws.specs.Calls.{Leaves, withOutput, written}
 use Rattle.relay_laws.proofs.CallsLaws.{call-made}
@@ -28,8 +28,12 @@ count-within s n b out c given b′ out′ l =
 
 -- ---- a stored call and the input
 
-same-size : (c d : StoredCall) (m n : ℕ) → code.Call c m ≡ code.Call d n → m ≡ n
-same-size c d m n e = cc
+same-size : (d : Call) (c : StoredCall) (m n : ℕ) → code.Call c m ≡ shownCall d n → m ≡ n
+unfolding shownCall
+same-size (arrive key) c m n e = cc
+same-size (leave seat) c m n e = cc
+same-size (packetCall seat bytes) c m n e = cc
+same-size (tick time number) c m n e = let z : _≡_ {A = ℕ} 0 1 = cc in absurd (omega arith)
 
 shown-within : (bytes : List ℕ) (f : First) → firstCall bytes ≡ f → (c : StoredCall) (size : ℕ) → code.Call c size ≡ shownFirst f
     → (4 ≤ size) × (size ≤ length bytes)
@@ -37,7 +41,7 @@ unfolding shownFirst
 shown-within bytes none e c size q = let z : _≡_ {A = ℕ} 0 1 = cc in absurd (omega arith)
 shown-within bytes (call d) e c size q =
     let w = first-within bytes d e in
-    let l = same-size c (shownCall d) size (length (storedBytes d)) q in
+    let l = same-size d c size (length (storedBytes d)) q in
     (omega arith, omega arith)
 
 pub size-within : (bytes : List ℕ) (r : StoredRead) (c : StoredCall) (size : ℕ) → r ≡ shownFirst (firstCall bytes) → r ≡ code.Call c size

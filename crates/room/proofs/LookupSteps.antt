@@ -10,8 +10,8 @@ use Rattle.table_laws.specs.Table.{fitsTable, found, keyOfPlace, keyAt, recordA
 use Rattle.table_laws.proofs.KeyOrder.{both}
 use Rattle.rules.specs.Room.{Key, free, wants, none, at, firstNumber}
 use Rattle.room_laws.specs.Layout.{keyBytes, seatBytes, fitsRoom, seatTable, routesTable}
-use Rattle.room_laws.specs.View.{routeIn}
-use Rattle.room_laws.specs.Lookup.{placeIn, seatHolding, lowestEmpty, hasSeat, taken, keyIn, routeWanting, lowestRoute, routeOfPlace, routeAtPlace}
+use Rattle.room_laws.specs.View.{clockIn, routeIn, seatPing}
+use Rattle.room_laws.specs.Lookup.{placeIn, seatHolding, lowestEmpty, hasSeat, taken, keyIn, clockFound, pingTimeOf, outstandingOf, routeWanting, lowestRoute, routeOfPlace, routeAtPlace}
 use Rattle.room.specs.Numbers.{routeNumbered}
 
 module _ (p i : ℕ) where
@@ -39,6 +39,14 @@ module _ (s n : ℕ) (b : List ℕ) where
   pub lowest-not : fitsRoom s n b ≡ false → lowestEmpty s n b ≡ none
   unfolding lowestEmpty
   lowest-not h = rw h
+
+  pub clock-fits : fitsRoom s n b ≡ true → clockFound s n b ≡ clockIn b
+  unfolding clockFound
+  clock-fits h = rw h
+
+  pub clock-not : fitsRoom s n b ≡ false → clockFound s n b ≡ 0
+  unfolding clockFound
+  clock-not h = rw h
 
 module _ (s n : ℕ) (b : List ℕ) (i : ℕ) where
   pub has-seat-fits : fitsRoom s n b ≡ true → hasSeat s n b i ≡ ltb i s
@@ -84,6 +92,22 @@ module _ (s n : ℕ) (b : List ℕ) (i : ℕ) where
   pub key-in-none : hasSeat s n b i ≡ false → keyIn s n b i ≡ replicate keyBytes 0
   unfolding keyIn
   key-in-none h = rw h
+
+  pub time-in-seat : hasSeat s n b i ≡ true → pingTimeOf s n b i ≡ seatPing s n b i .time
+  unfolding pingTimeOf
+  time-in-seat h = rw h
+
+  pub time-in-none : hasSeat s n b i ≡ false → pingTimeOf s n b i ≡ 0
+  unfolding pingTimeOf
+  time-in-none h = rw h
+
+  pub outstanding-in-seat : hasSeat s n b i ≡ true → outstandingOf s n b i ≡ seatPing s n b i .number
+  unfolding outstandingOf
+  outstanding-in-seat h = rw h
+
+  pub outstanding-in-none : hasSeat s n b i ≡ false → outstandingOf s n b i ≡ 0
+  unfolding outstandingOf
+  outstanding-in-none h = rw h
 
 -- ---- what stands at a place of a table of routes
 

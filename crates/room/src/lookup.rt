@@ -1,11 +1,11 @@
-// What is looked up in a room: a seat by its key, a route by its key, the lowest that is empty or free. Nothing is asked of the memory; in a whole
-// room each lookup says what document 01's room says.
+// What is looked up in a room: the clock, a seat by its key, its ping, a route by its key, the lowest that is empty or free. Nothing is asked of the memory; in a
+// whole room each lookup says what document 01's room says, with document 02's clock and pings.
 ghost use mathlib.Core.Path.{_≡_};
 ghost use mathlib.Core.Bool.{true};
 ghost use Prim.Native.Nat.{_≤_};
 ghost use Rattle.table_laws.specs.Table.{fitsTable};
 ghost use Rattle.rules.specs.Room.{free};
-ghost use Rattle.room_laws.specs.Lookup.{placeIn, seatHolding, lowestEmpty, hasSeat, taken, keyIn, routeWanting, lowestRoute, routeOfPlace};
+ghost use Rattle.room_laws.specs.Lookup.{placeIn, seatHolding, lowestEmpty, hasSeat, taken, keyIn, clockFound, pingTimeOf, outstandingOf, routeWanting, lowestRoute, routeOfPlace};
 ghost use Rattle.room.specs.Numbers.{seatFound, numberFound, routeNumbered, wantedOf};
 use crate::empty::Room;
 use crate::layout;
@@ -44,7 +44,7 @@ impl Wanted {
 
 // A place of a table of seats as a seat.
 fn seat_at(seats: usize, place: usize) -> FoundSeat
-    requires { ⌜ seats ≤ 255 ⌝ }
+    requires { ⌜ seats ≤ 40 ⌝ }
     ensures { λ r. ⌜ r ≡ seatFound (placeIn seats place) ⌝ }
 {
     if seats <= place {
@@ -150,6 +150,36 @@ pub fn key_in(memory: &[u8], seats: usize, numbers: usize, seat: Seat) -> Key
     let width = layout::seat_bytes(numbers);
     let table = layout::seat_table(memory, seats, numbers);
     table::key_at(table, seats, width, seat.0 as usize)
+}
+
+// The clock; 0 where the memory is too short.
+pub fn clock(memory: &[u8], seats: usize, numbers: usize) -> u64
+    ensures { λ r. ⌜ r ≡ clockFound seats numbers (now (memory .entry)) ⌝ }
+{
+    if !layout::fits(memory, seats, numbers) {
+        return 0;
+    }
+    layout::clock(memory)
+}
+
+// The time of the last ping of a seat; 0 where there is no such seat.
+pub fn ping_time(memory: &[u8], seats: usize, numbers: usize, seat: Seat) -> u64
+    ensures { λ r. ⌜ r ≡ pingTimeOf seats numbers (now (memory .entry)) (seat .0) ⌝ }
+{
+    if !has_seat(memory, seats, numbers, seat) {
+        return 0;
+    }
+    layout::ping_time(memory, seats, numbers, seat.0 as usize)
+}
+
+// The number of the ping of a seat that is outstanding; 0 where none is, or there is no such seat.
+pub fn outstanding(memory: &[u8], seats: usize, numbers: usize, seat: Seat) -> u64
+    ensures { λ r. ⌜ r ≡ outstandingOf seats numbers (now (memory .entry)) (seat .0) ⌝ }
+{
+    if !has_seat(memory, seats, numbers, seat) {
+        return 0;
+    }
+    layout::outstanding(memory, seats, numbers, seat.0 as usize)
 }
 
 // What stands at a place of a table of routes.

@@ -1,10 +1,12 @@
-// The test of a lent room: a pass over what is in use, and a search where a route begins like its seat's own key.
+// The test of a lent room: a pass over what is in use, a comparison of each seat's ping time with the clock, and a search where a route begins like its seat's own
+// key.
 ghost use mathlib.Core.Path.{_≡_};
 ghost use mathlib.Core.Bool.{true};
 ghost use Prim.Native.Nat.{_<_};
 ghost use Rattle.table_laws.specs.Table.{listed, tableWhole};
 ghost use Rattle.room_laws.specs.Layout.{seatBytes, fitsRoom, seatTable};
-ghost use Rattle.room_laws.specs.Whole.{seatRoutesWhole, routesWhole, roomWhole};
+ghost use Rattle.room_laws.specs.View.{clockIn};
+ghost use Rattle.room_laws.specs.Whole.{seatRoutesWhole, seatWhole, seatsWhole, roomWhole};
 use crate::layout;
 use key::Key;
 
@@ -19,7 +21,7 @@ fn seats_whole(memory: &[u8], seats: usize, numbers: usize) -> bool
 
 // Whether the table of routes of a seat keeps its rules and does not list the seat's own key: document 02, "A room where a seat names its own key is no
 // longer whole."
-fn seat_whole(memory: &[u8], seats: usize, numbers: usize, seat: usize) -> bool
+fn routes_whole(memory: &[u8], seats: usize, numbers: usize, seat: usize) -> bool
     requires { ⌜ (fitsRoom seats numbers (now memory) ≡ true) × (seat < seats) ⌝ }
     ensures { λ r. ⌜ r ≡ seatRoutesWhole seats numbers (now (memory .entry)) seat ⌝ }
 {
@@ -38,15 +40,27 @@ fn seat_whole(memory: &[u8], seats: usize, numbers: usize, seat: usize) -> bool
     )
 }
 
-// Whether that is so of each seat that is taken.
-fn routes_whole(memory: &[u8], seats: usize, numbers: usize) -> bool
-    requires { ⌜ (fitsRoom seats numbers (now memory) ≡ true) × (tableWhole seats (seatBytes numbers) (seatTable seats numbers (now memory)) ≡ true) ⌝ }
-    ensures { λ r. ⌜ r ≡ routesWhole seats numbers (now (memory .entry)) (listed seats (seatTable seats numbers (now (memory .entry)))) ⌝ }
+// Whether that is so and the ping time of the seat is not after the clock, which is `clock`: document 02, "A ping time after the clock makes a room not whole."
+fn seat_whole(memory: &[u8], seats: usize, numbers: usize, clock: u64, seat: usize) -> bool
+    requires { ⌜ (fitsRoom seats numbers (now memory) ≡ true) × (seat < seats) × (clock ≡ clockIn (now memory)) ⌝ }
+    ensures { λ r. ⌜ r ≡ seatWhole seats numbers (now (memory .entry)) seat ⌝ }
 {
+    if clock < layout::ping_time(memory, seats, numbers, seat) {
+        return false;
+    }
+    routes_whole(memory, seats, numbers, seat)
+}
+
+// Whether that is so of each seat that is taken.
+fn each_whole(memory: &[u8], seats: usize, numbers: usize) -> bool
+    requires { ⌜ (fitsRoom seats numbers (now memory) ≡ true) × (tableWhole seats (seatBytes numbers) (seatTable seats numbers (now memory)) ≡ true) ⌝ }
+    ensures { λ r. ⌜ r ≡ seatsWhole seats numbers (now (memory .entry)) (listed seats (seatTable seats numbers (now (memory .entry)))) ⌝ }
+{
+    let clock = layout::clock(memory);
     let taken = table::used(layout::seat_table(memory, seats, numbers), seats);
     let mut i = 0;
     while i < taken.len() {
-        if !seat_whole(memory, seats, numbers, taken[i] as usize) {
+        if !seat_whole(memory, seats, numbers, clock, taken[i] as usize) {
             return false;
         }
         i += 1;
@@ -67,5 +81,5 @@ pub fn is_whole(memory: &[u8], seats: usize, numbers: usize) -> bool
     if !seats_whole(memory, seats, numbers) {
         return false;
     }
-    routes_whole(memory, seats, numbers)
+    each_whole(memory, seats, numbers)
 }

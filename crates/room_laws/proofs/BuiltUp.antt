@@ -1,9 +1,10 @@
--- Every whole room is built up from the empty room by changes that fit: each of its seats is taken in turn, and then each of the seat's routes is
--- given. So what holds of the empty room and goes on holding over each change that fits holds of every whole room.
+-- Every whole room whose clock and numbers of pings 8 bytes hold is built up from the empty room by changes that fit: the clock is set, then each of its seats
+-- is taken in turn, each of the seat's routes is given, and the seat is pinged. So what holds of the empty room and goes on holding over each change that fits
+-- holds of every such room.
 use mathlib.Core.Path.{_≡_, refl, sym, ap, _∙_, subst}
 use mathlib.Core.Bool.{Bool, true, false, false≢true}
 use mathlib.Core.List.{List, [], _∷_}
-use Prim.Native.Nat.{ℕ, zero, suc, _≤_, _<_}
+use Prim.Native.Nat.{ℕ, zero, suc, _^_, _≤_, _<_}
 use native.Mathlib.Omega.{arith}
 use lib.Dec.{eqb}
 use lib.ListN.{length, getD, set, replicate, length-set, length-replicate, getD-replicate, List·getD-eq-default}
@@ -11,13 +12,14 @@ use lib.Seq.{ext-getD, set-set, set-getD, getD-set-other}
 use borrow.Author.Tests.{eqb-true, eqb-false}
 use Rattle.key.specs.Keys.{sameKey}
 use Rattle.key.proofs.Same.{same-refl}
-use Rattle.rules.specs.Room.{Sizes, Key, Route, free, wants, Held, Seat, vacant, holds, Room, newcomer, setRoutes, setRoute, setSeats, setSeat, emptyRoom, seatOf, routeTo, seatAt, sizesOf}
-use Rattle.rules.specs.Outcome.{Change, seatTaken, seatEmptied, routeGiven, routeFreed, withRoute, apply}
+use Rattle.rules.specs.Room.{Sizes, Key, Route, free, wants, Ping, Held, Seat, vacant, holds, Room, newcomer, setPing, setRoutes, setRoute, setSeats, setSeat, emptyRoom, seatOf, routeTo, seatAt, sizesOf}
+use Rattle.rules.specs.Outcome.{Change, seatTaken, seatEmptied, routeGiven, routeFreed, clockSet, pingSent, pingAnswered, withRoute, withPing, apply}
 use Rattle.rules.specs.Whole.{Whole}
 use Rattle.rules.proofs.FindLaws.{Once, clash, set-default, set-all, once-set, find-clear, seat-set, held-within}
 use Rattle.rules.proofs.Whole.{key-once, wanted-once, own-unnamed}
-use Rattle.room_laws.specs.Fits.{Fit, takes, gives}
-use Rattle.room_laws.specs.Memory.{KeysAre}
+use Rattle.room_laws.specs.Layout.{wordBytes}
+use Rattle.room_laws.specs.Fits.{Fit, takes, gives, sets, pings}
+use Rattle.room_laws.specs.Memory.{KeysAre, WordsFit}
 use Rattle.room_laws.proofs.ViewLaws.{wants-passes}
 
 -- the key that a change brings into the room
@@ -26,6 +28,9 @@ Brings K (seatTaken i key) = K key
 Brings K (seatEmptied i) = Unit {0}
 Brings K (routeGiven i j key) = K key
 Brings K (routeFreed i j) = Unit {0}
+Brings K (clockSet time) = Unit {0}
+Brings K (pingSent i time number) = Unit {0}
+Brings K (pingAnswered i) = Unit {0}
 
 -- ---- lists all of whose elements are the default
 
@@ -54,15 +59,24 @@ own-apart : (own : Key) (route : Route) (other : Key) → route ≡ wants other 
 unfolding routeTo
 own-apart own route other e h = ap (routeTo own) (sym e) ∙ h
 
--- ---- what the two changes do where they fit
+-- ---- what the changes of a seat do where they fit
+
+-- a seat changed by what it is, and then changed by what it has become
+seat-again : (room : Room) (i : ℕ) (seat : Seat) (g : Seat → Seat) → i < length (room .seats) →
+    setSeat (setSeat room i seat) i (g (seatAt (setSeat room i seat) i)) ≡ setSeat room i (g seat)
+seat-again room i seat g l = rw (seat-set room i seat l) (ap (setSeats room) (set-set (room .seats) i seat (g seat)))
 
 given-sets : (sizes : Sizes) (room : Room) (i : ℕ) (held : Held) (j : ℕ) (other : Key) → i < length (room .seats) →
     apply sizes (setSeat room i (holds held)) (routeGiven i j other) ≡ setSeat room i (holds (setRoute held j (wants other)))
 unfolding apply withRoute
-given-sets sizes room i held j other l =
-    rw (seat-set room i (holds held) l) (ap (setSeats room) (set-set (room .seats) i (holds held) (holds (setRoute held j (wants other)))))
+given-sets sizes room i held j other l = seat-again room i (holds held) (λ (x : Seat). withRoute x j (wants other)) l
 
-taken-sets : (sizes : Sizes) (room : Room) (i : ℕ) (key : Key) → apply sizes room (seatTaken i key) ≡ setSeat room i (holds (newcomer sizes key))
+pinged-sets : (sizes : Sizes) (room : Room) (i : ℕ) (held : Held) (ping : Ping) → i < length (room .seats) →
+    apply sizes (setSeat room i (holds held)) (pingSent i (ping .time) (ping .number)) ≡ setSeat room i (holds (setPing held ping))
+unfolding apply withPing
+pinged-sets sizes room i held ping l = seat-again room i (holds held) (λ (x : Seat). withPing x (ping .time) (ping .number)) l
+
+taken-sets : (sizes : Sizes) (room : Room) (i : ℕ) (key : Key) → apply sizes room (seatTaken i key) ≡ setSeat room i (holds (newcomer sizes (room .clock) key))
 unfolding apply
 taken-sets sizes room i key = refl
 
@@ -79,14 +93,20 @@ record GoodRoutes (K : Key → Type 0) (n : ℕ) (own : Key) (routes : List Rout
   keys : (j : ℕ) (key : Key) → getD routes j free ≡ wants key → K key
   others : (j : ℕ) → routeTo own (getD routes j free) ≡ false
 
-abbrev GoodSeat : (Key → Type 0) → ℕ → Seat → Type 0
-GoodSeat K n vacant = Unit {0}
-GoodSeat K n (holds held) = K (held .key) × GoodRoutes K n (held .key) (held .routes)
+-- in a room whose clock is `clock`
+record GoodPing (clock : ℕ) (ping : Ping) : Type 0 where
+  earlier : ping .time ≤ clock
+  few : ping .number < 256 ^ wordBytes
+
+abbrev GoodSeat : (Key → Type 0) → ℕ → ℕ → Seat → Type 0
+GoodSeat K n clock vacant = Unit {0}
+GoodSeat K n clock (holds held) = K (held .key) × GoodRoutes K n (held .key) (held .routes) × GoodPing clock (held .ping)
 
 record Good (K : Key → Type 0) (s n : ℕ) (room : Room) : Type 0 where
   long : length (room .seats) ≡ s
   once : (key : Key) → Once (seatOf key) vacant (room .seats)
-  each : (i : ℕ) → GoodSeat K n (seatAt room i)
+  each : (i : ℕ) → GoodSeat K n (room .clock) (seatAt room i)
+  clock : room .clock < 256 ^ wordBytes
 
 -- a route freed, and a seat emptied
 good-freed : (K : Key → Type 0) (n : ℕ) (own : Key) (routes : List Route) (j : ℕ) → GoodRoutes K n own routes → GoodRoutes K n own (set routes j free)
@@ -103,7 +123,8 @@ unfolding seatOf seatAt
 good-emptied K s n room i g = record {
   long = length-set (room .seats) i vacant ∙ g .long;
   once = λ key. once-set (seatOf key) vacant (room .seats) i vacant (g .once key) (λ e. absurd (false≢true e));
-  each = set-all (GoodSeat K n) vacant (room .seats) i vacant tt (g .each);
+  each = set-all (GoodSeat K n (room .clock)) vacant (room .seats) i vacant tt (g .each);
+  clock = g .clock;
 }
 
 -- ---- THE LAW
@@ -137,15 +158,15 @@ module _ (s n : ℕ) (K : Key → Type 0) (thirty-two : (key : Key) → K key �
 
   -- the seats, from the lowest on
   seats-taken : (k : ℕ) (room : Room) → Good K s n room → ((i : ℕ) → k ≤ i → getD (room .seats) i vacant ≡ vacant) → P room
-  unfolding emptyRoom seatAt
+  unfolding emptyRoom seatAt apply
   seats-taken zero room g past =
       let q : room .seats ≡ replicate s vacant =
       all-default vacant (room .seats) (λ i. past i (omega arith)) ∙ ap (λ (m : ℕ). replicate m vacant) (g .long) in
-      subst P (ap (setSeats room) (sym q)) begins
+      subst P (ap (setSeats room) (sym q)) (goes-on (emptyRoom (sizesOf s n)) (clockSet (room .clock)) begins (sets (omega arith) (g .clock)) tt)
   seats-taken (suc k) room g past =
       go (seatAt room k) refl (g .each k) (seats-taken k (setSeat room k vacant) (good-emptied K s n room k g) (cleared vacant (room .seats) k past))
     where
-      go : (seat : Seat) → seatAt room k ≡ seat → GoodSeat K n seat → P (setSeat room k vacant) → P room
+      go : (seat : Seat) → seatAt room k ≡ seat → GoodSeat K n (room .clock) seat → P (setSeat room k vacant) → P room
       go vacant e a h =
           subst P (ap (setSeats room) (ap (set (room .seats) k) (sym e) ∙ set-getD (room .seats) k vacant)) h
       go (holds held) e a h =
@@ -156,22 +177,33 @@ module _ (s n : ℕ) (K : Key → Type 0) (thirty-two : (key : Key) → K key �
           takes {i = k} (let q = g .long in omega arith) (set-default (room .seats) k vacant)
           (find-clear (seatOf key) vacant (room .seats) k vacant (g .once key) (sits-itself room k held e) (unfold seatOf in refl)) (thirty-two key (a .0)) in
           let r = a .1 in
-          subst P (ap (setSeats room) (put-again (room .seats) k vacant (holds held) vacant e))
-          (routes-given less k held (rw (length-set (room .seats) k vacant) w)
-          (subst P (taken-sets (sizesOf s n) less k key) (goes-on less (seatTaken k key) h fit (a .0)))
-          n (held .routes) r (λ j l. List·getD-eq-default (held .routes) free (rw (r .long) l)))
+          let p = a .2 in
+          let new : Held = newcomer (sizesOf s n) (room .clock) key in
+          let inside : k < length (less .seats) = rw (length-set (room .seats) k vacant) w in
+          let routed : P (setSeat less k (holds (setRoutes new (held .routes)))) =
+          routes-given less k new inside (subst P (taken-sets (sizesOf s n) less k key) (goes-on less (seatTaken k key) h fit (a .0)))
+          n (held .routes) r (λ j l. List·getD-eq-default (held .routes) free (rw (r .long) l)) in
+          let earlier = p .earlier in
+          let ends = g .clock in
+          let pinged : Fit s n (setSeat less k (holds (setRoutes new (held .routes)))) (pingSent k (held .ping .time) (held .ping .number)) =
+          pings (seat-set less k (holds (setRoutes new (held .routes))) inside) earlier (omega arith) (p .few) in
+          subst P
+          (pinged-sets (sizesOf s n) less k (setRoutes new (held .routes)) (held .ping) inside
+          ∙ ap (setSeats room) (put-again (room .seats) k vacant (holds held) vacant e))
+          (goes-on (setSeat less k (holds (setRoutes new (held .routes)))) (pingSent k (held .ping .time) (held .ping .number)) routed pinged tt)
 
-  pub every-room-built-up : (room : Room) → Whole (sizesOf s n) room → KeysAre K room → P room
-  every-room-built-up room whole keys =
+  pub every-room-built-up : (room : Room) → Whole (sizesOf s n) room → KeysAre K room → WordsFit room → P room
+  every-room-built-up room whole keys words =
       seats-taken s room
       record {
         long = whole .seats;
         once = key-once (sizesOf s n) room whole;
         each = λ i. good i (seatAt room i) refl;
+        clock = words .clock;
       }
       (λ i l. List·getD-eq-default (room .seats) vacant (rw (whole .seats) l))
     where
-      good : (i : ℕ) (seat : Seat) → seatAt room i ≡ seat → GoodSeat K n seat
+      good : (i : ℕ) (seat : Seat) → seatAt room i ≡ seat → GoodSeat K n (room .clock) seat
       good i vacant e = tt
       good i (holds held) e = (
         keys .seated i held e,
@@ -181,4 +213,5 @@ module _ (s n : ℕ) (K : Key → Type 0) (thirty-two : (key : Key) → K key �
           keys = keys .wanted i held e;
           others = own-unnamed (sizesOf s n) room whole i held e;
         },
+        record { earlier = whole .pingTimes i held e; few = words .numbers i held e },
       )

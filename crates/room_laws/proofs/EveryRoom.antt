@@ -1,6 +1,6 @@
--- Every whole room is the room of some bytes: of a whole room of bytes, as long as a room of these sizes is, where each key has 32 elements; and these
--- are bytes of a memory, each below 256, where the keys' are. The room is built up from the empty one, change by change, and each change is stored in
--- the bytes.
+-- Every whole room is the room of some bytes: of a whole room of bytes, as long as a room of these sizes is, where each key has 32 elements and the clock and
+-- the numbers of pings have 8 bytes; and these are bytes of a memory, each below 256, where the keys' are. The room is built up from the empty one, change by
+-- change, and each change is stored in the bytes.
 use mathlib.Core.Path.{_≡_, ap, _∙_}
 use mathlib.Core.Bool.{true}
 use mathlib.Core.List.{List}
@@ -11,13 +11,13 @@ use borrow.Author.Tests.{le-leb}
 use Rattle.wire.specs.Numbers.{Bytes}
 use Rattle.key.specs.Keys.{IsKey}
 use Rattle.rules.specs.Room.{Key, Room, emptyRoom, sizesOf}
-use Rattle.rules.specs.Outcome.{Change, seatTaken, seatEmptied, routeGiven, routeFreed, apply}
+use Rattle.rules.specs.Outcome.{Change, seatTaken, seatEmptied, routeGiven, routeFreed, clockSet, pingSent, pingAnswered, apply}
 use Rattle.rules.specs.Whole.{Whole}
 use Rattle.room_laws.specs.Layout.{roomBytes, sizesRight, fitsRoom}
 use Rattle.room_laws.specs.Store.{emptied, store}
 use Rattle.room_laws.proofs.LayoutLaws.{sizes-facts}
 use Rattle.room_laws.specs.Fits.{Fit}
-use Rattle.room_laws.specs.Memory.{KeysAre, HasBytes, HasMemory}
+use Rattle.room_laws.specs.Memory.{KeysAre, WordsFit, HasBytes, HasMemory}
 use Rattle.room_laws.proofs.EmptyLaws.{empty-length, empty-whole, empty-view}
 use Rattle.room_laws.proofs.StoreLaws.{store-is-apply}
 use Rattle.room_laws.proofs.StoreBytes.{bytes-replicate, store-bytes, emptied-bytes}
@@ -50,7 +50,7 @@ module _ (s n : ℕ) (right : sizesRight s n ≡ true) where
       }
 
   -- THE THEOREM
-  pub every-room-has-bytes : (room : Room) → Whole (sizesOf s n) room → KeysAre (λ (key : Key). length key ≡ 32) room → HasBytes s n room
+  pub every-room-has-bytes : (room : Room) → Whole (sizesOf s n) room → KeysAre (λ (key : Key). length key ≡ 32) room → WordsFit room → HasBytes s n room
   every-room-has-bytes =
       every-room-built-up s n (λ (key : Key). length key ≡ 32) (λ key l. l) (HasBytes s n) empty-has-bytes (λ room change h fit k. change-has-bytes room change h fit)
 
@@ -68,6 +68,9 @@ module _ (s n : ℕ) (right : sizesRight s n ≡ true) where
   brings-bytes (seatEmptied i) k = tt
   brings-bytes (routeGiven i j key) k = k .bytes
   brings-bytes (routeFreed i j) k = tt
+  brings-bytes (clockSet time) k = tt
+  brings-bytes (pingSent i time number) k = tt
+  brings-bytes (pingAnswered i) k = tt
 
   change-has-memory : (room : Room) (change : Change) → HasMemory s n room → Fit s n room change → Brings IsKey change → HasMemory s n (apply (sizesOf s n) room change)
   unfolding change-has-bytes
@@ -76,6 +79,6 @@ module _ (s n : ℕ) (right : sizesRight s n ≡ true) where
     each = store-bytes s n (h .has .bytes) (h .each) change (brings-bytes change k);
   }
 
-  pub every-room-has-memory : (room : Room) → Whole (sizesOf s n) room → KeysAre IsKey room → HasMemory s n room
+  pub every-room-has-memory : (room : Room) → Whole (sizesOf s n) room → KeysAre IsKey room → WordsFit room → HasMemory s n room
   every-room-has-memory =
       every-room-built-up s n IsKey (λ key k. k .long) (HasMemory s n) empty-has-memory change-has-memory

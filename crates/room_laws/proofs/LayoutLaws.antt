@@ -13,29 +13,33 @@ use Rattle.table_laws.specs.Table.{Table, fitsTable}
 use Rattle.table_laws.proofs.KeyOrder.{both}
 use Rattle.table_laws.proofs.Listed.{row-fits}
 use Rattle.table_laws.proofs.FitsLaws.{table-fits}
-use Rattle.room_laws.specs.Layout.{roomHeader, keyBytes, routesBytes, seatBytes, seatsBytes, roomBytes, sizesRight, fitsRoom, seatTable, routesStart, routesTable}
+use Rattle.room_laws.specs.Layout.{roomHeader, keyBytes, routesBytes, seatBytes, seatsBytes, roomBytes, sizesRight, fitsRoom, seatTable, seatStart, routesStart, routesTable}
 
 -- ---- sizes
 
 module _ (s n : ℕ) where
-  pub sizes-facts : sizesRight s n ≡ true → (s ≤ 255) × (n ≤ 240)
+  pub sizes-facts : sizesRight s n ≡ true → (s ≤ 40) × (n ≤ 240)
   unfolding sizesRight
-  sizes-facts h = let q = both (leb s 255) _ h in (leb-true s 255 (q .0), leb-true n 240 (q .1))
+  sizes-facts h = let q = both (leb s 40) _ h in (leb-true s 40 (q .0), leb-true n 240 (q .1))
 
-  pub sizes-is : s ≤ 255 → sizesRight s n ≡ leb n 240
+  pub sizes-is : s ≤ 40 → sizesRight s n ≡ leb n 240
   unfolding sizesRight
-  sizes-is h = rw (le-leb s 255 h)
+  sizes-is h = rw (le-leb s 40 h)
 
-  pub sizes-many : 255 < s → sizesRight s n ≡ false
+  pub sizes-many : 40 < s → sizesRight s n ≡ false
   unfolding sizesRight
-  sizes-many h = rw (lt-leb s 255 h)
+  sizes-many h = rw (lt-leb s 40 h)
 
   -- the bytes of the seats are counted in a word
-  pub seats-area : s ≤ 255 → n ≤ 240 → s * seatBytes n ≤ 255 * 7961
-  seats-area h k = let q : seatBytes n ≤ 7961 = omega arith in mul-le-mul h q
+  pub seats-area : s ≤ 40 → n ≤ 240 → s * seatBytes n ≤ 40 * 7969
+  seats-area h k = let q : seatBytes n ≤ 7969 = omega arith in mul-le-mul h q
+
+  -- and so is where a seat ends
+  pub seat-end-small : (i : ℕ) → s ≤ 40 → n ≤ 240 → i < s → seatStart s n i + seatBytes n ≤ 51 + 40 * 7969
+  seat-end-small i h k l = let q = seats-area h k in let r = row-fits s (seatBytes n) i l in omega arith
 
 module _ (s n : ℕ) (b : List ℕ) where
-  pub fits-facts : fitsRoom s n b ≡ true → (s ≤ 255) × (n ≤ 240) × (roomBytes s n ≤ length b)
+  pub fits-facts : fitsRoom s n b ≡ true → (s ≤ 40) × (n ≤ 240) × (roomBytes s n ≤ length b)
   unfolding fitsRoom
   fits-facts h =
       let q = both (sizesRight s n) _ h in
@@ -53,7 +57,7 @@ module _ (s n : ℕ) (b : List ℕ) where
 -- ---- parts of memory that fits
 
 module _ (s n : ℕ) (b : List ℕ) (f : fitsRoom s n b ≡ true) where
-  pub few-seats : s ≤ 255
+  pub few-seats : s ≤ 40
   few-seats = fits-facts s n b f .0
 
   pub few-numbers : n ≤ 240
@@ -64,7 +68,7 @@ module _ (s n : ℕ) (b : List ℕ) (f : fitsRoom s n b ≡ true) where
 
   -- the table of seats, as it is lent
   pub seats-cut : roomBytes s n - roomHeader ≡ seatsBytes s n
-  seats-cut = add-sub-cancel-left 2 (seatsBytes s n)
+  seats-cut = add-sub-cancel-left roomHeader (seatsBytes s n)
 
   pub seats-lent : take (roomBytes s n - roomHeader) (drop roomHeader b) ≡ seatTable s n b
   unfolding seatTable
@@ -75,7 +79,7 @@ module _ (s n : ℕ) (b : List ℕ) (f : fitsRoom s n b ≡ true) where
   length-seats = length-take-le (seatsBytes s n) (drop roomHeader b) (rw length-drop (let l = room-long in omega arith))
 
   pub seats-table : Table s (seatBytes n) (seatTable s n b)
-  seats-table = let a = few-numbers in record { small = few-seats; key = omega arith; narrow = omega arith; long = length-seats }
+  seats-table = let a = few-numbers in let q = few-seats in record { small = omega arith; key = omega arith; narrow = omega arith; long = length-seats }
 
   pub seats-fit : fitsTable s (seatBytes n) (seatTable s n b) ≡ true
   seats-fit = table-fits s (seatBytes n) (seatTable s n b) seats-table

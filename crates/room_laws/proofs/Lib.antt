@@ -1,6 +1,7 @@
 -- The laws of a room kept in bytes, in the order in which they rest on each other. `ASmallRoom` has one room computed, with each lookup and each change.
 pub mod ASmallRoom
 pub mod LayoutLaws
+pub mod PartLaws
 pub mod TablesLaws
 pub mod ViewLaws
 pub mod ViewFinds
@@ -9,9 +10,12 @@ pub mod WholeLaws
 pub mod EmptyLaws
 pub mod LookupLaws
 pub mod ReplaceLaws
+pub mod ClockLaws
+pub mod PingLaws
 pub mod RouteLaws
 pub mod SeatLaws
 pub mod StoreLaws
+pub mod TickFits
 pub mod OutcomeLaws
 pub mod BuiltUp
 pub mod StoreBytes

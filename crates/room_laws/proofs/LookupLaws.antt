@@ -1,6 +1,6 @@
--- What is looked up in the bytes of a whole room is what the rules look up in the room that the bytes are: the seat that holds a key, the lowest
--- empty seat, whether a seat is taken and what it holds, the route of a seat that wants a key, its lowest free place, the route at a place, and the peer on
--- a route.
+-- What is looked up in the bytes of a whole room is what the rules look up in the room that the bytes are: the clock, the seat that holds a key, the lowest
+-- empty seat, whether a seat is taken and what it holds, its ping, the route of a seat that wants a key, its lowest free place, the route at a place, and the
+-- peer on a route.
 use mathlib.Core.Path.{_≡_, refl, sym, ap, ap₂, _∙_}
 use mathlib.Core.Bool.{Bool, true, false, _&&_, not, cond, Bool·not-not}
 use mathlib.Core.List.{List}
@@ -15,16 +15,16 @@ use Rattle.table_laws.specs.Table.{listed, recordAt}
 use Rattle.table_laws.proofs.KeyOrder.{both}
 use Rattle.table_laws.proofs.FitsLaws.{used-in}
 use Rattle.table_laws.proofs.TableLaws.{key-record}
-use Rattle.rules.specs.Room.{Key, Route, free, vacant, holds, setRoutes, find, seatOf, isVacant, routeTo, isFree, routesOf, seatAt, Seat, Found, none, at, alone}
+use Rattle.rules.specs.Room.{Key, Route, free, Ping, Held, vacant, holds, setKey, setPing, setRoutes, find, seatOf, isVacant, routeTo, isFree, routesOf, seatAt, Seat, Found, none, at, alone}
 use Rattle.rules.proofs.FindLaws.{vacant-no-key, find-hit}
 use Rattle.rules.specs.Outcome.{joinedBy, peer, peerIn, peerAt}
 use Rattle.room_laws.specs.Layout.{seatBytes, fitsRoom, seatTable, seatStart, routesTable}
-use Rattle.room_laws.specs.View.{routeIn, viewRoutes, seatIn, viewRoom, seatHeld}
+use Rattle.room_laws.specs.View.{routeIn, viewRoutes, heldIn, seatIn, viewRoom, seatPing, seatHeld}
 use Rattle.room_laws.specs.Whole.{roomWhole}
-use Rattle.room_laws.specs.Lookup.{seatHolding, lowestEmpty, taken, routeWanting, lowestRoute, routeAtPlace, routeOfPlace, hasSeat, peerInSeat, peerWanting}
+use Rattle.room_laws.specs.Lookup.{seatHolding, lowestEmpty, taken, clockFound, pingTimeOf, outstandingOf, routeWanting, lowestRoute, routeAtPlace, routeOfPlace, hasSeat, peerInSeat, peerWanting}
 use Rattle.room_laws.proofs.LayoutLaws.{length-seats, length-routes}
-use Rattle.room_laws.proofs.TablesLaws.{seat-key-stands, routes-in-record}
-use Rattle.room_laws.proofs.ViewLaws.{route-at, route-past, seat-at, seat-past}
+use Rattle.room_laws.proofs.TablesLaws.{seat-key-stands, seat-ping-stands, routes-in-record}
+use Rattle.room_laws.proofs.ViewLaws.{route-at, route-past, seat-at, seat-past, seat-holds}
 use Rattle.room_laws.proofs.WholeLaws.{whole-fits, whole-seats, whole-seat-table, whole-routes, whole-routes-table}
 use Rattle.room_laws.proofs.ViewFinds.{finds-by-key, finds-unlisted}
 use Rattle.room_laws.proofs.RouteFinds.{free-unlisted, finds-route}
@@ -77,6 +77,26 @@ module _ (s n : ℕ) (b : List ℕ) (whole : roomWhole s n b ≡ true) where
           (sym (Bool·not-not (member i (listed s (seatTable s n b)))))
       go false e = rw (seat-past s n b i (ltb-false i s e)) (unfold isVacant in refl)
 
+  -- ---- the clock, and the ping of a seat that holds a key
+
+  pub clock-is : clockFound s n b ≡ viewRoom s n b .clock
+  unfolding clockFound viewRoom
+  clock-is = rw fits
+
+  module _ (i : ℕ) (held : Held) (sits : seatAt (viewRoom s n b) i ≡ holds held) where
+    ping-is : seatPing s n b i ≡ held .ping
+    ping-is =
+        let q = seat-holds s n b i held sits in
+        sym (seat-ping-stands s n b i (q .0)) ∙ ap (λ (h : Held). h .ping) (q .2)
+
+    pub ping-time-is : pingTimeOf s n b i ≡ held .ping .time
+    unfolding pingTimeOf hasSeat
+    ping-time-is = rw (fits, lt-ltb i s (seat-holds s n b i held sits .0)) (ap (λ (p : Ping). p .time) ping-is)
+
+    pub outstanding-is : outstandingOf s n b i ≡ held .ping .number
+    unfolding outstandingOf hasSeat
+    outstanding-is = rw (fits, lt-ltb i s (seat-holds s n b i held sits .0)) (ap (λ (p : Ping). p .number) ping-is)
+
   -- ---- a seat that is taken
 
   module _ (i : ℕ) (sits : taken s n b i ≡ true) where
@@ -92,8 +112,9 @@ module _ (s n : ℕ) (b : List ℕ) (whole : roomWhole s n b ≡ true) where
     unfolding seatIn
     taken-holds =
         rw (seat-at s n b i within, lists)
-        (ap₂ (λ (k : Key) (t : List Route). holds (setRoutes (seatHeld s n b i k) t)) (seat-key-stands s n b i within)
-        (ap (viewRoutes n) (sym (routes-in-record s n b i within))))
+        (ap₂ (λ (k : Key) (t : List Route). holds (setKey (setRoutes (heldIn n (recordAt s (seatBytes n) (seatTable s n b) i)) t) k))
+        (seat-key-stands s n b i within) (ap (viewRoutes n) (sym (routes-in-record s n b i within)))
+        ∙ ap (λ (p : Ping). holds (setPing (seatHeld s n b i (take 32 (drop (seatStart s n i) b))) p)) (seat-ping-stands s n b i within))
 
     routes-are : routesOf (seatAt (viewRoom s n b) i) ≡ viewRoutes n (routesTable s n b i)
     unfolding routesOf

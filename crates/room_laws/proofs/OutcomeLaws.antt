@@ -6,6 +6,7 @@ use mathlib.Core.Bool.{Bool, true, false, false≢true}
 use mathlib.Core.List.{List}
 use Prim.Native.Nat.{ℕ, _≤_, _<_}
 use native.Mathlib.Omega.{arith}
+use lib.Dec.{eqb, ltb}
 use lib.ListN.{length, getD, length-take}
 use Rattle.key.specs.Keys.{sameKey}
 use Rattle.packet_laws.specs.Read.{Read}
@@ -14,8 +15,8 @@ use Rattle.packet_laws.specs.FromClient as client
 use Rattle.packet_laws.proofs.ReadBounds.{request-key-long}
 use Rattle.rules.specs.Room.{Key, Route, free, wants, Held, Seat, vacant, holds, Room, Found, none, at, find, seatOf, isVacant, routeTo, isFree, seatAt, routeAt, Peer, alone, joined, sizesOf}
 use Rattle.rules.specs.Whole.{Whole, ShortKeys}
-use Rattle.rules.specs.Call.{Call, arrive, leave, packetCall, KeyOf32, needed}
-use Rattle.rules.specs.Outcome.{refuse, accept, sentBytes, roomAfter, peer, arriveAt, leaveFrom, requestAt, dropAt, oobTo, carryTo, dataAt, act, actOn, packetFrom, outcome}
+use Rattle.rules.specs.Call.{Call, arrive, leave, packetCall, tick, FieldsFit, needed}
+use Rattle.rules.specs.Outcome.{refuse, accept, sentBytes, roomAfter, peer, arriveAt, leaveFrom, requestAt, dropAt, oobTo, carryTo, dataAt, pongAt, act, actOn, packetFrom, outcome}
 use Rattle.rules.proofs.FindLaws.{find-hit, find-within, wanted-place}
 use Rattle.rules.proofs.WithinOutput.{sent-within}
 use Rattle.table_laws.specs.Table.{recordAt}
@@ -23,9 +24,10 @@ use Rattle.room_laws.specs.Layout.{keyBytes, seatBytes, seatTable}
 use Rattle.room_laws.specs.View.{viewRoom}
 use Rattle.room_laws.specs.Whole.{roomWhole}
 use Rattle.room_laws.specs.Store.{storeAll}
-use Rattle.room_laws.specs.Fits.{takes, empties, gives, frees, FitAll}
+use Rattle.room_laws.specs.Fits.{takes, empties, gives, frees, answers, FitAll}
 use Rattle.room_laws.proofs.ViewLaws.{seat-holds}
-use Rattle.room_laws.proofs.WholeLaws.{whole-few, whole-view}
+use Rattle.room_laws.proofs.WholeLaws.{whole-few-seats, whole-few, whole-view}
+use Rattle.room_laws.proofs.TickFits.{tick-fits}
 use Rattle.room_laws.proofs.StoreLaws.{store-all-is-apply-all}
 
 is-vacant : (x : Seat) → isVacant x ≡ true → x ≡ vacant
@@ -88,13 +90,18 @@ module _ (s n : ℕ) (room : Room) (whole : Whole (sizesOf s n) room) where
     data-fits free bytes = tt
     data-fits (wants wanted) bytes = carry-fits (peer room seat (held .key) wanted) bytes
 
+    pong-fits : (t : Bool) → FitAll s n room (pongAt t seat .changes)
+    unfolding pongAt accept
+    pong-fits true = (answers sits, tt)
+    pong-fits false = tt
+
     act-fits : (bytes : List ℕ) (p : client.FromClient) → client.relayRead bytes ≡ read.packet p → FitAll s n room (act p room seat held .changes)
     unfolding act accept
     act-fits bytes (client.routingRequest wanted) e =
         request-fits wanted (request-key-long bytes wanted e) (sameKey wanted (held .key)) (find (routeTo wanted) (held .routes)) (find isFree (held .routes)) refl refl refl
     act-fits bytes (client.dropRoute number) e = drop-fits number (routeAt (held .routes) number) refl
     act-fits bytes (client.ping m) e = tt
-    act-fits bytes (client.pong m) e = tt
+    act-fits bytes (client.pong m) e = pong-fits (eqb m (held .ping .number))
     act-fits bytes (client.oobSend wanted content) e = oob-fits (find (seatOf wanted) (room .seats)) content
     act-fits bytes (client.routedData number content) e = data-fits (routeAt (held .routes) number) content
 
@@ -109,14 +116,15 @@ module _ (s n : ℕ) (room : Room) (whole : Whole (sizesOf s n) room) where
   packet-fits seat bytes (holds held) e = read-fits seat held e bytes (client.relayRead bytes) refl
 
   -- what a call makes of a whole room fits it
-  pub outcome-fits : (call : Call) → KeyOf32 call → FitAll s n room (outcome room call .changes)
+  pub outcome-fits : (call : Call) → FieldsFit call → FitAll s n room (outcome room call .changes)
   unfolding outcome
   outcome-fits (arrive key) l = arrive-fits key l (find (seatOf key) (room .seats)) (find isVacant (room .seats)) refl refl
   outcome-fits (leave seat) l = leave-fits seat (seatAt room seat) refl
   outcome-fits (packetCall seat bytes) l = packet-fits seat bytes (seatAt room seat) refl
+  outcome-fits (tick time number) l = tick-fits s n room time number (l .0) (l .1) (eqb number 0) (ltb time (room .clock)) refl
 
 -- THE LAW: a call's changes stored in whole bytes are the room that the rules leave, whole, and the memory keeps its length
-pub outcome-stored : (s n : ℕ) (b : List ℕ) → roomWhole s n b ≡ true → (call : Call) → KeyOf32 call
+pub outcome-stored : (s n : ℕ) (b : List ℕ) → roomWhole s n b ≡ true → (call : Call) → FieldsFit call
     → (viewRoom s n (storeAll s n b (outcome (viewRoom s n b) call .changes)) ≡ roomAfter (sizesOf s n) (viewRoom s n b) (outcome (viewRoom s n b) call))
     × (roomWhole s n (storeAll s n b (outcome (viewRoom s n b) call .changes)) ≡ true)
     × (length (storeAll s n b (outcome (viewRoom s n b) call .changes)) ≡ length b)
@@ -133,4 +141,4 @@ view-keys s n b seat held e =
     omega (arith, ap (λ (h : Held). length (h .key)) (seat-holds s n b seat held e .2), length-take keyBytes kept)
 
 pub outcome-within : (s n : ℕ) (b : List ℕ) → roomWhole s n b ≡ true → (call : Call) → length (sentBytes (outcome (viewRoom s n b) call .sent)) ≤ needed call
-outcome-within s n b o = sent-within (sizesOf s n) (whole-few s n b o) (viewRoom s n b) (whole-view s n b o) (view-keys s n b)
+outcome-within s n b o = sent-within (sizesOf s n) (whole-few-seats s n b o) (whole-few s n b o) (viewRoom s n b) (whole-view s n b o) (view-keys s n b)

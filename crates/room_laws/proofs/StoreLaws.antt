@@ -1,6 +1,5 @@
 -- THE LAW of the stores: a change that fits the room that whole bytes are, stored in the bytes, is the rules' change of that room; the bytes stay
--- whole and keep their length. A change fits when it takes an empty seat for a key that has none, empties a seat that holds a key, gives a free
--- route of such a seat to a key that is not its own and that it does not want yet, or frees one that wants a key.
+-- whole and keep their length. Which changes fit is said in `Fits`.
 use mathlib.Core.Path.{_≡_, refl, sym, ap, _∙_, subst}
 use mathlib.Core.Bool.{true, false, _&&_}
 use mathlib.Core.List.{List, [], _∷_}
@@ -11,18 +10,20 @@ use borrow.Author.Tests.{lt-ltb}
 use Rattle.table_laws.specs.Table.{Table, tableWhole, putIn, freedIn}
 use Rattle.rules.specs.Room.{Route, free, wants, Held, Seat, holds, Room, setRoutes, setSeat, none, find, routeTo, seatAt, sizesOf}
 use Rattle.rules.proofs.FindLaws.{find-miss, set-all}
-use Rattle.rules.specs.Outcome.{Change, seatTaken, seatEmptied, routeGiven, routeFreed, withRoute, apply, applyAll}
+use Rattle.rules.specs.Outcome.{Change, seatTaken, seatEmptied, routeGiven, routeFreed, clockSet, pingSent, pingAnswered, withRoute, withPing, withoutPing, apply, applyAll}
 use Rattle.room_laws.specs.Layout.{keyBytes, routesBytes, fitsRoom, routesTable}
 use Rattle.room_laws.specs.View.{viewRoutes, viewRoom}
 use Rattle.room_laws.specs.Whole.{roomWhole}
 use Rattle.room_laws.specs.Store.{withRoutes, store, storeAll}
 use Rattle.room_laws.proofs.LayoutLaws.{length-routes}
-use Rattle.room_laws.specs.Fits.{Fit, takes, empties, gives, frees, FitAll}
+use Rattle.room_laws.specs.Fits.{Fit, takes, empties, gives, frees, sets, pings, answers, FitAll}
 use Rattle.room_laws.proofs.ViewLaws.{seat-holds}
 use Rattle.room_laws.proofs.ViewFinds.{none-found}
 use Rattle.room_laws.proofs.RouteFinds.{none-without}
 use Rattle.room_laws.proofs.WholeLaws.{whole-fits, whole-routes-table, held-routes, held-others}
 use Rattle.room_laws.proofs.ReplaceLaws.{routes-view, routes-whole, routes-length}
+use Rattle.room_laws.proofs.ClockLaws.{clock-view, clock-whole, clock-length}
+use Rattle.room_laws.proofs.PingLaws.{ping-sent, ping-answered}
 use Rattle.room_laws.proofs.RouteLaws.{route-put, route-out}
 use Rattle.room_laws.proofs.SeatLaws.{seat-taken, seat-emptied}
 
@@ -97,6 +98,12 @@ module _ (s n : ℕ) (b : List ℕ) (o : roomWhole s n b ≡ true) where
       (route-changed i held e j free (unfold routeTo in refl) (freedIn n (routesTable s n b i) j)
       (route-out n (routesTable s n b i) (held-table i held e) (held-whole i held e) j w
       (ap (λ (x : List Route). getD x j free) (held-view i held e) ∙ h)))
+  store-is-apply (clockSet time) (sets h small) =
+      rw (whole-fits s n b o) (clock-view s n b o time small, clock-whole s n b o time small (unfold viewRoom in h), clock-length s n b o time small)
+  store-is-apply (pingSent i time number) (pings {held = held} e h small few) =
+      rw (fits-at i (seat-holds s n b i held e .0), e) (unfold withPing in ping-sent s n b o i held e time number small few (unfold viewRoom in h))
+  store-is-apply (pingAnswered i) (answers {held = held} e) =
+      rw (fits-at i (seat-holds s n b i held e .0), e) (unfold withoutPing in ping-answered s n b o i held e)
 
 -- ---- several changes
 

@@ -1,14 +1,14 @@
 -- Bytes that are a whole room: they fit, the header is right, the table of seats is whole, and so is the table of routes of each seat that is
--- listed, which does not list the seat's own key. The room that they are is whole as the rules mean it: seated keys differ, the wanted keys of one seat
--- differ, and no seat names its own key.
+-- listed, which does not list the seat's own key; and the seat's ping time is not after the clock. The room that they are is whole as the rules mean it: seated
+-- keys differ, the wanted keys of one seat differ, no seat names its own key, and no ping time is after the clock.
 use mathlib.Core.Path.{_≡_, refl, sym, ap, ap₂, _∙_}
-use mathlib.Core.Bool.{Bool, true, false, _||_, or-true, true≢false}
+use mathlib.Core.Bool.{Bool, true, false, _&&_, _||_, or-true, true≢false}
 use mathlib.Core.List.{List, [], _∷_}
 use Prim.Native.Nat.{ℕ, _-_, _≤_, _<_}
 use native.Mathlib.Omega.{arith}
 use lib.ListN.{length, take, drop, getD}
-use lib.Dec.{eqb}
-use borrow.Author.Tests.{eq-eqb, eqb-true}
+use lib.Dec.{eqb, leb}
+use borrow.Author.Tests.{eq-eqb, eqb-true, leb-true}
 use Rattle.key.proofs.Same.{not-so}
 use Rattle.table_laws.specs.Bytes.{member}
 use Rattle.table_laws.specs.Table.{Table, listed, recordAt, keyAt, tableWhole, tableWithout}
@@ -16,51 +16,62 @@ use Rattle.table_laws.proofs.KeyOrder.{no, both, rising-below}
 use Rattle.table_laws.proofs.Listed.{whole-rising}
 use Rattle.table_laws.proofs.TableLaws.{keys-apart, key-record}
 use Rattle.table_laws.proofs.WithoutLaws.{without-whole}
-use Rattle.rules.specs.Room.{Key, Route, free, wants, Held, holds, none, find, routeTo, seatAt, routeAt, firstNumber, sizesOf}
+use Rattle.rules.specs.Room.{Key, Route, free, wants, Ping, Held, holds, none, find, routeTo, seatAt, routeAt, firstNumber, sizesOf}
 use Rattle.rules.specs.Whole.{Whole}
 use Rattle.rules.proofs.FindLaws.{find-miss, wanted-high, wanted-place}
 use Rattle.room_laws.specs.Layout.{keyBytes, routesInSeat, seatBytes, fitsRoom, seatTable, routesTable}
-use Rattle.room_laws.specs.View.{viewRoutes, viewRoom}
-use Rattle.room_laws.specs.Whole.{headerRight, seatRoutesWhole, routesWhole, roomWhole}
-use Rattle.room_laws.proofs.LayoutLaws.{few-numbers, seats-table, routes-table}
-use Rattle.room_laws.proofs.TablesLaws.{routes-in-record}
+use Rattle.room_laws.specs.View.{clockIn, recordPing, viewRoutes, viewRoom}
+use Rattle.room_laws.specs.Whole.{headerRight, seatRoutesWhole, seatPingWhole, seatWhole, seatsWhole, roomWhole}
+use Rattle.room_laws.proofs.LayoutLaws.{few-seats, few-numbers, seats-table, routes-table}
+use Rattle.room_laws.proofs.TablesLaws.{seat-ping-stands, routes-in-record}
 use Rattle.room_laws.proofs.ViewLaws.{wants-passes, view-routes-length, route-wants, view-room-length, seat-holds}
 use Rattle.room_laws.proofs.RouteFinds.{without-finds-none}
 
--- what a whole room asks of the record of a seat: its table of routes is whole, and does not list the key that the record begins with
-abbrev pub SeatRecordWhole : ℕ → List ℕ → Type 0
-SeatRecordWhole n r = tableWithout n keyBytes (drop routesInSeat r) (take keyBytes r) ≡ true
+-- what a whole room whose clock is `clock` asks of the record of a seat: its ping time is not after the clock, and its table of routes is whole and does not
+-- list the key that the record begins with
+abbrev pub seatRecordWhole : ℕ → ℕ → List ℕ → Bool
+seatRecordWhole n clock r = leb (recordPing r .time) clock && tableWithout n keyBytes (drop routesInSeat r) (take keyBytes r)
 
--- ---- the routes of several seats, by membership
+abbrev pub SeatRecordWhole : ℕ → ℕ → List ℕ → Type 0
+SeatRecordWhole n clock r = seatRecordWhole n clock r ≡ true
+
+-- ---- several seats, by membership
 
 module _ (s n : ℕ) (b : List ℕ) where
-  routes-of : (is : List ℕ) → routesWhole s n b is ≡ true → (i : ℕ) → member i is ≡ true → seatRoutesWhole s n b i ≡ true
-  unfolding routesWhole member
-  routes-of [] h i m = absurd (no m)
-  routes-of (j ∷ is) h i m =
-      let q = both (seatRoutesWhole s n b j) _ h in
-      go (eqb j i) refl m (q .0) (routes-of is (q .1) i)
+  seats-of : (is : List ℕ) → seatsWhole s n b is ≡ true → (i : ℕ) → member i is ≡ true → seatWhole s n b i ≡ true
+  unfolding seatsWhole member
+  seats-of [] h i m = absurd (no m)
+  seats-of (j ∷ is) h i m =
+      let q = both (seatWhole s n b j) _ h in
+      go (eqb j i) refl m (q .0) (seats-of is (q .1) i)
     where
-      go : (t : Bool) → eqb j i ≡ t → (t || member i is) ≡ true → seatRoutesWhole s n b j ≡ true → (member i is ≡ true → seatRoutesWhole s n b i ≡ true) → seatRoutesWhole s n b i ≡ true
+      go : (t : Bool) → eqb j i ≡ t → (t || member i is) ≡ true → seatWhole s n b j ≡ true → (member i is ≡ true → seatWhole s n b i ≡ true) → seatWhole s n b i ≡ true
       go true e m a ih = rw (← eqb-true j i e) a
       go false e m a ih = ih m
 
-  routes-made : (is : List ℕ) → ((i : ℕ) → member i is ≡ true → seatRoutesWhole s n b i ≡ true) → routesWhole s n b is ≡ true
-  unfolding routesWhole member
-  routes-made [] h = refl
-  routes-made (j ∷ is) h = rw (h j (rw (eq-eqb j j refl))) (routes-made is (λ i m. h i (rw (m, or-true (eqb j i)))))
+  seats-made : (is : List ℕ) → ((i : ℕ) → member i is ≡ true → seatWhole s n b i ≡ true) → seatsWhole s n b is ≡ true
+  unfolding seatsWhole member
+  seats-made [] h = refl
+  seats-made (j ∷ is) h = rw (h j (rw (eq-eqb j j refl))) (seats-made is (λ i m. h i (rw (m, or-true (eqb j i)))))
+
+  -- a seat is whole where its record is
+  pub seat-by-record : (i : ℕ) → i < s → seatWhole s n b i ≡ seatRecordWhole n (clockIn b) (recordAt s (seatBytes n) (seatTable s n b) i)
+  unfolding seatWhole seatPingWhole seatRoutesWhole
+  seat-by-record i below =
+      ap₂ (λ (x y : Bool). x && y) (ap (λ (p : Ping). leb (p .time) (clockIn b)) (sym (seat-ping-stands s n b i below)))
+      (ap₂ (tableWithout n keyBytes) (routes-in-record s n b i below) (key-record s (seatBytes n) (seatTable s n b) i (omega arith)))
 
   -- bytes are a whole room where all of this is so
   pub make-whole : fitsRoom s n b ≡ true → headerRight s n b ≡ true → tableWhole s (seatBytes n) (seatTable s n b) ≡ true
-      → ((i : ℕ) → member i (listed s (seatTable s n b)) ≡ true → seatRoutesWhole s n b i ≡ true) → roomWhole s n b ≡ true
+      → ((i : ℕ) → member i (listed s (seatTable s n b)) ≡ true → seatWhole s n b i ≡ true) → roomWhole s n b ≡ true
   unfolding roomWhole
-  make-whole f h t r = rw (f, h, t) (routes-made (listed s (seatTable s n b)) r)
+  make-whole f h t r = rw (f, h, t) (seats-made (listed s (seatTable s n b)) r)
 
 -- ---- what a whole room is
 
 module _ (s n : ℕ) (b : List ℕ) (o : roomWhole s n b ≡ true) where
   parts : (fitsRoom s n b ≡ true) × (headerRight s n b ≡ true) × (tableWhole s (seatBytes n) (seatTable s n b) ≡ true)
-      × (routesWhole s n b (listed s (seatTable s n b)) ≡ true)
+      × (seatsWhole s n b (listed s (seatTable s n b)) ≡ true)
   unfolding roomWhole
   parts =
       let q = both (fitsRoom s n b) _ o in
@@ -71,7 +82,10 @@ module _ (s n : ℕ) (b : List ℕ) (o : roomWhole s n b ≡ true) where
   pub whole-fits : fitsRoom s n b ≡ true
   whole-fits = parts .0
 
-  -- a room has 240 numbers at most
+  -- a room has 40 seats and 240 numbers at most
+  pub whole-few-seats : s ≤ 40
+  whole-few-seats = few-seats s n b whole-fits
+
   pub whole-few : n ≤ 240
   whole-few = few-numbers s n b whole-fits
 
@@ -88,19 +102,29 @@ module _ (s n : ℕ) (b : List ℕ) (o : roomWhole s n b ≡ true) where
   listed-below =
       rising-below s (keyAt s (seatBytes n) (seatTable s n b)) (listed s (seatTable s n b)) (whole-rising s (seatBytes n) (seatTable s n b) whole-seats)
 
-  pub whole-seat : (i : ℕ) → member i (listed s (seatTable s n b)) ≡ true → seatRoutesWhole s n b i ≡ true
-  whole-seat = routes-of s n b (listed s (seatTable s n b)) (parts .3)
+  pub whole-seat : (i : ℕ) → member i (listed s (seatTable s n b)) ≡ true → seatWhole s n b i ≡ true
+  whole-seat = seats-of s n b (listed s (seatTable s n b)) (parts .3)
+
+  pub whole-without : (i : ℕ) → member i (listed s (seatTable s n b)) ≡ true
+      → tableWithout n keyBytes (routesTable s n b i) (keyAt s (seatBytes n) (seatTable s n b) i) ≡ true
+  unfolding seatWhole seatRoutesWhole
+  whole-without i m = both (seatPingWhole s n b i) _ (whole-seat i m) .1
 
   pub whole-routes : (i : ℕ) → member i (listed s (seatTable s n b)) ≡ true → tableWhole n keyBytes (routesTable s n b i) ≡ true
-  unfolding seatRoutesWhole
-  whole-routes i m = without-whole n keyBytes (routesTable s n b i) (keyAt s (seatBytes n) (seatTable s n b) i) (whole-seat i m)
+  whole-routes i m = without-whole n keyBytes (routesTable s n b i) (keyAt s (seatBytes n) (seatTable s n b) i) (whole-without i m)
 
   -- and so by the seat's record
-  pub whole-record : (i : ℕ) → member i (listed s (seatTable s n b)) ≡ true → SeatRecordWhole n (recordAt s (seatBytes n) (seatTable s n b) i)
-  unfolding seatRoutesWhole
-  whole-record i m =
-      let below = listed-below i m in
-      ap₂ (tableWithout n keyBytes) (sym (routes-in-record s n b i below)) (sym (key-record s (seatBytes n) (seatTable s n b) i (omega arith))) ∙ whole-seat i m
+  pub whole-record : (i : ℕ) → member i (listed s (seatTable s n b)) ≡ true → SeatRecordWhole n (clockIn b) (recordAt s (seatBytes n) (seatTable s n b) i)
+  whole-record i m = sym (seat-by-record s n b i (listed-below i m)) ∙ whole-seat i m
+
+  -- the ping time of a seat that holds a key is not after the clock
+  pub held-ping : (i : ℕ) (held : Held) → seatAt (viewRoom s n b) i ≡ holds held → held .ping .time ≤ clockIn b
+  held-ping i held e =
+      let q = seat-holds s n b i held e in
+      let kept = recordAt s (seatBytes n) (seatTable s n b) i in
+      let t : recordPing kept .time ≡ held .ping .time = ap (λ (h : Held). h .ping .time) (q .2) in
+      let l = leb-true (recordPing kept .time) (clockIn b) (both (leb (recordPing kept .time) (clockIn b)) _ (whole-record i (q .1)) .0) in
+      omega arith
 
   pub whole-routes-table : (i : ℕ) → member i (listed s (seatTable s n b)) ≡ true → Table n keyBytes (routesTable s n b i)
   whole-routes-table i m = routes-table s n b whole-fits i (listed-below i m)
@@ -114,12 +138,11 @@ module _ (s n : ℕ) (b : List ℕ) (o : roomWhole s n b ≡ true) where
 
   -- none of its routes wants its key
   pub held-others : (i : ℕ) (held : Held) → seatAt (viewRoom s n b) i ≡ holds held → find (routeTo (held .key)) (held .routes) ≡ none
-  unfolding seatRoutesWhole
   held-others i held e =
       let q = seat-holds s n b i held e in
       let own : keyAt s (seatBytes n) (seatTable s n b) i ≡ held .key = key-record s (seatBytes n) (seatTable s n b) i (omega arith) ∙ ap (λ (h : Held). h .key) (q .2) in
       ap₂ (λ (k : Key) (l : List Route). find (routeTo k) l) (sym own) (sym (held-routes i held e .1))
-      ∙ without-finds-none n (routesTable s n b i) (whole-routes-table i (q .1)) (whole-routes i (q .1)) (keyAt s (seatBytes n) (seatTable s n b) i) (whole-seat i (q .1))
+      ∙ without-finds-none n (routesTable s n b i) (whole-routes-table i (q .1)) (whole-routes i (q .1)) (keyAt s (seatBytes n) (seatTable s n b) i) (whole-without i (q .1))
 
 -- in a whole table of routes a key is wanted at one place
 wanted-once : (n : ℕ) (r : List ℕ) → tableWhole n keyBytes r ≡ true → (key : Key) (i j : ℕ)
@@ -152,9 +175,15 @@ whole-view s n b o = record {
       true≢false
       (sym (wants-passes (held .key) (getD (held .routes) (x - firstNumber) free) (wanted-place (held .routes) x (held .key) ex))
       ∙ find-miss (routeTo (held .key)) free (held .routes) (unfold routeTo in refl) (held-others s n b o i held e) (x - firstNumber));
+  pingTimes = λ i held e. unfold viewRoom in held-ping s n b o i held e;
 }
 
--- so bytes that are a room where a seat names its own key are not whole: "A room where a seat names its own key is no longer whole."
+-- so bytes are not whole that are a room where a seat's ping time is after the clock: "A ping time after the clock makes a room not whole."
+pub pinged-later : (s n : ℕ) (b : List ℕ) (i : ℕ) (held : Held) → seatAt (viewRoom s n b) i ≡ holds held → viewRoom s n b .clock < held .ping .time
+    → roomWhole s n b ≡ false
+pinged-later s n b i held sits later = not-so (λ o. let q = whole-view s n b o .pingTimes i held sits in omega arith)
+
+-- and that are a room where a seat names its own key: "A room where a seat names its own key is no longer whole."
 pub names-itself : (s n : ℕ) (b : List ℕ) (i : ℕ) (held : Held) (number : ℕ) → seatAt (viewRoom s n b) i ≡ holds held
     → routeAt (held .routes) number ≡ wants (held .key) → roomWhole s n b ≡ false
 names-itself s n b i held number sits names = not-so (λ o. whole-view s n b o .notOwn i held sits number names)

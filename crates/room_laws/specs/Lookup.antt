@@ -8,7 +8,7 @@ use Rattle.table_laws.specs.Table.{found, keyOfPlace, isUsed, lowestFree, recor
 use Rattle.rules.specs.Room.{Key, Route, free, Found, none, at, Peer, alone}
 use Rattle.rules.specs.Outcome.{joinedBy}
 use Rattle.room_laws.specs.Layout.{keyBytes, seatBytes, fitsRoom, seatTable, routesTable}
-use Rattle.room_laws.specs.View.{routeIn}
+use Rattle.room_laws.specs.View.{clockIn, routeIn, seatPing}
 
 -- a place of p, or none
 unfoldable pub placeIn : ℕ → ℕ → Found
@@ -33,6 +33,17 @@ taken s n b i = (fitsRoom s n b && ltb i s) && isUsed s (seatTable s n b) i
 -- the key of seat i; zeros where there is no such seat
 unfoldable pub keyIn : ℕ → ℕ → List ℕ → ℕ → Key
 keyIn s n b i = cond (hasSeat s n b i) (keyOfPlace s (seatBytes n) (seatTable s n b) i) (replicate keyBytes 0)
+
+-- the clock; 0 where the memory is too short
+unfoldable pub clockFound : ℕ → ℕ → List ℕ → ℕ
+clockFound s n b = cond (fitsRoom s n b) (clockIn b) 0
+
+-- the time of the last ping of seat i, and the number of the one that is outstanding; 0 where there is no such seat
+unfoldable pub pingTimeOf : ℕ → ℕ → List ℕ → ℕ → ℕ
+pingTimeOf s n b i = cond (hasSeat s n b i) (seatPing s n b i .time) 0
+
+unfoldable pub outstandingOf : ℕ → ℕ → List ℕ → ℕ → ℕ
+outstandingOf s n b i = cond (hasSeat s n b i) (seatPing s n b i .number) 0
 
 -- the place of the route of seat i that wants a key
 unfoldable pub routeWanting : ℕ → ℕ → List ℕ → ℕ → Key → Found

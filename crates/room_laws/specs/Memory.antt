@@ -2,11 +2,11 @@
 use mathlib.Core.Bool.{true}
 use mathlib.Core.List.{List}
 use mathlib.Core.Path.{_≡_}
-use Prim.Native.Nat.{ℕ}
+use Prim.Native.Nat.{ℕ, _^_, _<_}
 use lib.ListN.{length, getD}
 use Rattle.wire.specs.Numbers.{Bytes}
 use Rattle.rules.specs.Room.{Key, free, wants, Held, holds, Room, seatAt}
-use Rattle.room_laws.specs.Layout.{roomBytes}
+use Rattle.room_laws.specs.Layout.{wordBytes, roomBytes}
 use Rattle.room_laws.specs.View.{viewRoom}
 use Rattle.room_laws.specs.Whole.{roomWhole}
 
@@ -14,6 +14,11 @@ use Rattle.room_laws.specs.Whole.{roomWhole}
 pub record KeysAre (K : Key → Type 0) (room : Room) : Type 0 where
   pub seated : (i : ℕ) (held : Held) → seatAt room i ≡ holds held → K (held .key)
   pub wanted : (i : ℕ) (held : Held) → seatAt room i ≡ holds held → (j : ℕ) (other : Key) → getD (held .routes) j free ≡ wants other → K other
+
+-- the clock of a room, and the number of each seat's ping, have 8 bytes; so has the time of each ping, which is not after the clock
+pub record WordsFit (room : Room) : Type 0 where
+  pub clock : room .clock < 256 ^ wordBytes
+  pub numbers : (i : ℕ) (held : Held) → seatAt room i ≡ holds held → held .ping .number < 256 ^ wordBytes
 
 -- bytes that are a room
 pub record HasBytes (s n : ℕ) (room : Room) : Type 0 where

@@ -16,7 +16,7 @@ small = sizesOf 1 2
 
 -- KA with these routes, and alone in the room
 abbrev withRoutes : List Route → Held
-withRoutes routes = setRoutes (newcomer small ka) routes
+withRoutes routes = setRoutes (newcomer small 0 ka) routes
 
 abbrev alone-with : List Route → Room
 alone-with routes = setSeats (emptyRoom small) (holds (withRoutes routes) ∷ [])

@@ -8,46 +8,20 @@ use mathlib.Core.Bool.{true}
 use mathlib.Core.List.{List, [], _∷_, _++_}
 use Prim.Native.Nat.{ℕ, zero, suc}
 use lib.ListN.{replicate, drop}
-use Rattle.refusal.specs.Numbers.{refusalNumber}
 use Rattle.rules.specs.Room.{Key, baseSizes}
-use Rattle.rules.specs.Call.{Call, arrive, leave, packetCall, Answer, accepted, refused}
-use Rattle.rules.specs.Outcome.{sentBytes}
-use Rattle.rules.specs.History.{Event, happens}
+use Rattle.rules.specs.Call.{Call, arrive, leave, packetCall}
+use Rattle.rules.specs.History.{happens}
 use Rattle.rules.specs.Transcript.{fromEmpty, stands}
 use Rattle.rules.specs.After.{pastAfter}
-use Rattle.rules.proofs.Computed.{ka, kb, kc, opened}
-
--- a call's answer, the refusal by its number, and its output's bytes
-pub data Shown : Type 0 where
-  wrote : ℕ → ℕ → List ℕ → Shown
-  refusal : ℕ → List ℕ → Shown
-
-show : Answer → List ℕ → Shown
-show (accepted seat count) output = wrote seat count output
-show (refused why) output = refusal (refusalNumber why) output
-
-showAll : List Event → List Shown
-showAll [] = []
-showAll (e ∷ es) = show (e .answer) (sentBytes (e .sent)) ∷ showAll es
+use Rattle.rules.proofs.Computed.{ka, kb, kc, opened, Shown, wrote, show, showAll, took, gets, ask}
 
 -- what calls show, from the empty room
 shows : List Call → List Shown
 shows calls = showAll (happens baseSizes calls)
 
--- a seat taken
-took : ℕ → Shown
-took seat = wrote seat 0 []
-
--- "A refusal answers its number with 0 bytes written"
-gets : ℕ → Shown
-gets number = refusal number []
-
 -- ---- P1 to P9, with P8 after P4 and after P5
 
--- "00 KB", "10 61 62", "data on 11 hex"
-ask : ℕ → Key → Call
-ask seat key = packetCall seat (0 ∷ key)
-
+-- "10 61 62", "data on 11 hex"
 data10 : ℕ → Call
 data10 seat = packetCall seat (0x10 ∷ 0x61 ∷ 0x62 ∷ [])
 
@@ -218,11 +192,11 @@ connectedThen : List Call → List Call
 connectedThen calls = arrive ka ∷ arrive kb ∷ ask 0 kb ∷ ask 1 ka ∷ calls
 
 -- KB's request for KA stands
-stands-after-drop : stands fromEmpty (pastAfter [] (happens baseSizes (connectedThen (packetCall 0 (3 ∷ 0x10 ∷ []) ∷ [])))) kb 0x10 ka ≡ true
+stands-after-drop : stands (fromEmpty baseSizes) (pastAfter [] (happens baseSizes (connectedThen (packetCall 0 (3 ∷ 0x10 ∷ []) ∷ [])))) kb 0x10 ka ≡ true
 unfolding opened ask connectedThen
 stands-after-drop = refl
 
-stands-after-leave : stands fromEmpty (pastAfter [] (happens baseSizes (connectedThen (leave 0 ∷ [])))) kb 0x10 ka ≡ true
+stands-after-leave : stands (fromEmpty baseSizes) (pastAfter [] (happens baseSizes (connectedThen (leave 0 ∷ [])))) kb 0x10 ka ≡ true
 unfolding opened ask connectedThen
 stands-after-leave = refl
 

@@ -43,11 +43,11 @@ module _ (sizes : Sizes) (start : Start) (P : Past → Type 0) (each : (past : P
       (tied-after sizes start past room whole tie call) calls before after (cc))
 
 -- from the empty room
-pub moment-from-empty : (sizes : Sizes) (P : Past → Type 0) → ((past : Past) (room : Room) → Whole sizes room → Tied fromEmpty past room → P past)
+pub moment-from-empty : (sizes : Sizes) (P : Past → Type 0) → ((past : Past) (room : Room) → Whole sizes room → Tied (fromEmpty sizes) past room → P past)
     → (calls : List Call) (before after : List Event) → transcript sizes (emptyRoom sizes) calls ≡ before ++ after → P (pastAfter [] before)
-moment-from-empty sizes P each = each-moment sizes fromEmpty P each [] (emptyRoom sizes) (whole-empty sizes) (tied-empty sizes)
+moment-from-empty sizes P each = each-moment sizes (fromEmpty sizes) P each [] (emptyRoom sizes) (whole-empty sizes) (tied-empty sizes)
 
 pub from-empty : (sizes : Sizes) (P : Past → Event → Type 0)
-    → ((past : Past) (room : Room) → Whole sizes room → Tied fromEmpty past room → (call : Call) → P past (event room call))
+    → ((past : Past) (room : Room) → Whole sizes room → Tied (fromEmpty sizes) past room → (call : Call) → P past (event room call))
     → (calls : List Call) (before : List Event) (e : Event) (later : List Event) → transcript sizes (emptyRoom sizes) calls ≡ before ++ (e ∷ later) → P (pastAfter [] before) e
-from-empty sizes P each = each-event sizes fromEmpty P each [] (emptyRoom sizes) (whole-empty sizes) (tied-empty sizes)
+from-empty sizes P each = each-event sizes (fromEmpty sizes) P each [] (emptyRoom sizes) (whole-empty sizes) (tied-empty sizes)

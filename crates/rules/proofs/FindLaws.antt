@@ -181,7 +181,7 @@ vacant-no-key key (holds held) h = absurd (false≢true h)
 
 -- what a seat holds; of an empty one nothing is said
 abbrev pub heldOf : Seat → Held
-heldOf vacant = newcomer (sizesOf 0 0) []
+heldOf vacant = newcomer (sizesOf 0 0) 0 []
 heldOf (holds held) = held
 
 pub routes-held : (s : Seat) → routesOf s ≡ heldOf s .routes

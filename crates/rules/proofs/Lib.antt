@@ -1,9 +1,12 @@
--- Facts by computation: `ASmallRoom`, rooms where a seat names its own key; `ComputedExamples`, document 01's examples on the room and its students' errors;
--- `Computed` has what they share. Laws: `FindLaws` of looking things up, `AnswerLaws` of the number that a client reads in an answer, `SentLaws` of how many
--- bytes records take, `OutcomeLaws` of one outcome after another, `PeerLaws` of the search for a connected peer. Theorems, for every room or history:
+-- Facts by computation: `AComputedTicks`, document 02's ticks, pings and pongs; `ASmallRoom`, rooms where a seat names its own key; `ComputedExamples`,
+-- document 01's examples on the room and its students' errors; `Computed` has what they share. Laws: `FindLaws` of looking things up, `AnswerLaws` of the
+-- number that a client reads in an answer, `SentLaws` of how many bytes records take, `OutcomeLaws` of one outcome after another, `PeerLaws` of the search for
+-- a connected peer, `TickLaws` of what a tick makes of each seat, `TickInTurn` of its parts one after the other. Theorems, for every room or history:
 -- `RefusedOrAccepted`, a refused call does nothing; `Counts`, a call answers how many bytes it wrote; `QuietArrival`, an arrival sends nothing; `Whole`, the
--- room stays whole; `OtherSeats`, a call changes one seat at most; `Tied`, the room's tables and what has happened say the same, with `EachEvent` from one
--- call to every history; `WithinOutput`, no call writes more than 2,048 bytes.
+-- room stays whole; `OtherSeats`, an arrival, a leave or a packet changes one seat at most; `Tied`, with `TiedTick` for ticks, the room's tables and what has
+-- happened say the same, with `EachEvent` from one call to every history; `WithinOutput`, with `TickWithin` for ticks, no call writes more than the output
+-- that it needs.
+pub mod AComputedTicks
 pub mod ASmallRoom
 pub mod Computed
 pub mod ComputedExamples
@@ -14,9 +17,13 @@ pub mod RefusedOrAccepted
 pub mod Counts
 pub mod QuietArrival
 pub mod OutcomeLaws
+pub mod TickLaws
+pub mod TickInTurn
 pub mod Whole
 pub mod PeerLaws
 pub mod OtherSeats
+pub mod TiedTick
 pub mod Tied
+pub mod TickWithin
 pub mod WithinOutput
 pub mod EachEvent

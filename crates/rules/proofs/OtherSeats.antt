@@ -1,17 +1,18 @@
--- A call changes at most the seat it is made at: every other seat keeps its key and its routes. So a disconnect, by a drop or by a leave, leaves the peer's
--- request standing: "its route goes on waiting". Assumes nothing.
+-- An arrival, a leave or a packet changes at most the seat it is made at: every other seat keeps its key, its routes and its ping. So a disconnect, by a drop or by
+-- a leave, leaves the peer's request standing: "its route goes on waiting". Assumes nothing.
 use mathlib.Core.Path.{_≡_, refl, _∙_}
 use mathlib.Core.Bool.{Bool, true, false}
 use mathlib.Core.List.{List}
 use mathlib.Core.Logic.{_≢_}
 use Prim.Native.Nat.{ℕ, _-_}
+use lib.Dec.{eqb}
 use Rattle.key.specs.Keys.{sameKey}
 use Rattle.packet_laws.specs.Read.{Read}
 use Rattle.packet_laws.specs.Read as read
 use Rattle.packet_laws.specs.FromClient as client
 use Rattle.rules.specs.Room.{Sizes, Key, Route, free, wants, Held, Seat, vacant, holds, Room, Found, none, at, find, seatOf, isVacant, routeTo, isFree, seatAt, routeAt, firstNumber, Peer, alone, joined}
 use Rattle.rules.specs.Call.{arrive, leave, packetCall, accepted}
-use Rattle.rules.specs.Outcome.{withRoute, apply, applyAll, Outcome, refuse, accept, roomAfter, peer, arriveAt, leaveFrom, requestAt, dropAt, oobTo, carryTo, dataAt, act, actOn, packetFrom, outcome}
+use Rattle.rules.specs.Outcome.{withRoute, withoutPing, apply, applyAll, Outcome, refuse, accept, roomAfter, peer, arriveAt, leaveFrom, requestAt, dropAt, oobTo, carryTo, dataAt, pongAt, act, actOn, packetFrom, outcome}
 use Rattle.rules.proofs.FindLaws.{seat-set-other}
 
 module _ (sizes : Sizes) (room : Room) (seat other : ℕ) (ne : other ≢ seat) where
@@ -46,13 +47,18 @@ module _ (sizes : Sizes) (room : Room) (seat other : ℕ) (ne : other ≢ seat) 
   data-stays free key bytes = refl
   data-stays (wants wanted) key bytes = carry-stays (peer room seat key wanted) bytes
 
+  pong-stays : (t : Bool) → Stays (pongAt t seat)
+  unfolding pongAt accept roomAfter applyAll apply
+  pong-stays true = seat-set-other room seat (withoutPing (seatAt room seat)) other ne
+  pong-stays false = refl
+
   read-stays : (r : Read client.FromClient) (held : Held) → Stays (actOn r room seat held)
   unfolding actOn act accept refuse roomAfter applyAll
   read-stays (read.packet (client.routingRequest wanted)) held =
       request-stays (sameKey wanted (held .key)) (find (routeTo wanted) (held .routes)) (find isFree (held .routes)) (held .key) wanted
   read-stays (read.packet (client.dropRoute number)) held = drop-stays (routeAt (held .routes) number) (held .key) number
   read-stays (read.packet (client.ping n)) held = refl
-  read-stays (read.packet (client.pong n)) held = refl
+  read-stays (read.packet (client.pong n)) held = pong-stays (eqb n (held .ping .number))
   read-stays (read.packet (client.oobSend wanted bytes)) held = oob-stays (find (seatOf wanted) (room .seats)) (held .key) bytes
   read-stays (read.packet (client.routedData number bytes)) held = data-stays (routeAt (held .routes) number) (held .key) bytes
   read-stays (read.refused why) held = refl

@@ -4,14 +4,15 @@ use mathlib.Core.Path.{_≡_, refl, sym, ap, _∙_}
 use mathlib.Core.Bool.{Bool, true, false, true≢false}
 use mathlib.Core.List.{List, [], _∷_}
 use Prim.Native.Nat.{ℕ}
-use Rattle.refusal.specs.declared.Refusal.the-variants.{RoomFull, AlreadySeated, NotSeated, NoSuchRoute, NotConnected}
+use lib.Dec.{eqb, ltb}
+use Rattle.refusal.specs.declared.Refusal.the-variants.{RoomFull, AlreadySeated, NotSeated, ZeroPing, NoSuchRoute, NotConnected, ClockBack}
 use Rattle.key.specs.Keys.{sameKey}
 use Rattle.packet_laws.specs.Read.{Read}
 use Rattle.packet_laws.specs.Read as read
 use Rattle.packet_laws.specs.FromClient as client
 use Rattle.rules.specs.Room.{Sizes, Key, Route, free, wants, Held, Seat, vacant, holds, Room, Found, none, at, find, seatOf, isVacant, routeTo, isFree, seatAt, routeAt, Peer, alone, joined}
-use Rattle.rules.specs.Call.{Call, arrive, leave, packetCall}
-use Rattle.rules.specs.Outcome.{seatTaken, applyAll, Outcome, refuse, accept, roomAfter, peer, arriveAt, leaveFrom, requestAt, dropAt, oobTo, carryTo, dataAt, act, actOn, packetFrom, outcome}
+use Rattle.rules.specs.Call.{Call, arrive, leave, packetCall, tick}
+use Rattle.rules.specs.Outcome.{seatTaken, applyAll, Outcome, refuse, accept, roomAfter, peer, arriveAt, leaveFrom, requestAt, dropAt, oobTo, carryTo, dataAt, pongAt, act, actOn, packetFrom, tickFrom, tickAt, outcome}
 use Rattle.rules.specs.Transcript.{isAccepted}
 use Rattle.rules.specs.Accepted.{RefusedOrAccepted, MadeAt, refusal, acceptance}
 
@@ -58,13 +59,18 @@ module _ (room : Room) where
   data-made free seat key bytes = refusal NoSuchRoute refl
   data-made (wants wanted) seat key bytes = carry-made (peer room seat key wanted) seat bytes
 
+  pong-made : (t : Bool) (seat : ℕ) → MadeAt seat (pongAt t seat)
+  unfolding pongAt
+  pong-made true seat = acceptance _ _ refl
+  pong-made false seat = acceptance _ _ refl
+
   act-made : (r : Read client.FromClient) (seat : ℕ) (held : Held) → MadeAt seat (actOn r room seat held)
   unfolding actOn act
   act-made (read.packet (client.routingRequest wanted)) seat held =
       request-made (sameKey wanted (held .key)) (find (routeTo wanted) (held .routes)) (find isFree (held .routes)) seat (held .key) wanted
   act-made (read.packet (client.dropRoute number)) seat held = drop-made (routeAt (held .routes) number) seat (held .key) number
   act-made (read.packet (client.ping n)) seat held = acceptance _ _ refl
-  act-made (read.packet (client.pong n)) seat held = acceptance _ _ refl
+  act-made (read.packet (client.pong n)) seat held = pong-made (eqb n (held .ping .number)) seat
   act-made (read.packet (client.oobSend wanted bytes)) seat held = oob-made (find (seatOf wanted) (room .seats)) seat (held .key) bytes
   act-made (read.packet (client.routedData number bytes)) seat held = data-made (routeAt (held .routes) number) seat (held .key) bytes
   act-made (read.refused why) seat held = refusal why refl
@@ -73,6 +79,13 @@ module _ (room : Room) where
   unfolding packetFrom
   packet-made vacant seat bytes = refusal NotSeated refl
   packet-made (holds held) seat bytes = act-made (client.relayRead bytes) seat held
+
+  -- a tick that is accepted answers seat 0
+  tick-made : (zero back : Bool) (time number : ℕ) → MadeAt 0 (tickAt zero back room time number)
+  unfolding tickAt tickFrom
+  tick-made true back time number = refusal ZeroPing refl
+  tick-made false true time number = refusal ClockBack refl
+  tick-made false false time number = acceptance _ _ refl
 
   -- a Leave or a packet that is accepted answers its own seat
   pub leave-made-at : (seat : ℕ) → MadeAt seat (outcome room (leave seat))
@@ -83,11 +96,16 @@ module _ (room : Room) where
   unfolding outcome
   packet-made-at seat bytes = packet-made (seatAt room seat) seat bytes
 
+  pub tick-made-at : (time number : ℕ) → MadeAt 0 (outcome room (tick time number))
+  unfolding outcome
+  tick-made-at time number = tick-made (eqb number 0) (ltb time (room .clock)) time number
+
   pub outcome-made : (call : Call) → RefusedOrAccepted (outcome room call)
   unfolding outcome
   outcome-made (arrive key) = arrive-made (find (seatOf key) (room .seats)) (find isVacant (room .seats)) key
   outcome-made (leave seat) = made-at seat (outcome room (leave seat)) (leave-made-at seat)
   outcome-made (packetCall seat bytes) = made-at seat (outcome room (packetCall seat bytes)) (packet-made-at seat bytes)
+  outcome-made (tick time number) = made-at 0 (outcome room (tick time number)) (tick-made-at time number)
 
   -- so a refused call leaves the room as it was, and sends nothing
   pub refused-does-nothing : (sizes : Sizes) (call : Call) → isAccepted (outcome room call .answer) ≡ false

@@ -1,13 +1,13 @@
--- What has happened and the room's tables say the same, after every history: who sits where, and which requests stand. Each call keeps it, since
--- it changes the tables just as its answer and what it sent tell. From the empty room, and from any whole room with a start that says what its
+-- What has happened and the room's tables say the same, after every history: who sits where, which requests stand, the clock and the pings. Each call keeps
+-- it, since it changes the tables just as its answer and what it sent tell. From the empty room, and from any whole room with a start that says what its
 -- tables say. Assumes nothing.
 use mathlib.Core.Path.{_≡_, refl, sym, ap, _∙_}
-use mathlib.Core.Bool.{Bool, true, false, _&&_, not, cond, true≢false, false≢true}
+use mathlib.Core.Bool.{Bool, true, false, _&&_, not, cond, true≢false, false≢true, and-false}
 use mathlib.Core.List.{List, [], _∷_}
 use Prim.Native.Nat.{ℕ, zero, suc, _-_, _<_}
 use native.Mathlib.Omega.{arith}
-use lib.Dec.{eqb}
-use lib.ListN.{getD, set, length}
+use lib.Dec.{eqb, ltb}
+use lib.ListN.{getD, set, length, length-set, length-replicate}
 use lib.Seq.{set-getD}
 use borrow.Author.Tests.{eqb-true, eqb-false, ne-eqb, not-true}
 use Rattle.key.specs.Keys.{sameKey}
@@ -18,15 +18,16 @@ use Rattle.packet_laws.specs.Read as read
 use Rattle.packet_laws.specs.FromClient as client
 use Rattle.packet_laws.specs.FromRelay as relay
 use Rattle.packet_laws.proofs.ReadBounds.{request-key-long}
-use Rattle.rules.specs.Room.{Sizes, Key, Route, free, wants, Held, Seat, vacant, holds, Room, newcomer, setKey, setRoute, setSeats, setSeat, emptyRoom, Found, none, at, find, seatOf, isVacant, routeTo, isFree, routesOf, seatAt, routeAt, firstNumber, numberOfPlace, Peer, alone, joined}
+use Rattle.rules.specs.Room.{Sizes, Key, Route, free, wants, Ping, Held, Seat, vacant, holds, Room, noneSince, newcomer, setKey, setPing, setRoute, setClock, setSeats, setSeat, emptyRoom, Found, none, at, find, seatOf, isVacant, routeTo, isFree, routesOf, pingIn, seatAt, routeAt, firstNumber, numberOfPlace, Peer, alone, joined}
 use Rattle.rules.specs.Whole.{Whole}
-use Rattle.rules.specs.Call.{Call, arrive, leave, packetCall, refused}
-use Rattle.rules.specs.Outcome.{withRoute, apply, applyAll, refuse, accept, to, Outcome, roomAfter, peer, arriveAt, leaveFrom, requestAt, dropAt, oobTo, carryTo, dataAt, act, actOn, packetFrom, outcome}
+use Rattle.rules.specs.Call.{Call, arrive, leave, packetCall, tick, refused}
+use Rattle.rules.specs.Outcome.{withRoute, withPing, withoutPing, apply, applyAll, refuse, accept, to, Outcome, roomAfter, peer, arriveAt, leaveFrom, requestAt, dropAt, oobTo, carryTo, dataAt, pongAt, act, actOn, packetFrom, overdue, isOverdue, isDue, leaveEach, pingEach, leavers, dueSeats, tickFrom, tickAt, outcome}
 use Rattle.rules.specs.History.{event, transcript}
-use Rattle.rules.specs.Transcript.{Past, Maker, nobody, clientOf, Start, fromEmpty, isAccepted, sitsAfterArrival, sitsAfter, sitter, maker, numberAnswered, standsAfterPacket, standsAfterOwn, standsAfter, stands}
+use Rattle.rules.specs.Transcript.{Past, Maker, nobody, clientOf, Start, fromEmpty, isAccepted, clockAfter, clockOf, pingAfterArrival, pingAfterPacket, pingSentTo, pingAfterTick, pingAfter, pingOf, keyIf, overdueFrom, putOutIf, putOut, isAmong, sitsAfterArrival, sitsAfter, sitter, maker, numberAnswered, standsAfterPacket, standsAfterOwn, standsAfter, stands}
 use Rattle.rules.specs.After.{roomAfterAll, pastAfter, clientIn, routesIn, routesBy, Tied, startOf}
 use Rattle.rules.proofs.FindLaws.{clash, route-to-wants, find-hit, find-within, find-replicate, getD-all, find-set-same, find-clear, vacant-no-key, heldOf, seat-set, seat-set-other, held-within, free-not-to, route-none, route-at-place, wanted-high, route-set-other, route-set, route-freed, route-all-free}
 use Rattle.rules.proofs.Whole.{key-once, key-found, whole-after, whole-empty}
+use Rattle.rules.proofs.TiedTick.{tied-tick}
 use Rattle.rules.proofs.AnswerLaws.{zero-answered, place-answered}
 
 -- ---- tests
@@ -44,23 +45,30 @@ itself : (t : Bool) → cond t true false ≡ t
 itself true = refl
 itself false = refl
 
-both-true : (a b : Bool) → (a && b) ≡ true → (a ≡ true) × (b ≡ true)
+pub both-true : (a b : Bool) → (a && b) ≡ true → (a ≡ true) × (b ≡ true)
 both-true true b h = (refl, h)
 both-true false b h = absurd (false≢true h)
 
-and-false : (a : Bool) → (a && false) ≡ false
-and-false true = refl
-and-false false = refl
+-- a test that is made in one place alone
+cond-and : {A : Type 0} (a b : Bool) (x y : A) → cond (a && b) x y ≡ cond b (cond a x y) y
+cond-and true true x y = refl
+cond-and true false x y = refl
+cond-and false true x y = refl
+cond-and false false x y = refl
 
--- ---- who sits where, after one seat is replaced
+-- ---- what is asked of a seat, after one seat is replaced
 
 module _ (room : Room) (seat : ℕ) (s : Seat) (within : seat < length (room .seats)) where
-  pub client-set : (here : ℕ) → clientIn (seatAt (setSeat room seat s) here) ≡ cond (eqb seat here) (clientIn s) (clientIn (seatAt room here))
-  client-set here = go (eqb seat here) refl
+  pub seat-put : {A : Type 0} (f : Seat → A) (here : ℕ) → f (seatAt (setSeat room seat s) here) ≡ cond (eqb seat here) (f s) (f (seatAt room here))
+  seat-put f here = go (eqb seat here) refl
     where
-      go : (t : Bool) → eqb seat here ≡ t → clientIn (seatAt (setSeat room seat s) here) ≡ cond t (clientIn s) (clientIn (seatAt room here))
-      go true e = ap clientIn (ap (seatAt (setSeat room seat s)) (sym (eqb-true seat here e)) ∙ seat-set room seat s within)
-      go false e = ap clientIn (seat-set-other room seat s here (λ q. eqb-false seat here e (sym q)))
+      go : (t : Bool) → eqb seat here ≡ t → f (seatAt (setSeat room seat s) here) ≡ cond t (f s) (f (seatAt room here))
+      go true e = ap f (ap (seatAt (setSeat room seat s)) (sym (eqb-true seat here e)) ∙ seat-set room seat s within)
+      go false e = ap f (seat-set-other room seat s here (λ q. eqb-false seat here e (sym q)))
+
+  -- who sits where
+  pub client-set : (here : ℕ) → clientIn (seatAt (setSeat room seat s) here) ≡ cond (eqb seat here) (clientIn s) (clientIn (seatAt room here))
+  client-set here = seat-put clientIn here
 
 -- the same client sits there, whatever else of it is another
 pub client-kept : (room : Room) (seat : ℕ) (held held′ : Held) → held′ .key ≡ held .key → seatAt room seat ≡ holds held
@@ -102,17 +110,17 @@ module _ (sizes : Sizes) (room : Room) (whole : Whole sizes room) (seat : ℕ) (
 
 -- an arrival takes a seat: whoever's routes they are, each number has what it had
 routes-arrived : (sizes : Sizes) (room : Room) (seat : ℕ) (key : Key) → find (seatOf key) (room .seats) ≡ none → find isVacant (room .seats) ≡ at seat
-    → Whole sizes (setSeat room seat (holds (newcomer sizes key)))
-    → (k : Key) (number : ℕ) → routeAt (routesBy room k) number ≡ routeAt (routesBy (setSeat room seat (holds (newcomer sizes key))) k) number
+    → Whole sizes (setSeat room seat (holds (newcomer sizes (room .clock) key)))
+    → (k : Key) (number : ℕ) → routeAt (routesBy room k) number ≡ routeAt (routesBy (setSeat room seat (holds (newcomer sizes (room .clock) key))) k) number
 unfolding seatAt seatOf routesBy routesIn
 routes-arrived sizes room seat key hf he whole k number = go (sameKey key k) refl
   where
     s : Seat
-    s = holds (newcomer sizes key)
+    s = holds (newcomer sizes (room .clock) key)
 
     go : (t : Bool) → sameKey key k ≡ t → routeAt (routesBy room k) number ≡ routeAt (routesBy (setSeat room seat s) k) number
     go true q =
-        rw (← (same-sound key k q), hf, routes-mine sizes (setSeat room seat s) whole seat (newcomer sizes key) (seat-set room seat s (find-within isVacant (room .seats) seat he)))
+        rw (← (same-sound key k q), hf, routes-mine sizes (setSeat room seat s) whole seat (newcomer sizes (room .clock) key) (seat-set room seat s (find-within isVacant (room .seats) seat he)))
         (route-none number ∙ sym (route-all-free (sizes .numbers) number))
     go false q = sym (ap (λ (t : List Route). routeAt t number) (routes-else room seat s k (vacant-no-key k (seatAt room seat) (find-hit isVacant vacant (room .seats) seat he)) q))
 
@@ -125,19 +133,30 @@ module _ (sizes : Sizes) (start : Start) (past : Past) (room : Room) (whole : Wh
 
   tied-arrive : (key : Key) (seated empty : Found) → find (seatOf key) (room .seats) ≡ seated → find isVacant (room .seats) ≡ empty
       → Whole sizes (roomAfter sizes room (arriveAt seated empty key)) → Keeps (arrive key) (arriveAt seated empty key)
-  unfolding roomAfter applyAll apply arriveAt refuse accept sitter sitsAfter sitsAfterArrival stands standsAfter standsAfterOwn maker clientIn
+  unfolding roomAfter applyAll apply arriveAt refuse accept sitter sitsAfter sitsAfterArrival stands standsAfter standsAfterOwn maker clientIn putOut isAmong clockOf clockAfter pingOf pingAfter pingAfterArrival pingIn
   tied-arrive key (at i) empty hf he whole′ = record {
+    seats = tie .seats;
+    clock = tie .clock;
+    pings = tie .pings;
     sits = tie .sits;
     requests = λ k number wanted. either (sameKey key k) (stands start past k number wanted) ∙ tie .requests k number wanted;
   }
   tied-arrive key none none hf he whole′ = record {
+    seats = tie .seats;
+    clock = tie .clock;
+    pings = tie .pings;
     sits = tie .sits;
     requests = λ k number wanted. either (sameKey key k) (stands start past k number wanted) ∙ tie .requests k number wanted;
   }
   tied-arrive key none (at seat) hf he whole′ = record {
+    seats = tie .seats ∙ sym (length-set (room .seats) seat _);
+    clock = tie .clock;
+    pings = λ here.
+        rw (tie .clock, tie .pings here)
+        (sym (seat-put room seat (holds (newcomer sizes (room .clock) key)) (find-within isVacant (room .seats) seat he) pingIn here));
     sits = λ here.
         ap (cond (eqb seat here) (clientOf key)) (tie .sits here)
-        ∙ sym (client-set room seat (holds (newcomer sizes key)) (find-within isVacant (room .seats) seat he) here);
+        ∙ sym (client-set room seat (holds (newcomer sizes (room .clock) key)) (find-within isVacant (room .seats) seat he) here);
     requests = λ k number wanted.
         either (sameKey key k) (stands start past k number wanted) ∙ tie .requests k number wanted ∙ ap (routeTo wanted) (routes-arrived sizes room seat key hf he whole′ k number);
   }
@@ -149,12 +168,12 @@ module _ (sizes : Sizes) (start : Start) (past : Past) (room : Room) (whole : Wh
     by-nobody = tie .sits seat ∙ ap clientIn empty
 
     tied-no-leave : Keeps (leave seat) (leaveFrom vacant room seat)
-    unfolding roomAfter applyAll leaveFrom refuse sitter sitsAfter isAccepted stands standsAfter maker
-    tied-no-leave = record { sits = tie .sits; requests = λ k number wanted. rw by-nobody (tie .requests k number wanted) }
+    unfolding roomAfter applyAll leaveFrom refuse sitter sitsAfter isAccepted stands standsAfter maker putOut isAmong clockOf clockAfter pingOf pingAfter
+    tied-no-leave = record { seats = tie .seats; clock = tie .clock; pings = tie .pings; sits = tie .sits; requests = λ k number wanted. rw by-nobody (tie .requests k number wanted) }
 
     tied-no-packet : (bytes : List ℕ) → Keeps (packetCall seat bytes) (packetFrom vacant room seat bytes)
-    unfolding roomAfter applyAll packetFrom refuse sitter sitsAfter stands standsAfter maker
-    tied-no-packet bytes = record { sits = tie .sits; requests = λ k number wanted. rw by-nobody (tie .requests k number wanted) }
+    unfolding roomAfter applyAll packetFrom refuse sitter sitsAfter isAccepted stands standsAfter maker putOut isAmong clockOf clockAfter pingOf pingAfter
+    tied-no-packet bytes = record { seats = tie .seats; clock = tie .clock; pings = tie .pings; sits = tie .sits; requests = λ k number wanted. rw by-nobody (tie .requests k number wanted) }
 
   module _ (seat : ℕ) (held : Held) (sits : seatAt room seat ≡ holds held) where
     pub sitter-is : sitter start past seat ≡ clientOf (held .key)
@@ -166,8 +185,11 @@ module _ (sizes : Sizes) (start : Start) (past : Past) (room : Room) (whole : Wh
     tied-here number wanted = tie .requests (held .key) number wanted ∙ ap (λ (t : List Route). routeTo wanted (routeAt t number)) (routes-mine sizes room whole seat held sits)
 
     tied-leave : Keeps (leave seat) (leaveFrom (holds held) room seat)
-    unfolding roomAfter applyAll apply leaveFrom accept sitter sitsAfter isAccepted stands standsAfter standsAfterOwn maker clientIn seatOf routeTo
+    unfolding roomAfter applyAll apply leaveFrom accept sitter sitsAfter isAccepted stands standsAfter standsAfterOwn maker clientIn seatOf routeTo putOut isAmong clockOf clockAfter pingOf pingAfter pingIn
     tied-leave = record {
+      seats = tie .seats ∙ sym (length-set (room .seats) seat vacant);
+      clock = tie .clock;
+      pings = λ here. ap (cond (eqb seat here) (noneSince 0)) (tie .pings here) ∙ sym (seat-put room seat vacant (held-within room seat held sits) pingIn here);
       sits = λ here. ap (cond (eqb seat here) nobody) (tie .sits here) ∙ sym (client-set room seat vacant (held-within room seat held sits) here);
       requests = λ k number wanted. rw sitter-is (on k number wanted (sameKey (held .key) k) refl);
     }
@@ -183,13 +205,23 @@ module _ (sizes : Sizes) (start : Start) (past : Past) (room : Room) (whole : Wh
       keeps-with : (held′ : Held) → held′ .key ≡ held .key → roomAfter sizes room o ≡ setSeat room seat (holds held′)
           → ((number : ℕ) (wanted : Key) → standsAfterPacket r (o .answer) (o .sent) number wanted (routeTo wanted (routeAt (held .routes) number))
           ≡ routeTo wanted (routeAt (held′ .routes) number))
+          → cond (isAccepted (o .answer)) (pingAfterPacket r (held .ping)) (held .ping) ≡ held′ .ping
           → Keeps (packetCall seat bytes) o
-      unfolding sitter sitsAfter stands standsAfter standsAfterOwn maker seatOf
-      keeps-with held′ same after own = record {
+      unfolding sitter sitsAfter stands standsAfter standsAfterOwn maker seatOf putOut isAmong clockOf clockAfter pingOf pingAfter pingIn
+      keeps-with held′ same after own answered = record {
+        seats = tie .seats ∙ sym (ap (λ (x : Room). length (x .seats)) after ∙ length-set (room .seats) seat (holds held′));
+        clock = tie .clock ∙ sym (ap (λ (x : Room). x .clock) after);
+        pings = λ here. rw (after, e, tie .pings here) (cond-and (isAccepted (o .answer)) (eqb seat here) _ _ ∙ ping-on here (eqb seat here) refl);
         sits = λ here. tie .sits here ∙ sym (ap (λ (r : Room). clientIn (seatAt r here)) after ∙ client-kept room seat held held′ same sits here);
         requests = λ k number wanted. rw (sitter-is, after, e) (on k number wanted (sameKey (held .key) k) refl);
       }
         where
+          ping-on : (here : ℕ) (t : Bool) → eqb seat here ≡ t
+              → cond t (cond (isAccepted (o .answer)) (pingAfterPacket r (pingIn (seatAt room here))) (pingIn (seatAt room here))) (pingIn (seatAt room here))
+              ≡ pingIn (seatAt (setSeat room seat (holds held′)) here)
+          ping-on here true q = rw (← (eqb-true seat here q), sits, seat-set room seat (holds held′) (held-within room seat held sits)) answered
+          ping-on here false q = ap pingIn (sym (seat-set-other room seat (holds held′) here (λ z. eqb-false seat here q (sym z))))
+
           on : (k : Key) (number : ℕ) (wanted : Key) (t : Bool) → sameKey (held .key) k ≡ t
               → cond t (standsAfterPacket r (o .answer) (o .sent) number wanted (stands start past k number wanted)) (stands start past k number wanted)
               ≡ routeTo wanted (routeAt (routesBy (setSeat room seat (holds held′)) k) number)
@@ -199,9 +231,10 @@ module _ (sizes : Sizes) (start : Start) (past : Past) (room : Room) (whole : Wh
       -- where nothing changes
       keeps-same : roomAfter sizes room o ≡ room
           → ((number : ℕ) (wanted : Key) → standsAfterPacket r (o .answer) (o .sent) number wanted (routeTo wanted (routeAt (held .routes) number)) ≡ routeTo wanted (routeAt (held .routes) number))
+          → cond (isAccepted (o .answer)) (pingAfterPacket r (held .ping)) (held .ping) ≡ held .ping
           → Keeps (packetCall seat bytes) o
       unfolding seatAt
-      keeps-same after own = keeps-with held refl (after ∙ ap (setSeats room) (sym (set-getD (room .seats) seat vacant)) ∙ ap (setSeat room seat) sits) own
+      keeps-same after own answered = keeps-with held refl (after ∙ ap (setSeats room) (sym (set-getD (room .seats) seat vacant)) ∙ ap (setSeat room seat) sits) own answered
 
     -- a request
     module _ (bytes : List ℕ) (wanted : Key) (e : client.relayRead bytes ≡ read.packet (client.routingRequest wanted)) where
@@ -214,9 +247,10 @@ module _ (sizes : Sizes) (start : Start) (past : Past) (room : Room) (whole : Wh
 
       -- an answer of 0 that changes nothing
       tied-zero : (o : Outcome) → roomAfter sizes room o ≡ room → o .sent ≡ to seat (relay.routingResponse 0 wanted) ∷ [] → Keeps (packetCall seat bytes) o
-      unfolding standsAfterPacket
+      unfolding standsAfterPacket pingAfterPacket
       tied-zero o after s =
           keeps-same bytes _ e o after (λ number w. rw (s, zero-answered seat wanted long []) (absorb (Asked 0 number w) _ (on number w)))
+          (either (isAccepted (o .answer)) (held .ping))
         where
           on : (number : ℕ) (w : Key) → Asked 0 number w ≡ true → routeTo w (routeAt (held .routes) number) ≡ true
           on number w t =
@@ -226,11 +260,11 @@ module _ (sizes : Sizes) (start : Start) (past : Past) (room : Room) (whole : Wh
 
       tied-request : (own : Bool) (old lowest : Found) → find (routeTo wanted) (held .routes) ≡ old → find isFree (held .routes) ≡ lowest
           → Keeps (packetCall seat bytes) (requestAt own old lowest room seat (held .key) wanted)
-      unfolding roomAfter applyAll apply withRoute requestAt accept standsAfterPacket routeTo
+      unfolding roomAfter applyAll apply withRoute requestAt accept standsAfterPacket routeTo isAccepted pingAfterPacket
       tied-request true old lowest hf hg = tied-zero (requestAt true old lowest room seat (held .key) wanted) refl refl
       tied-request false (at place) lowest hf hg =
           keeps-same bytes _ e (requestAt false (at place) lowest room seat (held .key) wanted) refl
-          (λ number w. rw (place-answered seat wanted long [] place) (absorb (Asked (numberOfPlace place) number w) _ (on number w)))
+          (λ number w. rw (place-answered seat wanted long [] place) (absorb (Asked (numberOfPlace place) number w) _ (on number w))) refl
         where
           on : (number : ℕ) (w : Key) → Asked (numberOfPlace place) number w ≡ true → routeTo w (routeAt (held .routes) number) ≡ true
           on number w t =
@@ -240,7 +274,7 @@ module _ (sizes : Sizes) (start : Start) (past : Past) (room : Room) (whole : Wh
       tied-request false none none hf hg = tied-zero (requestAt false none none room seat (held .key) wanted) refl refl
       tied-request false none (at place) hf hg =
           keeps-with bytes _ e (requestAt false none (at place) room seat (held .key) wanted) (setRoute held place (wants wanted)) refl (rw sits)
-          (λ number w. rw (place-answered seat wanted long _ place) (on number w (eqb (numberOfPlace place) number) refl))
+          (λ number w. rw (place-answered seat wanted long _ place) (on number w (eqb (numberOfPlace place) number) refl)) refl
         where
           on : (number : ℕ) (w : Key) (t : Bool) → eqb (numberOfPlace place) number ≡ t
               → cond ((not (eqb number 0) && t) && sameKey wanted w) true (routeTo w (routeAt (held .routes) number)) ≡ routeTo w (routeAt (set (held .routes) place (wants wanted)) number)
@@ -257,10 +291,10 @@ module _ (sizes : Sizes) (start : Start) (past : Past) (room : Room) (whole : Wh
     -- a drop
     tied-drop : (bytes : List ℕ) (number : ℕ) → client.relayRead bytes ≡ read.packet (client.dropRoute number)
         → (route : Route) → routeAt (held .routes) number ≡ route → Keeps (packetCall seat bytes) (dropAt route room seat (held .key) number)
-    unfolding roomAfter applyAll apply withRoute dropAt accept refuse standsAfterPacket isAccepted routeTo
-    tied-drop bytes number e free h = keeps-same bytes _ e (dropAt free room seat (held .key) number) refl (λ n w. refl)
+    unfolding roomAfter applyAll apply withRoute dropAt accept refuse standsAfterPacket isAccepted routeTo pingAfterPacket
+    tied-drop bytes number e free h = keeps-same bytes _ e (dropAt free room seat (held .key) number) refl (λ n w. refl) refl
     tied-drop bytes number e (wants wanted) h =
-        keeps-with bytes _ e (dropAt (wants wanted) room seat (held .key) number) (setRoute held (number - firstNumber) free) refl (rw sits) (λ n w. on n w (eqb number n) refl)
+        keeps-with bytes _ e (dropAt (wants wanted) room seat (held .key) number) (setRoute held (number - firstNumber) free) refl (rw sits) (λ n w. on n w (eqb number n) refl) refl
       where
         place : number ≡ numberOfPlace (number - firstNumber)
         place = wanted-high (held .routes) number wanted h
@@ -273,35 +307,42 @@ module _ (sizes : Sizes) (start : Start) (past : Past) (room : Room) (whole : Wh
     -- the packets that change nothing
     tied-oob : (bytes : List ℕ) (wanted : Key) (payload : List ℕ) → client.relayRead bytes ≡ read.packet (client.oobSend wanted payload)
         → (other : Found) → Keeps (packetCall seat bytes) (oobTo other seat (held .key) payload)
-    unfolding roomAfter applyAll oobTo accept standsAfterPacket
-    tied-oob bytes wanted payload e none = keeps-same bytes _ e (oobTo none seat (held .key) payload) refl (λ n w. refl)
-    tied-oob bytes wanted payload e (at other) = keeps-same bytes _ e (oobTo (at other) seat (held .key) payload) refl (λ n w. refl)
+    unfolding roomAfter applyAll oobTo accept standsAfterPacket isAccepted pingAfterPacket
+    tied-oob bytes wanted payload e none = keeps-same bytes _ e (oobTo none seat (held .key) payload) refl (λ n w. refl) refl
+    tied-oob bytes wanted payload e (at other) = keeps-same bytes _ e (oobTo (at other) seat (held .key) payload) refl (λ n w. refl) refl
 
     module _ (bytes : List ℕ) (number : ℕ) (payload : List ℕ) (e : client.relayRead bytes ≡ read.packet (client.routedData number payload)) where
       tied-carry : (p : Peer) → Keeps (packetCall seat bytes) (carryTo p seat payload)
-      unfolding roomAfter applyAll carryTo accept refuse standsAfterPacket
-      tied-carry alone = keeps-same bytes _ e (carryTo alone seat payload) refl (λ n w. refl)
-      tied-carry (joined other place) = keeps-same bytes _ e (carryTo (joined other place) seat payload) refl (λ n w. refl)
+      unfolding roomAfter applyAll carryTo accept refuse standsAfterPacket isAccepted pingAfterPacket
+      tied-carry alone = keeps-same bytes _ e (carryTo alone seat payload) refl (λ n w. refl) refl
+      tied-carry (joined other place) = keeps-same bytes _ e (carryTo (joined other place) seat payload) refl (λ n w. refl) refl
 
       tied-data : (route : Route) → Keeps (packetCall seat bytes) (dataAt route room seat (held .key) payload)
-      unfolding roomAfter applyAll dataAt refuse standsAfterPacket
-      tied-data free = keeps-same bytes _ e (dataAt free room seat (held .key) payload) refl (λ n w. refl)
+      unfolding roomAfter applyAll dataAt refuse standsAfterPacket isAccepted pingAfterPacket
+      tied-data free = keeps-same bytes _ e (dataAt free room seat (held .key) payload) refl (λ n w. refl) refl
       tied-data (wants wanted) = tied-carry (peer room seat (held .key) wanted)
 
+    -- a pong
+    tied-pong : (bytes : List ℕ) (n : ℕ) → client.relayRead bytes ≡ read.packet (client.pong n) → (t : Bool) → eqb n (held .ping .number) ≡ t
+        → Keeps (packetCall seat bytes) (pongAt t seat)
+    unfolding roomAfter applyAll apply withoutPing pongAt accept standsAfterPacket isAccepted pingAfterPacket
+    tied-pong bytes n e true h = keeps-with bytes _ e (pongAt true seat) (setPing held (noneSince (held .ping .time))) refl (rw sits) (λ n w. refl) (rw h)
+    tied-pong bytes n e false h = keeps-same bytes _ e (pongAt false seat) refl (λ n w. refl) (rw h)
+
     tied-act : (bytes : List ℕ) (p : client.FromClient) → client.relayRead bytes ≡ read.packet p → Keeps (packetCall seat bytes) (act p room seat held)
-    unfolding roomAfter applyAll act accept standsAfterPacket
+    unfolding roomAfter applyAll act accept standsAfterPacket isAccepted pingAfterPacket
     tied-act bytes (client.routingRequest wanted) e =
         tied-request bytes wanted e (sameKey wanted (held .key)) (find (routeTo wanted) (held .routes)) (find isFree (held .routes)) refl refl
     tied-act bytes (client.dropRoute number) e = tied-drop bytes number e (routeAt (held .routes) number) refl
-    tied-act bytes (client.ping n) e = keeps-same bytes _ e (act (client.ping n) room seat held) refl (λ n w. refl)
-    tied-act bytes (client.pong n) e = keeps-same bytes _ e (act (client.pong n) room seat held) refl (λ n w. refl)
+    tied-act bytes (client.ping n) e = keeps-same bytes _ e (act (client.ping n) room seat held) refl (λ n w. refl) refl
+    tied-act bytes (client.pong n) e = tied-pong bytes n e (eqb n (held .ping .number)) refl
     tied-act bytes (client.oobSend wanted payload) e = tied-oob bytes wanted payload e (find (seatOf wanted) (room .seats))
     tied-act bytes (client.routedData number payload) e = tied-data bytes number payload e (routeAt (held .routes) number)
 
     tied-read : (bytes : List ℕ) (r : Read client.FromClient) → client.relayRead bytes ≡ r → Keeps (packetCall seat bytes) (actOn r room seat held)
-    unfolding roomAfter applyAll actOn refuse standsAfterPacket
+    unfolding roomAfter applyAll actOn refuse standsAfterPacket isAccepted pingAfterPacket
     tied-read bytes (read.packet p) e = tied-act bytes p e
-    tied-read bytes (read.refused why) e = keeps-same bytes _ e (actOn (read.refused why) room seat held) refl (λ n w. refl)
+    tied-read bytes (read.refused why) e = keeps-same bytes _ e (actOn (read.refused why) room seat held) refl (λ n w. refl) refl
 
   tied-leave-from : (seat : ℕ) (s : Seat) → seatAt room seat ≡ s → Keeps (leave seat) (leaveFrom s room seat)
   tied-leave-from seat vacant e = tied-no-leave seat e
@@ -312,12 +353,19 @@ module _ (sizes : Sizes) (start : Start) (past : Past) (room : Room) (whole : Wh
   tied-packet seat bytes vacant e = tied-no-packet seat e bytes
   tied-packet seat bytes (holds held) e = tied-read seat held e bytes (client.relayRead bytes) refl
 
+  tied-tick-at : (zero back : Bool) (time number : ℕ) → Keeps (tick time number) (tickAt zero back room time number)
+  unfolding roomAfter applyAll tickAt refuse sitter sitsAfter isAccepted stands standsAfter maker putOut putOutIf isAmong clockOf clockAfter pingOf pingAfter
+  tied-tick-at true back time number = record { seats = tie .seats; clock = tie .clock; pings = tie .pings; sits = tie .sits; requests = tie .requests }
+  tied-tick-at false true time number = record { seats = tie .seats; clock = tie .clock; pings = tie .pings; sits = tie .sits; requests = tie .requests }
+  tied-tick-at false false time number = tied-tick sizes start past room whole tie time number
+
   -- every call keeps the tie
   pub tied-after : (call : Call) → Tied start (event room call ∷ past) (roomAfter sizes room (outcome room call))
   unfolding event outcome
   tied-after (arrive key) = tied-arrive key (find (seatOf key) (room .seats)) (find isVacant (room .seats)) refl refl (whole-after sizes room whole (arrive key))
   tied-after (leave seat) = tied-leave-from seat (seatAt room seat) refl
   tied-after (packetCall seat bytes) = tied-packet seat bytes (seatAt room seat) refl
+  tied-after (tick time number) = tied-tick-at (eqb number 0) (ltb time (room .clock)) time number
 
 -- ---- a refusal
 
@@ -328,11 +376,34 @@ none-answered (suc number) t = rw (ne-eqb (suc number) 0 (λ e. omega arith), ne
 
 module _ (why : Refusal) where
   -- a refused call that sent nothing leaves who sits where
-  refused-sits : (call : Call) (here : ℕ) (before : Maker) → sitsAfter call (refused why) here before ≡ before
+  refused-sits : (call : Call) (here : ℕ) (ping : Ping) (before : Maker) → sitsAfter call (refused why) here ping before ≡ before
   unfolding sitsAfter sitsAfterArrival isAccepted
-  refused-sits (arrive key) here before = refl
-  refused-sits (leave seat) here before = refl
-  refused-sits (packetCall seat bytes) here before = refl
+  refused-sits (arrive key) here ping before = refl
+  refused-sits (leave seat) here ping before = refl
+  refused-sits (packetCall seat bytes) here ping before = refl
+  refused-sits (tick time number) here ping before = refl
+
+  -- the clock, each ping, and nobody is put out
+  refused-clock : (call : Call) (before : ℕ) → clockAfter call (refused why) before ≡ before
+  unfolding clockAfter isAccepted
+  refused-clock (arrive key) before = refl
+  refused-clock (leave seat) before = refl
+  refused-clock (packetCall seat bytes) before = refl
+  refused-clock (tick time number) before = refl
+
+  refused-ping : (call : Call) (clock here : ℕ) (before : Ping) → pingAfter call (refused why) [] clock here before ≡ before
+  unfolding pingAfter pingAfterArrival isAccepted
+  refused-ping (arrive key) clock here before = refl
+  refused-ping (leave seat) clock here before = refl
+  refused-ping (packetCall seat bytes) clock here before = refl
+  refused-ping (tick time number) clock here before = refl
+
+  pub refused-puts-out : (start : Start) (past : Past) (call : Call) → putOut start past call (refused why) ≡ []
+  unfolding putOut putOutIf isAccepted
+  refused-puts-out start past (arrive key) = refl
+  refused-puts-out start past (leave seat) = refl
+  refused-puts-out start past (packetCall seat bytes) = refl
+  refused-puts-out start past (tick time number) = refl
 
   -- and which requests stand
   refused-packet : (r : Read client.FromClient) (number : ℕ) (wanted : Key) (before : Bool) → standsAfterPacket r (refused why) [] number wanted before ≡ before
@@ -350,6 +421,7 @@ module _ (why : Refusal) where
   refused-own (arrive key) number wanted before = refl
   refused-own (leave seat) number wanted before = refl
   refused-own (packetCall seat bytes) number wanted before = refused-packet (client.relayRead bytes) number wanted before
+  refused-own (tick time ping) number wanted before = refl
 
   refused-stands : (m : Maker) (call : Call) (key : Key) (number : ℕ) (wanted : Key) (before : Bool)
       → standsAfter m (record { call = call; answer = refused why; sent = [] }) key number wanted before ≡ before
@@ -360,10 +432,15 @@ module _ (why : Refusal) where
   -- so it keeps the tie, whatever it was refused for
   pub tied-refused : (start : Start) (past : Past) (room : Room) → Tied start past room → (call : Call)
       → Tied start (record { call = call; answer = refused why; sent = [] } ∷ past) room
-  unfolding sitter stands
+  unfolding sitter stands clockOf pingOf isAmong
   tied-refused start past room tie call = record {
-    sits = λ seat. refused-sits call seat (sitter start past seat) ∙ tie .sits seat;
-    requests = λ key number wanted. refused-stands (maker start past call) call key number wanted (stands start past key number wanted) ∙ tie .requests key number wanted;
+    seats = tie .seats;
+    clock = refused-clock call (clockOf start past) ∙ tie .clock;
+    pings = λ seat. refused-ping call (clockOf start past) seat (pingOf start past seat) ∙ tie .pings seat;
+    sits = λ seat. refused-sits call seat (pingOf start past seat) (sitter start past seat) ∙ tie .sits seat;
+    requests = λ key number wanted.
+        rw (refused-puts-out start past call)
+        (refused-stands (maker start past call) call key number wanted (stands start past key number wanted) ∙ tie .requests key number wanted);
   }
 
 -- ---- what the tie tells
@@ -404,17 +481,20 @@ tied-history sizes start past room whole tie (call ∷ calls) =
 
 -- any room has a start that says what its tables say
 pub tied-start : (room : Room) → Tied (startOf room) [] room
-unfolding startOf sitter stands
-tied-start room = record { sits = λ seat. refl; requests = λ key number wanted. refl }
+unfolding startOf sitter stands clockOf pingOf
+tied-start room = record { seats = refl; clock = refl; pings = λ seat. refl; sits = λ seat. refl; requests = λ key number wanted. refl }
 
 -- from the empty room
-pub tied-empty : (sizes : Sizes) → Tied fromEmpty [] (emptyRoom sizes)
-unfolding emptyRoom sitter stands clientIn routesBy routesIn seatAt seatOf routeTo
+pub tied-empty : (sizes : Sizes) → Tied (fromEmpty sizes) [] (emptyRoom sizes)
+unfolding emptyRoom sitter stands clientIn routesBy routesIn seatAt seatOf routeTo clockOf pingOf pingIn
 tied-empty sizes = record {
+  seats = sym (length-replicate (sizes .seats) vacant);
+  clock = refl;
+  pings = λ seat. rw (getD-all (sizes .seats) seat vacant);
   sits = λ seat. rw (getD-all (sizes .seats) seat vacant);
   requests = λ key number wanted. rw (find-replicate (seatOf key) (sizes .seats) vacant refl, route-none number);
 }
 
 pub tied-from-empty : (sizes : Sizes) (calls : List Call)
-    → Tied fromEmpty (pastAfter [] (transcript sizes (emptyRoom sizes) calls)) (roomAfterAll sizes (emptyRoom sizes) calls)
-tied-from-empty sizes calls = tied-history sizes fromEmpty [] (emptyRoom sizes) (whole-empty sizes) (tied-empty sizes) calls
+    → Tied (fromEmpty sizes) (pastAfter [] (transcript sizes (emptyRoom sizes) calls)) (roomAfterAll sizes (emptyRoom sizes) calls)
+tied-from-empty sizes calls = tied-history sizes (fromEmpty sizes) [] (emptyRoom sizes) (whole-empty sizes) (tied-empty sizes) calls

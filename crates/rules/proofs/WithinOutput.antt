@@ -1,13 +1,14 @@
--- No call writes more than the output that it needs: document 01's bound for lent output, "under 2,048 for packet and leave". In a whole room of at most 240
--- numbers, whose seated keys have 32 bytes at most, a leave writes 5 bytes for each connected peer, a request 37, and 10 more where it connects, a drop 5, a
--- ping 12, an out-of-band send 1,060 at most, data 2,035 at most, and an arrival nothing. So output that document 01 asks for is never too short. And the
--- seated keys stay so over every call, where one who arrives has such a key. Assumes nothing.
+-- No call writes more than the output that it needs: document 01's bound for lent output, "under 2,048 for packet and leave", and document 02's, "10 (tick output
+-- under 5,120)". In a whole room of at most 40 seats and 240 numbers, whose seated keys have 32 bytes at most, a leave writes 5 bytes for each connected peer, a
+-- request 37, and 10 more where it connects, a drop 5, a ping 12, an out-of-band send 1,060 at most, data 2,035 at most, an arrival nothing, and a tick 4,380 at
+-- most (`TickWithin`). So output that the papers ask for is never too short. And the seated keys stay so over every call, where one who arrives has such a key.
+-- Assumes nothing.
 use mathlib.Core.Path.{_≡_, refl, ap, subst, _∙_}
 use mathlib.Core.Bool.{Bool, true, false, _&&_, cond}
 use mathlib.Core.List.{List, [], _∷_}
 use Prim.Native.Nat.{ℕ, _*_, _≤_}
 use native.Mathlib.Omega.{arith}
-use lib.Dec.{eqb}
+use lib.Dec.{eqb, ltb}
 use lib.ListN.{length, length-append}
 use Rattle.wire.proofs.Numbers.{length-bytesOf}
 use Rattle.key.specs.Keys.{sameKey}
@@ -17,14 +18,15 @@ use Rattle.packet_laws.specs.FromClient as client
 use Rattle.packet_laws.specs.FromClient.{Within}
 use Rattle.packet_laws.specs.FromRelay as relay
 use Rattle.packet_laws.proofs.ReadBounds.{read-within}
-use Rattle.rules.specs.Room.{Sizes, Key, Route, free, wants, Seat, vacant, holds, Room, Found, none, at, find, seatOf, routeTo, isFree, seatAt, routeAt, numberOfPlace, Peer, alone, joined, Held}
+use Rattle.rules.specs.Room.{Sizes, Key, Route, free, wants, Ping, Seat, vacant, holds, Room, Found, none, at, find, seatOf, routeTo, isFree, pingIn, seatAt, routeAt, numberOfPlace, Peer, alone, joined, Held}
 use Rattle.rules.specs.Whole.{Whole, ShortKeys}
-use Rattle.rules.specs.Call.{Call, arrive, leave, packetCall, needed, mostNeeded, Answer, accepted, refused, Sent}
-use Rattle.rules.specs.Outcome.{refuse, accept, sentBytes, roomAfter, peer, toPeer, to, tellPeer, tellPeers, leaveFrom, tellBoth, requestAt, dropAt, oobTo, carryTo, dataAt, act, actOn, packetFrom, outcome}
+use Rattle.rules.specs.Call.{Call, arrive, leave, packetCall, tick, needed, mostNeeded, Answer, accepted, refused, Sent}
+use Rattle.rules.specs.Outcome.{refuse, accept, sentBytes, roomAfter, peer, toPeer, to, tellPeer, tellPeers, leaveFrom, tellBoth, requestAt, dropAt, oobTo, carryTo, dataAt, pongAt, act, actOn, packetFrom, overdue, outcome}
 use Rattle.rules.specs.History.{event}
-use Rattle.rules.specs.Transcript.{Maker, nobody, clientOf, isAccepted, sitsAfter, sitsAfterArrival, sitter}
+use Rattle.rules.specs.Transcript.{Maker, nobody, clientOf, isAccepted, pingOf, sitsAfter, sitsAfterArrival, sitter}
 use Rattle.rules.specs.After.{clientIn, startOf}
 use Rattle.rules.proofs.SentLaws.{count-more, count-one, count-append}
+use Rattle.rules.proofs.TickWithin.{tick-at-within}
 use Rattle.rules.proofs.QuietArrival.{arrive-sends-nothing}
 use Rattle.rules.proofs.Tied.{tied-start, tied-after}
 
@@ -97,13 +99,18 @@ module _ (room : Room) where
   data-within free seat key bytes l = none-within _
   data-within (wants wanted) seat key bytes l = carry-within (peer room seat key wanted) seat bytes l
 
+  pong-within : (t : Bool) (seat : ℕ) → size (pongAt t seat .sent) ≤ 0
+  unfolding pongAt accept
+  pong-within true seat = none-within _
+  pong-within false seat = none-within _
+
   act-within : (p : client.FromClient) → Within p → (seat : ℕ) (held : Held) → length (held .key) ≤ 32 → size (act p room seat held .sent) ≤ 2035
   unfolding act accept to relay.relayBytes Within
   act-within (client.routingRequest wanted) w seat held k =
       let h = request-within (sameKey wanted (held .key)) (find (routeTo wanted) (held .routes)) (find isFree (held .routes)) seat (held .key) wanted w in omega arith
   act-within (client.dropRoute number) w seat held k = let h = drop-within (routeAt (held .routes) number) seat (held .key) number in omega arith
   act-within (client.ping n) w seat held k = omega (arith, count-one (to seat (relay.pong n)), length-bytesOf 8 n)
-  act-within (client.pong n) w seat held k = none-within _
+  act-within (client.pong n) w seat held k = let h = pong-within (eqb n (held .ping .number)) seat in omega arith
   act-within (client.oobSend wanted bytes) w seat held k = let h = oob-within (find (seatOf wanted) (room .seats)) seat (held .key) bytes k (w .1) in omega arith
   act-within (client.routedData number bytes) w seat held k = let h = data-within (routeAt (held .routes) number) seat (held .key) bytes (w .1) in omega arith
 
@@ -113,12 +120,13 @@ module _ (room : Room) where
   acted-within bytes (read.packet p) e seat held k = act-within p (read-within bytes p e) seat held k
   acted-within bytes (read.refused why) e seat held k = none-within _
 
-module _ (sizes : Sizes) (few : sizes .numbers ≤ 240) (room : Room) (whole : Whole sizes room) (keys : ShortKeys room) where
-  leave-within : (seat : ℕ) (x : Seat) → seatAt room seat ≡ x → size (leaveFrom x room seat .sent) ≤ 1200
+module _ (sizes : Sizes) (few : sizes .numbers ≤ 240) (room : Room) (whole : Whole sizes room) where
+  pub leave-within : (seat : ℕ) (x : Seat) → seatAt room seat ≡ x → size (leaveFrom x room seat .sent) ≤ 1200
   unfolding leaveFrom refuse accept
   leave-within seat vacant e = none-within _
   leave-within seat (holds held) e = omega (arith, tells-within room seat (held .key) (held .routes), whole .numbers seat held e)
 
+module _ (sizes : Sizes) (seats : sizes .seats ≤ 40) (few : sizes .numbers ≤ 240) (room : Room) (whole : Whole sizes room) (keys : ShortKeys room) where
   packet-within : (seat : ℕ) (bytes : List ℕ) (x : Seat) → seatAt room seat ≡ x → size (packetFrom x room seat bytes .sent) ≤ 2035
   unfolding packetFrom refuse
   packet-within seat bytes vacant e = none-within _
@@ -128,13 +136,15 @@ module _ (sizes : Sizes) (few : sizes .numbers ≤ 240) (room : Room) (whole : W
   pub sent-within : (call : Call) → length (sentBytes (outcome room call .sent)) ≤ needed call
   unfolding outcome
   sent-within (arrive key) = omega (arith, ap size (arrive-sends-nothing room key), none-within 0)
-  sent-within (leave seat) = omega (arith, leave-within seat (seatAt room seat) refl)
+  sent-within (leave seat) = omega (arith, leave-within sizes few room whole seat (seatAt room seat) refl)
   sent-within (packetCall seat bytes) = omega (arith, packet-within seat bytes (seatAt room seat) refl)
+  sent-within (tick time number) = tick-at-within sizes seats room whole (eqb number 0) (ltb time (room .clock)) time number
 
 pub needs-within : (call : Call) → needed call ≤ mostNeeded
 needs-within (arrive key) = omega arith
 needs-within (leave seat) = omega arith
 needs-within (packetCall seat bytes) = omega arith
+needs-within (tick time number) = omega arith
 
 -- ---- the keys stay short
 
@@ -147,20 +157,21 @@ one-of true a b h g = h
 one-of false a b h g = g
 
 -- who sits in a seat after a call sat there before, or arrived
-sits-short : (call : Call) (answer : Answer) (here : ℕ) (before : Maker) → ((key : Key) → call ≡ arrive key → length key ≤ 32) → ShortOf before
-    → ShortOf (sitsAfter call answer here before)
+sits-short : (call : Call) (answer : Answer) (here : ℕ) (ping : Ping) (before : Maker) → ((key : Key) → call ≡ arrive key → length key ≤ 32) → ShortOf before
+    → ShortOf (sitsAfter call answer here ping before)
 unfolding sitsAfter sitsAfterArrival
-sits-short (arrive key) (accepted seat count) here before k h = one-of (eqb seat here) (clientOf key) before (k key refl) h
-sits-short (arrive key) (refused why) here before k h = h
-sits-short (leave seat) answer here before k h = one-of (isAccepted answer && eqb seat here) nobody before tt h
-sits-short (packetCall seat bytes) answer here before k h = h
+sits-short (arrive key) (accepted seat count) here ping before k h = one-of (eqb seat here) (clientOf key) before (k key refl) h
+sits-short (arrive key) (refused why) here ping before k h = h
+sits-short (leave seat) answer here ping before k h = one-of (isAccepted answer && eqb seat here) nobody before tt h
+sits-short (packetCall seat bytes) answer here ping before k h = h
+sits-short (tick time number) answer here ping before k h = one-of (isAccepted answer && overdue time ping) nobody before tt h
 
 pub keys-stay-short : (sizes : Sizes) (room : Room) → Whole sizes room → ShortKeys room → (call : Call) → ((key : Key) → call ≡ arrive key → length key ≤ 32)
     → ShortKeys (roomAfter sizes room (outcome room call))
-unfolding clientIn startOf sitter event
+unfolding clientIn startOf sitter pingOf event
 keys-stay-short sizes room whole keys call k seat held e =
     let t = tied-after sizes (startOf room) [] room whole (tied-start room) call .sits seat in
-    subst ShortOf (t ∙ ap clientIn e) (sits-short call (outcome room call .answer) seat (clientIn (seatAt room seat)) k (before (seatAt room seat) refl))
+    subst ShortOf (t ∙ ap clientIn e) (sits-short call (outcome room call .answer) seat (pingIn (seatAt room seat)) (clientIn (seatAt room seat)) k (before (seatAt room seat) refl))
   where
     before : (x : Seat) → seatAt room seat ≡ x → ShortOf (clientIn x)
     before vacant q = tt

@@ -16,7 +16,7 @@ pub data RefusedOrAccepted (o : Outcome) : Type 0 where
   refusal : (why : Refusal) → o ≡ refuse why → RefusedOrAccepted o
   acceptance : (seat : ℕ) (changes : List Change) (sent : List Sent) → o ≡ accept seat changes sent → RefusedOrAccepted o
 
--- the same of a call made in a seat: where it is accepted, it answers that seat
+-- the same of a call made in a seat: where it is accepted, it answers that seat. (A tick is made in none, and answers 0)
 pub data MadeAt (seat : ℕ) (o : Outcome) : Type 0 where
   refusal : (why : Refusal) → o ≡ refuse why → MadeAt seat o
   acceptance : (changes : List Change) (sent : List Sent) → o ≡ accept seat changes sent → MadeAt seat o

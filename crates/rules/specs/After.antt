@@ -1,13 +1,14 @@
 -- Where a history has come to: the room that its last call returned, and what has happened by then. And when the room's tables and what has
--- happened say the same of who sits where and which requests stand.
+-- happened say the same of who sits where, which requests stand, the clock and the pings.
 use mathlib.Core.List.{List, [], _∷_}
 use mathlib.Core.Path.{_≡_}
 use Prim.Native.Nat.{ℕ}
-use Rattle.rules.specs.Room.{Sizes, Key, Route, Seat, vacant, holds, Room, Found, none, at, find, seatOf, routeTo, routesOf, seatAt, routeAt}
+use lib.ListN.{length}
+use Rattle.rules.specs.Room.{Sizes, Key, Route, Seat, vacant, holds, Room, Found, none, at, find, seatOf, routeTo, routesOf, pingIn, seatAt, routeAt}
 use Rattle.rules.specs.Call.{Call}
 use Rattle.rules.specs.Outcome.{outcome, roomAfter}
 use Rattle.rules.specs.History.{Event}
-use Rattle.rules.specs.Transcript.{Past, Maker, nobody, clientOf, Start, sitter, stands}
+use Rattle.rules.specs.Transcript.{Past, Maker, nobody, clientOf, Start, clockOf, pingOf, sitter, stands}
 
 -- "each later one the room that the last returned"
 unfoldable pub roomAfterAll : Sizes → Room → List Call → Room
@@ -34,9 +35,18 @@ routesBy room key = routesIn (find (seatOf key) (room .seats)) room
 
 -- the room and the past say the same
 pub record Tied (start : Start) (past : Past) (room : Room) : Type 0 where
+  pub seats : start .seats ≡ length (room .seats)
   pub sits : (seat : ℕ) → sitter start past seat ≡ clientIn (seatAt room seat)
   pub requests : (key : Key) (number : ℕ) (wanted : Key) → stands start past key number wanted ≡ routeTo wanted (routeAt (routesBy room key) number)
+  pub clock : clockOf start past ≡ room .clock
+  pub pings : (seat : ℕ) → pingOf start past seat ≡ pingIn (seatAt room seat)
 
 -- the start that says what a room's tables say
 unfoldable pub startOf : Room → Start
-startOf room = record { sits = λ seat. clientIn (seatAt room seat); standing = λ key number wanted. routeTo wanted (routeAt (routesBy room key) number) }
+startOf room = record {
+  seats = length (room .seats);
+  sits = λ seat. clientIn (seatAt room seat);
+  standing = λ key number wanted. routeTo wanted (routeAt (routesBy room key) number);
+  clock = room .clock;
+  ping = λ seat. pingIn (seatAt room seat);
+}

@@ -1,7 +1,7 @@
--- What is asked of the relay, and what it answers. Document 01, "The room".
+-- What is asked of the relay, and what it answers. Document 01, "The room", and document 02, "Notice dead laptops".
 use mathlib.Core.List.{List}
 use mathlib.Core.Path.{_≡_}
-use Prim.Native.Nat.{ℕ}
+use Prim.Native.Nat.{ℕ, _^_, _<_}
 use lib.ListN.{length}
 use Rattle.refusal.specs.declared.Refusal.{Refusal}
 use Rattle.rules.specs.Room.{Key}
@@ -10,25 +10,31 @@ pub data Call : Type 0 where
   arrive : Key → Call
   leave : ℕ → Call
   packetCall : ℕ → List ℕ → Call
+  -- document 02: "A tick brings the time and a nonzero ping number."
+  tick : ℕ → ℕ → Call
 
--- "A key is 32 bytes.": so has one that arrives. (One that is asked for has, by the packet's length)
-abbrev pub KeyOf32 : Call → Type 0
-KeyOf32 (arrive key) = length key ≡ 32
-KeyOf32 (leave seat) = Unit {0}
-KeyOf32 (packetCall seat bytes) = Unit {0}
+-- values that the fields of a call can have. "A key is 32 bytes.": so has one that arrives. (One that is asked for has, by the packet's length.) A time and a
+-- ping number are kept in 8 bytes each
+abbrev pub FieldsFit : Call → Type 0
+FieldsFit (arrive key) = length key ≡ 32
+FieldsFit (leave seat) = Unit {0}
+FieldsFit (packetCall seat bytes) = Unit {0}
+FieldsFit (tick time number) = (time < 2 ^ 64) × (number < 2 ^ 64)
 
--- the output that a call needs: "lent output too short: under 2,048 for packet and leave"; an Arrive "writes nothing"
+-- the output that a call needs: "lent output too short: under 2,048 for packet and leave"; an Arrive "writes nothing"; document 02: "10 (tick output under
+-- 5,120)"
 abbrev pub needed : Call → ℕ
 needed (arrive key) = 0
 needed (leave seat) = 2048
 needed (packetCall seat bytes) = 2048
+needed (tick time number) = 5120
 
 -- no call needs more
 abbrev pub mostNeeded : ℕ
-mostNeeded = 2048
+mostNeeded = 5120
 
 -- an accepted call answers a seat and how many bytes it wrote. An Arrive's seat is the one it takes, and its count 0; document 01 has no seat in the answer
--- of a Leave or a packet: there it is the call's own
+-- of a Leave or a packet: there it is the call's own. A tick has no seat: it answers 0 there
 pub data Answer : Type 0 where
   accepted : ℕ → ℕ → Answer
   refused : Refusal → Answer

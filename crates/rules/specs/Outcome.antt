@@ -1,21 +1,21 @@
--- What each call does: document 01, "The room", sentence by sentence, with document 02's "A client that asks for itself". An outcome is an answer, the changes
--- that it makes to the room, and what it sends. To be read for whole rooms (`Whole`): refusal 11, and 10, belong to lent memory and stand where the lent room
--- and output do.
-use mathlib.Core.Bool.{Bool, true, false}
-use mathlib.Core.List.{List, [], _∷_, _++_}
+-- What each call does: document 01, "The room", sentence by sentence, with document 02's "A client that asks for itself" and "Notice dead laptops". An outcome
+-- is an answer, the changes that it makes to the room, and what it sends. To be read for whole rooms (`Whole`): refusal 11, and 10, belong to lent memory and stand
+-- where the lent room and output do.
+use mathlib.Core.Bool.{Bool, true, false, _&&_, not}
+use mathlib.Core.List.{List, [], _∷_, _++_, map}
 use Prim.Native.Nat.{ℕ, _+_, _-_}
-use lib.Dec.{eqb}
+use lib.Dec.{eqb, leb, ltb}
 use lib.ListN.{length}
 use Rattle.refusal.specs.declared.Refusal.{Refusal}
-use Rattle.refusal.specs.declared.Refusal.the-variants.{RoomFull, AlreadySeated, NotSeated, NoSuchRoute, NotConnected}
+use Rattle.refusal.specs.declared.Refusal.the-variants.{RoomFull, AlreadySeated, NotSeated, ZeroPing, NoSuchRoute, NotConnected, ClockBack}
 use Rattle.wire.specs.Numbers.{bytesOf}
 use Rattle.key.specs.Keys.{sameKey}
 use Rattle.packet_laws.specs.Read.{Read}
 use Rattle.packet_laws.specs.Read as read
 use Rattle.packet_laws.specs.FromClient as client
 use Rattle.packet_laws.specs.FromRelay as relay
-use Rattle.rules.specs.Room.{Sizes, Key, Route, free, wants, Held, Seat, vacant, holds, Room, newcomer, setRoute, setSeat, Found, none, at, find, seatOf, isVacant, routeTo, isFree, routesOf, seatAt, routeAt, firstNumber, numberOfPlace, Peer, alone, joined}
-use Rattle.rules.specs.Call.{Call, arrive, leave, packetCall, Answer, accepted, refused, Sent}
+use Rattle.rules.specs.Room.{Sizes, Key, Route, free, wants, Ping, Held, Seat, vacant, holds, Room, noneSince, newcomer, setPing, setRoute, setClock, setSeat, Found, none, at, find, seatOf, isVacant, routeTo, isFree, routesOf, pingIn, seatAt, routeAt, firstNumber, numberOfPlace, placesFrom, Peer, alone, joined}
+use Rattle.rules.specs.Call.{Call, arrive, leave, packetCall, tick, Answer, accepted, refused, Sent}
 
 -- ---- changes
 
@@ -25,17 +25,32 @@ pub data Change : Type 0 where
   seatEmptied : ℕ → Change
   routeGiven : ℕ → ℕ → Key → Change
   routeFreed : ℕ → ℕ → Change
+  -- the clock is set to a time; a seat was pinged at a time, with a number; the ping of a seat was answered
+  clockSet : ℕ → Change
+  pingSent : ℕ → ℕ → ℕ → Change
+  pingAnswered : ℕ → Change
 
--- a seat with one of its routes replaced
+-- a seat with one of its routes replaced; pinged at a time, with a number; with none outstanding any more
 unfoldable pub withRoute : Seat → ℕ → Route → Seat
 withRoute vacant place route = vacant
 withRoute (holds held) place route = holds (setRoute held place route)
 
+unfoldable pub withPing : Seat → ℕ → ℕ → Seat
+withPing vacant time number = vacant
+withPing (holds held) time number = holds (setPing held (record { time = time; number = number }))
+
+unfoldable pub withoutPing : Seat → Seat
+withoutPing vacant = vacant
+withoutPing (holds held) = holds (setPing held (noneSince (held .ping .time)))
+
 unfoldable pub apply : Sizes → Room → Change → Room
-apply sizes room (seatTaken seat key) = setSeat room seat (holds (newcomer sizes key))
+apply sizes room (seatTaken seat key) = setSeat room seat (holds (newcomer sizes (room .clock) key))
 apply sizes room (seatEmptied seat) = setSeat room seat vacant
 apply sizes room (routeGiven seat place key) = setSeat room seat (withRoute (seatAt room seat) place (wants key))
 apply sizes room (routeFreed seat place) = setSeat room seat (withRoute (seatAt room seat) place free)
+apply sizes room (clockSet time) = setClock room time
+apply sizes room (pingSent seat time number) = setSeat room seat (withPing (seatAt room seat) time number)
+apply sizes room (pingAnswered seat) = setSeat room seat (withoutPing (seatAt room seat))
 
 unfoldable pub applyAll : Sizes → Room → List Change → Room
 applyAll sizes room [] = room
@@ -170,13 +185,18 @@ unfoldable pub dataAt : Route → Room → ℕ → Key → List ℕ → Outcome
 dataAt free room seat key bytes = refuse NoSuchRoute
 dataAt (wants wanted) room seat key bytes = carryTo (peer room seat key wanted) seat bytes
 
+-- Pong: document 02, "A pong with the outstanding number clears it; other pongs do nothing."
+unfoldable pub pongAt : Bool → ℕ → Outcome
+pongAt true seat = accept seat (pingAnswered seat ∷ []) []
+pongAt false seat = accept seat [] []
+
 unfoldable pub act : client.FromClient → Room → ℕ → Held → Outcome
 act (client.routingRequest wanted) room seat held =
     requestAt (sameKey wanted (held .key)) (find (routeTo wanted) (held .routes)) (find isFree (held .routes)) room seat (held .key) wanted
 act (client.dropRoute number) room seat held = dropAt (routeAt (held .routes) number) room seat (held .key) number
--- "Ping sends the asker a pong with the same number. Pong does nothing."
+-- "Ping sends the asker a pong with the same number."
 act (client.ping n) room seat held = accept seat [] (to seat (relay.pong n) ∷ [])
-act (client.pong n) room seat held = accept seat [] []
+act (client.pong n) room seat held = pongAt (eqb n (held .ping .number)) seat
 act (client.oobSend wanted bytes) room seat held = oobTo (find (seatOf wanted) (room .seats)) seat (held .key) bytes
 act (client.routedData number bytes) room seat held = dataAt (routeAt (held .routes) number) room seat (held .key) bytes
 
@@ -189,7 +209,55 @@ unfoldable pub packetFrom : Seat → Room → ℕ → List ℕ → Outcome
 packetFrom vacant room seat bytes = refuse NotSeated
 packetFrom (holds held) room seat bytes = actOn (client.relayRead bytes) room seat held
 
+-- ---- Tick(time, number): document 02, "Notice dead laptops"
+
+-- "whose ping has stood unanswered for 10 seconds or more", at the tick's time
+unfoldable pub overdue : ℕ → Ping → Bool
+overdue time ping = not (eqb (ping .number) 0) && leb 10 (time - ping .time)
+
+unfoldable pub isOverdue : ℕ → Seat → Bool
+isOverdue time seat = overdue time (pingIn seat)
+
+-- "with none outstanding, last pinged 30 seconds ago or more", at the tick's time
+unfoldable pub isDue : ℕ → Seat → Bool
+isDue time vacant = false
+isDue time (holds held) = eqb (held .ping .number) 0 && leb 30 (time - held .ping .time)
+
+-- two outcomes of one tick, the one after the other: the changes and the records of both. No part of a tick is refused: each seat that leaves holds a client. So
+-- this is `andThen` of the Leaves, and then of the pings (`leave-then` and `tick-in-turn`, proofs/TickInTurn.antt)
+abbrev pub both : Outcome → Outcome → Outcome
+both first second = accept 0 (first .changes ++ second .changes) (first .sent ++ second .sent)
+
+-- "First, in rising seat order, every seat [..] leaves as if it had called": each from the room that the last left. The seats are those that go
+unfoldable pub leaveEach : Room → List ℕ → Outcome
+leaveEach room [] = accept 0 [] []
+leaveEach room (seat ∷ seats) = both (leaveFrom (seatAt room seat) room seat) (leaveEach (setSeat room seat vacant) seats)
+
+-- "Then every remaining seat [..] is pinged in that order."
+unfoldable pub pingEach : ℕ → ℕ → List ℕ → Outcome
+pingEach time number seats = accept 0 (map (λ seat. pingSent seat time number) seats) (map (λ seat. to seat (relay.ping number)) seats)
+
+-- the seats that a tick puts out, and those that it pings: one that is put out has a ping outstanding, so it is not pinged
+unfoldable pub leavers : ℕ → Room → List ℕ
+leavers time room = placesFrom (isOverdue time) 0 (room .seats)
+
+unfoldable pub dueSeats : ℕ → Room → List ℕ
+dueSeats time room = placesFrom (isDue time) 0 (room .seats)
+
+-- the clock is set, the departures, then the pings
+unfoldable pub tickFrom : Room → ℕ → ℕ → Outcome
+tickFrom room time number =
+    both (accept 0 (clockSet time ∷ []) [])
+    (both (leaveEach (setClock room time) (leavers time room)) (pingEach time number (dueSeats time room)))
+
+-- "Refusals: 10 (tick output under 5,120), 11, 7, 19 for a clock that goes back."
+unfoldable pub tickAt : Bool → Bool → Room → ℕ → ℕ → Outcome
+tickAt true back room time number = refuse ZeroPing
+tickAt false true room time number = refuse ClockBack
+tickAt false false room time number = tickFrom room time number
+
 unfoldable pub outcome : Room → Call → Outcome
 outcome room (arrive key) = arriveAt (find (seatOf key) (room .seats)) (find isVacant (room .seats)) key
 outcome room (leave seat) = leaveFrom (seatAt room seat) room seat
 outcome room (packetCall seat bytes) = packetFrom (seatAt room seat) room seat bytes
+outcome room (tick time number) = tickAt (eqb number 0) (ltb time (room .clock)) room time number

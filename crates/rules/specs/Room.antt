@@ -29,44 +29,62 @@ pub data Route : Type 0 where
   free : Route
   wants : Key → Route
 
--- what a seat holds that is not empty: "one key and 32 routes"
+-- document 02, "Notice dead laptops": "the time of its last ping and the ping number not yet answered", 0 where none is outstanding
+pub record Ping : Type 0 where
+  pub time : ℕ
+  pub number : ℕ
+
+-- what a seat holds that is not empty: "one key and 32 routes". Document 02: "Every seat gets the time of its last ping and the ping number not yet answered"
 pub record Held : Type 0 where
   pub key : Key
   pub routes : List Route
+  pub ping : Ping
 
 pub data Seat : Type 0 where
   vacant : Seat
   holds : Held → Seat
 
+-- document 02: "the room gets a clock in whole seconds, first 0"
 pub record Room : Type 0 where
   pub seats : List Seat
+  pub clock : ℕ
 
 -- The constructors of these two records stand here and where a room is read from bytes (`room_laws`, `View.antt`), and nowhere else: laws and the rest of the
 -- definitions go through the fields and through these functions, so that a field more changes nothing where it is not read.
 
--- a key that has just arrived: every route is free
-abbrev pub newcomer : Sizes → Key → Held
-newcomer sizes key = record { key = key; routes = replicate (sizes .numbers) free }
+-- none outstanding since a time
+abbrev pub noneSince : ℕ → Ping
+noneSince time = record { time = time; number = 0 }
 
--- with its key replaced; with its routes, and with one of them
+-- a key that has just arrived: every route is free, and document 02: "An arrival starts with the last clock as its ping time."
+abbrev pub newcomer : Sizes → ℕ → Key → Held
+newcomer sizes clock key = record { key = key; routes = replicate (sizes .numbers) free; ping = noneSince clock }
+
+-- with its key replaced; with its ping; with its routes, and with one of them
 abbrev pub setKey : Held → Key → Held
-setKey held key = record { key = key; routes = held .routes }
+setKey held key = record { key = key; routes = held .routes; ping = held .ping }
+
+abbrev pub setPing : Held → Ping → Held
+setPing held ping = record { key = held .key; routes = held .routes; ping = ping }
 
 abbrev pub setRoutes : Held → List Route → Held
-setRoutes held routes = record { key = held .key; routes = routes }
+setRoutes held routes = record { key = held .key; routes = routes; ping = held .ping }
 
 abbrev pub setRoute : Held → ℕ → Route → Held
 setRoute held place route = setRoutes held (set (held .routes) place route)
 
--- a room with its seats replaced, and with one of them
+-- a room with its clock replaced; with its seats, and with one of them
+abbrev pub setClock : Room → ℕ → Room
+setClock room time = record { seats = room .seats; clock = time }
+
 abbrev pub setSeats : Room → List Seat → Room
-setSeats room seats = record { seats = seats }
+setSeats room seats = record { seats = seats; clock = room .clock }
 
 abbrev pub setSeat : Room → ℕ → Seat → Room
 setSeat room seat s = setSeats room (set (room .seats) seat s)
 
 unfoldable pub emptyRoom : Sizes → Room
-emptyRoom sizes = record { seats = replicate (sizes .seats) vacant }
+emptyRoom sizes = record { seats = replicate (sizes .seats) vacant; clock = 0 }
 
 -- ---- looking things up
 
@@ -105,6 +123,11 @@ unfoldable pub routesOf : Seat → List Route
 routesOf vacant = []
 routesOf (holds held) = held .routes
 
+-- the ping of a seat: in an empty one none is outstanding
+unfoldable pub pingIn : Seat → Ping
+pingIn vacant = noneSince 0
+pingIn (holds held) = held .ping
+
 -- a seat by its number; "seat above 39, or empty" is vacant
 unfoldable pub seatAt : Room → ℕ → Seat
 seatAt room seat = getD (room .seats) seat vacant
@@ -115,6 +138,17 @@ numberOfPlace place = firstNumber + place
 -- a route by its number; a number below 16, or past the last, names none
 unfoldable pub routeAt : List Route → ℕ → Route
 routeAt routes number = cond (ltb number firstNumber) free (getD routes (number - firstNumber) free)
+
+-- ---- several seats
+
+-- the places of a list that pass a test, in rising order, where the first of the list has the place `from`
+unfoldable pub placeWhen : Bool → ℕ → List ℕ → List ℕ
+placeWhen true place later = place ∷ later
+placeWhen false place later = later
+
+unfoldable pub placesFrom : {A : Type 0} → (A → Bool) → ℕ → List A → List ℕ
+placesFrom test from [] = []
+placesFrom test from (x ∷ xs) = placeWhen (test x) from (placesFrom test (suc from) xs)
 
 -- ---- connected
 

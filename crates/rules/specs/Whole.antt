@@ -1,5 +1,6 @@
 -- Document 01, "The room": "A room is whole when seated keys differ, the wanted keys of one seat differ, empty seats hold no routes". An empty
--- seat is `vacant`, which has no place for a route. Document 02 adds a clause: "A room where a seat names its own key is no longer whole."
+-- seat is `vacant`, which has no place for a route. Document 02 adds two clauses: "A room where a seat names its own key is no longer whole." and "A ping time
+-- after the clock makes a room not whole."
 use mathlib.Core.Logic.{_≢_}
 use mathlib.Core.Path.{_≡_}
 use Prim.Native.Nat.{ℕ, _≤_}
@@ -17,6 +18,8 @@ pub record Whole (sizes : Sizes) (room : Room) : Type 0 where
       → (other : Key) (i j : ℕ) → routeAt (held .routes) i ≡ wants other → routeAt (held .routes) j ≡ wants other → i ≡ j
   -- "A room where a seat names its own key is no longer whole."
   pub notOwn : (seat : ℕ) (held : Held) → seatAt room seat ≡ holds held → (number : ℕ) → routeAt (held .routes) number ≢ wants (held .key)
+  -- "A ping time after the clock makes a room not whole."
+  pub pingTimes : (seat : ℕ) (held : Held) → seatAt room seat ≡ holds held → held .ping .time ≤ room .clock
 
 -- "A key is 32 bytes.": each seated key has 32 at most, which is all that the bound on a call's output asks
 abbrev pub ShortKeys : Room → Type 0

@@ -13,7 +13,7 @@ use lib.ListN.{length, getD, take, drop, length-append, length-drop, take-append
 use lib.Seq.{take-append-seam, drop-append-seam, length-take-le}
 use Rattle.wire.specs.Numbers.{Bytes, numberOf, bytesOf}
 use Rattle.wire.proofs.Numbers.{bytes-take, bytes-drop, bytes-getD, number-lt, number-bytesOf, bytesOf-number}
-use Rattle.rules.specs.Call.{Call, arrive, leave, packetCall}
+use Rattle.rules.specs.Call.{Call, arrive, leave, packetCall, tick}
 use Rattle.stored.specs.Stored.{storedForm, storedBytes, Storable, First, none, call, formed, firstCall}
 use Rattle.stored.proofs.FormLaws.{arrival, departure, packet-sent, all-there}
 use Rattle.stored.proofs.StoredLaws.{Formed, arrives, leaves, sends, sizeIn, givenIn, Fronts, first-is}
@@ -34,6 +34,7 @@ unfolding storedBytes Storable
 read-stored (arrive key) s rest = let l = s .long in read-form 0 0 key rest (omega arith) ∙ arrival 0 0 key refl refl l
 read-stored (leave seat) s rest = read-form 1 seat [] rest (omega arith) ∙ departure 1 seat [] refl refl
 read-stored (packetCall seat bytes) s rest = read-form 2 seat bytes rest (s .1) ∙ packet-sent 2 seat bytes refl
+read-stored (tick time number) s rest = absurd s
 
 -- ---- what is read is a stored form
 

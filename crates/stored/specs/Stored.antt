@@ -7,8 +7,7 @@ use lib.Dec.{eqb, leb}
 use lib.ListN.{length, getD, take, drop}
 use Rattle.wire.specs.Numbers.{Bytes, numberOf, bytesOf}
 use Rattle.key.specs.Keys.{IsKey}
-use Rattle.rules.specs.Call.{Call, arrive, leave, packetCall}
-use Rattle.stored.specs.declared.StoredCall.{StoredCall}
+use Rattle.rules.specs.Call.{Call, arrive, leave, packetCall, tick}
 use Rattle.stored.specs.declared.StoredCall.the-variants.{Arrive, Leave, Packet}
 use Rattle.stored.specs.declared.StoredRead.{StoredRead}
 use Rattle.stored.specs.declared.StoredRead.the-variants as code
@@ -22,6 +21,8 @@ unfoldable pub storedBytes : Call → List ℕ
 storedBytes (arrive key) = storedForm 0 0 key
 storedBytes (leave seat) = storedForm 1 seat []
 storedBytes (packetCall seat bytes) = storedForm 2 seat bytes
+-- none of these forms is a tick's, so it has none
+storedBytes (tick time number) = []
 
 -- calls, one behind the other
 unfoldable pub storedAll : List Call → List ℕ
@@ -33,6 +34,7 @@ unfoldable pub Storable : Call → Type 0
 Storable (arrive key) = IsKey key
 Storable (leave seat) = seat < 256
 Storable (packetCall seat bytes) = (seat < 256) × (length bytes < 65536) × Bytes bytes
+Storable (tick time number) = ⊥
 
 -- ---- read
 
@@ -56,11 +58,12 @@ unfoldable pub firstCall : List ℕ → First
 firstCall bytes = cond (leb 4 (length bytes)) (headed (getD bytes 0 0) (getD bytes 1 0) (numberOf (take 2 (drop 2 bytes))) (drop 4 bytes)) none
 
 -- as the code has it: a key and a packet stand behind the head, and the packet's size is told
-unfoldable pub shownCall : Call → StoredCall
-shownCall (arrive key) = Arrive
-shownCall (leave seat) = Leave (record { 0 = seat })
-shownCall (packetCall seat bytes) = Packet (record { 0 = seat }) (length bytes)
+unfoldable pub shownCall : Call → ℕ → StoredRead
+shownCall (arrive key) size = code.Call Arrive size
+shownCall (leave seat) size = code.Call (Leave (record { 0 = seat })) size
+shownCall (packetCall seat bytes) size = code.Call (Packet (record { 0 = seat }) (length bytes)) size
+shownCall (tick time number) size = code.None
 
 unfoldable pub shownFirst : First → StoredRead
 shownFirst none = code.None
-shownFirst (call c) = code.Call (shownCall c) (length (storedBytes c))
+shownFirst (call c) = shownCall c (length (storedBytes c))

@@ -1,4 +1,5 @@
-// A refusal: its number, and the papers' words for it: document 01's from the table "Given exactly when", document 02's for a keep and for 18.
+// A refusal: its number, and the papers' words for it: document 01's from the table "Given exactly when", document 02's for a keep, for a
+// tick's output, for 18 and for 19.
 use crate::say;
 use refusal::Refusal;
 
@@ -16,7 +17,7 @@ fn reason(why: Refusal) {
         ),
         Refusal::NotConnected => say::words(b"data on a waiting route"),
         Refusal::OutputTooShort => say::words(
-            b"lent output too short: under 2,048 for packet and leave, under the exact length for a writer; a keep that is too short",
+            b"lent output too short: under 2,048 for packet and leave, under the exact length for a writer; a keep that is too short; tick output under 5,120",
         ),
         Refusal::RoomNotWhole => say::words(b"room not whole"),
         Refusal::ListSize => say::words(b"list size not 1 to 16"),
@@ -30,6 +31,7 @@ fn reason(why: Refusal) {
         Refusal::BadFrame => say::words(
             b"a length under 17 or above 2,048; a reader holding 2 or more bytes that start no unfinished frame",
         ),
+        Refusal::ClockBack => say::words(b"a clock that goes back"),
     }
 }
 

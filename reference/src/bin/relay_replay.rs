@@ -41,6 +41,7 @@ fn shown_call(call: &Call) -> String {
         Call::Arrive { key } => format!("arrive {}", hex(key)),
         Call::Leave { seat } => format!("leave {seat}"),
         Call::Packet { seat, bytes } => format!("packet {seat} {}", hex(bytes)),
+        Call::Tick { time, ping } => format!("tick {time} {ping}"),
     }
 }
 

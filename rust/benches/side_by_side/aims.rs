@@ -6,6 +6,7 @@ use crate::rooms::{Filling, FULL, THIN};
 use crate::runs;
 use crate::table::{nanoseconds, thousands, Row, Table};
 use crate::tables::Tables;
+use crate::ticks::{self, FULL_TEST};
 
 pub const SLOWER_WORDS: &str =
     "The rows in which the library takes longer than the second program with the same tests.";
@@ -35,6 +36,7 @@ pub fn lines(tables: &Tables) -> Vec<Vec<String>> {
         played(&tables.runs, &FULL, 100.0),
         nothing_slower(tables),
         full_test(&tables.room_tests, 4.0),
+        idle_tick(&tables.ticks, 1.2),
         frame_in_piece(&tables.frames, 15.0),
         frames_cut(&tables.frames, 3.0),
     ]
@@ -76,6 +78,16 @@ fn nothing_slower(tables: &Tables) -> Vec<String> {
 fn full_test(table: &Table, limit: f64) -> Vec<String> {
     let ratio = most(table.rows.iter().map(|row| row.ratio(PASS)));
     let aim = format!("the full test at most {limit} times one pass, on every room");
+    line(aim, format!("{ratio:.2} times"), ratio <= limit)
+}
+
+fn idle_tick(table: &Table, limit: f64) -> Vec<String> {
+    let name = ticks::idle_name(&FULL);
+    let rows = table.rows.iter().filter(|row| row.name == name);
+    let ratio = most(rows.map(|row| row.ratio(FULL_TEST)));
+    let aim = format!(
+        "a tick with nothing to do on a full room: at most {limit} times the full test by itself"
+    );
     line(aim, format!("{ratio:.2} times"), ratio <= limit)
 }
 

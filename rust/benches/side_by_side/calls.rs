@@ -65,13 +65,14 @@ pub fn by_library(memory: &mut [u8], call: &Call, out: &mut [u8]) -> i32 {
         Call::Arrive { key } => raw::relay::arrive(memory, key),
         Call::Leave { seat } => raw::relay::leave(memory, *seat, out),
         Call::Packet { seat, bytes } => raw::relay::packet(memory, *seat, bytes, out),
+        Call::Tick { time, ping } => raw::relay::tick(memory, *time, *ping, out),
     }
 }
 
 /// The same call of the second program. What it sends is made bytes, as the
 /// library's output is.
-fn by_second(room: &mut Room, call: &Call) -> Result<(usize, Vec<u8>), u8> {
-    let accepted = call.make(room, LEAST_OUTPUT)?;
+pub fn by_second(room: &mut Room, call: &Call) -> Result<(usize, Vec<u8>), u8> {
+    let accepted = call.make(room, call.least_output())?;
     Ok((accepted.seat, record::bytes(&accepted.records)))
 }
 

@@ -13,6 +13,7 @@ mod grid;
 mod groups;
 mod harness;
 mod keys;
+mod lookups;
 mod nearest;
 mod nodes;
 mod packet_calls;
@@ -25,6 +26,7 @@ mod runs;
 mod stored;
 mod table;
 mod tables;
+mod ticks;
 mod traffic;
 mod writers;
 

@@ -30,7 +30,7 @@ pub fn table(harness: &mut Harness) -> Table {
                 Rust, byte by byte as the second program compares, each listed key of the memory \
                 is compared with the next, and nothing else is tested. Second program: its full \
                 test, in which it compares each key with all those before it, and each wanted key \
-                with the seat's own.",
+                with the seat's own, and looks at each ping time.",
         rows_are: "room",
         sides: &["library", "one pass", "second program"],
         same_tests: OWN_TEST,

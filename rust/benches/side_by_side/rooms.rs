@@ -52,7 +52,7 @@ impl Rooms {
         let keys: Vec<_> = (0..filling.seats).map(|_| key(&mut random)).collect();
         let mut plain = Room::empty(BASE);
         for place in 0..filling.seats {
-            let mut seat = Seat::taken_by(&keys[place], BASE.numbers);
+            let mut seat = Seat::taken_by(&keys[place], BASE.numbers, 0);
             for (route, wanted) in seat.routes.iter_mut().zip(filling.wanted(place)) {
                 *route = Some(keys[wanted]);
             }
@@ -64,6 +64,18 @@ impl Rooms {
     /// The room after the client in the last seat has left.
     pub fn without_the_last(mut self) -> Rooms {
         self.plain.seats[BASE.seats - 1] = None;
+        Rooms::of(self.plain)
+    }
+
+    /// The room at this clock, with the pings that a seat is to have: its ping
+    /// time, and its ping not yet answered or 0.
+    pub fn at(mut self, clock: u64, pings: impl Fn(u64) -> (u64, u64)) -> Rooms {
+        self.plain.clock = clock;
+        for (seat, client) in (0..).zip(&mut self.plain.seats) {
+            if let Some(client) = client {
+                (client.ping_time, client.outstanding) = pings(seat);
+            }
+        }
         Rooms::of(self.plain)
     }
 

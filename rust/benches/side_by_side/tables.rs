@@ -2,7 +2,8 @@
 
 use crate::harness::Harness;
 use crate::table::Table;
-use crate::{changes, frames, nearest, nodes, packet_calls, readers, room_tests, runs, writers};
+use crate::{changes, frames, lookups, nearest, nodes, packet_calls, readers, room_tests};
+use crate::{runs, ticks, writers};
 
 /// The tables, in the order in which they are measured and printed.
 pub struct Tables {
@@ -15,6 +16,8 @@ pub struct Tables {
     pub packet_calls: Table,
     pub runs: Table,
     pub changes: Table,
+    pub ticks: Table,
+    pub lookups: Table,
 }
 
 impl Tables {
@@ -40,6 +43,8 @@ impl Tables {
             packet_calls: packet_calls::table(harness),
             runs: runs::table(harness),
             changes: changes::table(harness),
+            ticks: ticks::table(harness),
+            lookups: lookups::table(harness),
         }
     }
 
@@ -53,9 +58,11 @@ impl Tables {
         self.packet_calls.add(other.packet_calls);
         self.runs.add(other.runs);
         self.changes.add(other.changes);
+        self.ticks.add(other.ticks);
+        self.lookups.add(other.lookups);
     }
 
-    pub fn all(&self) -> [&Table; 9] {
+    pub fn all(&self) -> [&Table; 11] {
         [
             &self.frames,
             &self.readers,
@@ -66,6 +73,8 @@ impl Tables {
             &self.packet_calls,
             &self.runs,
             &self.changes,
+            &self.ticks,
+            &self.lookups,
         ]
     }
 }

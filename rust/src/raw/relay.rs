@@ -22,6 +22,15 @@ extern "C" {
         out: *mut u8,
         out_length: usize,
     ) -> i32;
+
+    fn banavoge_tick(
+        room: *mut u8,
+        room_length: usize,
+        time: u64,
+        number: u64,
+        out: *mut u8,
+        out_length: usize,
+    ) -> i32;
 }
 
 /// A key arrives: its seat, or a refusal.
@@ -58,6 +67,23 @@ pub fn packet(room: &mut [u8], seat: u8, packet: &[u8], out: &mut [u8]) -> i32 {
             seat,
             packet.as_ptr(),
             packet.len(),
+            out.as_mut_ptr(),
+            out.len(),
+        )
+    }
+}
+
+/// The clock moves on to a time, with the number for those who are pinged: how
+/// many bytes are written, or a refusal.
+pub fn tick(room: &mut [u8], time: u64, number: u64, out: &mut [u8]) -> i32 {
+    // SAFETY: the pointers come from references to the room and the output, the
+    // counts are those of the two slices.
+    unsafe {
+        banavoge_tick(
+            room.as_mut_ptr(),
+            room.len(),
+            time,
+            number,
             out.as_mut_ptr(),
             out.len(),
         )

@@ -15,15 +15,20 @@ use reference::key::Key;
 use reference::memory;
 use reference::room::{Room, BASE};
 
-const ROOM_BYTES: usize = 43_923;
+pub const ROOM_BYTES: usize = 44_251;
 
-/// seats (1), numbers (1), count (1), order (40), 40 records
+/// seats (1), numbers (1), clock (8), count (1), order (40), 40 records
 const SEATS: usize = 40;
-const SEATS_TABLE: usize = 2;
-/// key (32), header (8), table of routes
-const SEAT_BYTES: usize = 1_097;
+const CLOCK: usize = 2;
+pub const SEATS_TABLE: usize = 10;
+/// key (32), ping time (8), outstanding ping (8), table of routes
+const SEAT_BYTES: usize = 1_105;
 const KEY: usize = 32;
-const ROUTES_IN_SEAT: usize = 40;
+const PING_TIME_IN_SEAT: usize = 32;
+const OUTSTANDING_IN_SEAT: usize = 40;
+const ROUTES_IN_SEAT: usize = 48;
+/// The bytes of a time or of a ping number.
+const NUMBER: usize = 8;
 /// count (1), order (32), 32 wanted keys
 const NUMBERS: usize = 32;
 
@@ -109,11 +114,43 @@ impl Table {
     }
 }
 
+/// Where the ping time of a seat stands.
+const fn ping_time(seat: usize) -> usize {
+    TABLE_OF_SEATS.record(seat) + PING_TIME_IN_SEAT
+}
+
+/// Where the outstanding ping of a seat stands.
+const fn outstanding(seat: usize) -> usize {
+    TABLE_OF_SEATS.record(seat) + OUTSTANDING_IN_SEAT
+}
+
+/// The time or the ping number that stands at a place.
+fn number_at(memory: &[u8], place: usize) -> u64 {
+    let bytes = &memory[place..][..NUMBER];
+    u64::from_be_bytes(bytes.try_into().expect("8 bytes"))
+}
+
+fn set_number(memory: &mut [u8], place: usize, number: u64) {
+    memory[place..][..NUMBER].copy_from_slice(&number.to_be_bytes());
+}
+
+/// Puts back, from the memory before a tick, all that the tick may change: the
+/// clock, which seats are taken, and the pings of those who were pinged.
+pub fn restore_ticked(after: &mut [u8], before: &[u8], pinged: &[usize]) {
+    let mut restore = |start: usize, length: usize| {
+        after[start..][..length].copy_from_slice(&before[start..][..length]);
+    };
+    restore(CLOCK, NUMBER);
+    restore(SEATS_TABLE, 1 + SEATS);
+    for seat in pinged {
+        restore(ping_time(*seat), NUMBER);
+        restore(outstanding(*seat), NUMBER);
+    }
+}
+
 /// Fills all that is no part of the room.
 fn fill_what_is_not_read(memory: &mut [u8], random: &mut Generator) {
     for seat in TABLE_OF_SEATS.listed(memory) {
-        let header = TABLE_OF_SEATS.record(seat) + KEY;
-        random.fill(&mut memory[header..header + 8]);
         table_of_routes(seat).fill_unlisted(memory, random);
     }
     TABLE_OF_SEATS.fill_unlisted(memory, random);
@@ -140,6 +177,11 @@ pub enum Damage {
     OwnKeyNamed,
     OwnKeyNotListed,
     KeyOfAnotherNamed,
+    PingTimeAfterClock,
+    PingTimeUpToClock,
+    PingTimeNotListed,
+    ClockBeforePingTime,
+    OtherOutstanding,
     BitAnywhere,
     BitInUse,
     RandomAllOver,
@@ -155,7 +197,7 @@ pub enum Of {
 use Damage::*;
 use Of::*;
 
-pub const DAMAGES: [Damage; 29] = [
+pub const DAMAGES: [Damage; 34] = [
     Sound,
     FirstHeaderByte,
     SecondHeaderByte,
@@ -181,6 +223,11 @@ pub const DAMAGES: [Damage; 29] = [
     OwnKeyNamed,
     OwnKeyNotListed,
     KeyOfAnotherNamed,
+    PingTimeAfterClock,
+    PingTimeUpToClock,
+    PingTimeNotListed,
+    ClockBeforePingTime,
+    OtherOutstanding,
     BitAnywhere,
     BitInUse,
     RandomAllOver,
@@ -221,6 +268,8 @@ pub fn damage(kind: Damage, memory: &mut Vec<u8>, random: &mut Generator) -> boo
             Some(seat) => damage_names(kind, seat, memory, random),
             None => false,
         },
+        PingTimeAfterClock | PingTimeUpToClock | PingTimeNotListed | ClockBeforePingTime
+        | OtherOutstanding => damage_times(kind, memory, random).is_some(),
         BitAnywhere => {
             let place = random.below(ROOM_BYTES);
             memory[place] ^= 1 << random.below(8);
@@ -291,10 +340,11 @@ fn damage_table(kind: Damage, table: Table, memory: &mut [u8], random: &mut Gene
             if !listed.contains(&place) && random.below(2) == 0 {
                 let key = table.record(place);
                 memory[key..key + KEY].fill(0xff);
-                // An empty seat has no routes that could be judged: now it has
-                // a table that lists none.
+                // An empty seat has no pings and no routes that could be judged:
+                // now it has an early ping time and a table that lists none.
                 if table.width > KEY {
                     memory[key + ROUTES_IN_SEAT] = 0;
+                    set_number(memory, key + PING_TIME_IN_SEAT, 0);
                 }
             }
             true
@@ -383,6 +433,52 @@ fn damage_names(kind: Damage, seat: usize, memory: &mut [u8], random: &mut Gener
     }
 }
 
+/// Sets a time or a ping number, and leaves all else, so that only which seat it
+/// is of, and whether a ping time is after the clock, decides. None where this
+/// room does not have what it takes.
+fn damage_times(kind: Damage, memory: &mut [u8], random: &mut Generator) -> Option<()> {
+    let clock = number_at(memory, CLOCK);
+    let listed = TABLE_OF_SEATS.listed(memory);
+    // By one, to the end, or anywhere between.
+    let next = clock.checked_add(1);
+    let any = clock.saturating_add(random.number() >> random.below(64));
+    let after = next.map(|next| random.pick(&[next, u64::MAX, any.max(next)]));
+    match kind {
+        PingTimeAfterClock => {
+            let seat = listed_seat(memory, random)?;
+            set_number(memory, ping_time(seat), after?);
+        }
+        PingTimeUpToClock => {
+            let seat = listed_seat(memory, random)?;
+            let any = clock.min(random.number() >> random.below(64));
+            set_number(memory, ping_time(seat), random.pick(&[0, clock, any]));
+        }
+        PingTimeNotListed => {
+            let seat = (0..SEATS).find(|seat| !listed.contains(seat))?;
+            set_number(memory, ping_time(seat), after?);
+        }
+        ClockBeforePingTime => {
+            let times = listed
+                .iter()
+                .map(|seat| number_at(memory, ping_time(*seat)));
+            let before = times.max()?.checked_sub(1)?;
+            let any = before.min(random.number() >> random.below(64));
+            set_number(memory, CLOCK, random.pick(&[0, before, any]));
+        }
+        OtherOutstanding => {
+            let seat = listed_seat(memory, random)?;
+            let any = random.number() >> random.below(64);
+            set_number(
+                memory,
+                outstanding(seat),
+                random.pick(&[0, 1, u64::MAX, any]),
+            );
+        }
+        _ => unreachable!("no damage of the times"),
+    }
+    Some(())
+}
+
 /// Two different numbers below a bound.
 fn two_of(bound: usize, random: &mut Generator) -> (usize, usize) {
     let first = random.below(bound);
@@ -420,11 +516,11 @@ struct Met {
 /// Whether a damage leaves a room that is whole always, never or sometimes.
 fn outcomes(kind: Damage) -> (bool, bool) {
     match kind {
-        Sound | CountOneLess(_) | OwnKeyNotListed | KeyOfAnotherNamed => (true, false),
+        Sound | CountOneLess(_) | OwnKeyNotListed | KeyOfAnotherNamed | PingTimeUpToClock
+        | PingTimeNotListed | OtherOutstanding => (true, false),
         FirstHeaderByte | SecondHeaderByte | OneByteShort | KeyTwice(_) | NeighboursSwapped(_)
-        | PlaceTwice(_) | PlaceOutOfRange(_) | CountAboveLimit(_) | OwnKeyNamed | RandomAllOver => {
-            (false, true)
-        }
+        | PlaceTwice(_) | PlaceOutOfRange(_) | CountAboveLimit(_) | OwnKeyNamed
+        | PingTimeAfterClock | ClockBeforePingTime | RandomAllOver => (false, true),
         CountOneMore(_) | ByteOfKey(_) | LastByteOfKey(_) | BitAnywhere | BitInUse
         | RandomBehindHeader => (true, true),
     }
@@ -458,8 +554,11 @@ fn the_test_of_a_room_is_the_second_programs() {
     let mut fullest = (0, 0);
     let mut histories = Histories::new(0, BASE);
     for made in 0..ROOMS {
-        if made % 30 == 0 {
+        // By turns without ticks, so that the clock is 0, and with them.
+        if made % 60 == 0 {
             histories = Histories::new(1_000 + made as u64, BASE);
+        } else if made % 60 == 30 {
+            histories = Histories::with_ticks(1_000 + made as u64, BASE);
         }
         // From the empty room on, then some calls further each time.
         for _ in 0..(made % 30).min(1) * (20 + random.below(80)) {
@@ -526,10 +625,10 @@ fn the_size_of_a_room_is_the_second_programs() {
     assert_eq!(banavoge::Room::NUMBERS, BASE.numbers);
 }
 
-/// The empty room is three bytes; memory too short is left alone.
+/// The empty room is eleven bytes; memory too short is left alone.
 #[test]
 fn the_empty_room_is_written() {
-    for length in [0, 1, 2, 3, 43_922, ROOM_BYTES, 43_924, 50_000] {
+    for length in [0, 1, 2, 3, 10, 11, 44_250, ROOM_BYTES, 44_252, 50_000] {
         for salt in [0, 1, 0x5a, 0xff] {
             let mut found = Output::new(length, salt);
             let mut expected = found.clone();
@@ -538,7 +637,7 @@ fn the_empty_room_is_written() {
                 assert_eq!(answer, -10, "{length} bytes");
             } else {
                 assert_eq!(answer, 0, "{length} bytes");
-                expected.lent()[..3].copy_from_slice(&[40, 32, 0]);
+                expected.lent()[..11].copy_from_slice(&[40, 32, 0, 0, 0, 0, 0, 0, 0, 0, 0]);
             }
             assert!(
                 found == expected,

@@ -16,7 +16,7 @@ use reference::key::Key;
 use reference::lent;
 use reference::memory;
 use reference::refusal::Refusal;
-use reference::room::{Room, BASE, LEAST_OUTPUT};
+use reference::room::{Room, BASE};
 use reference::seat::Seat;
 
 /// A key that no client of these rooms has.
@@ -141,7 +141,7 @@ impl Case {
         }
         let mut room = Room::empty(BASE);
         for seat in 0..self.clients {
-            room.seats[seat] = Some(Seat::taken_by(&client(seat), BASE.numbers));
+            room.seats[seat] = Some(Seat::taken_by(&client(seat), BASE.numbers, 0));
         }
         if let Some(seat) = &mut room.seats[self.seat] {
             seat.routes = wanted;
@@ -191,9 +191,15 @@ impl Case {
     }
 }
 
+/// Ticks, which have no stored form: one that pings all, one that does nothing,
+/// and one that is refused with 7.
+fn ticks() -> [Call; 3] {
+    [(30, 9), (0, 9), (30, 0)].map(|(time, ping)| Call::Tick { time, ping })
+}
+
 /// Makes a call on lent memory by both. They must answer the same and write the
 /// same output; after a refusal every byte is as before. Answers the refusal.
-fn make_by_both(memory: &[u8], call: &Call, output: usize, told: &str) -> Result<(), Refusal> {
+pub fn make_by_both(memory: &[u8], call: &Call, output: usize, told: &str) -> Result<(), Refusal> {
     let mut room = Output::holding(memory, 0x44);
     let mut out = Output::new(output, 0x33);
     let (before, out_before) = (room.clone(), out.clone());
@@ -221,19 +227,20 @@ fn rooms_where_a_seat_names_its_own_key_are_not_whole() {
         let told = format!("{case:?}");
         assert_eq!(test_by_both(&memory, &told), case.is_whole(), "{told}");
         met[case.named as usize] += 1;
-        for call in case.calls() {
+        for call in case.calls().into_iter().chain(ticks()) {
             let told = format!("{told}: {call:?}");
-            let short = make_by_both(&memory, &call, LEAST_OUTPUT - 1, &told);
-            let answer = make_by_both(&memory, &call, LEAST_OUTPUT, &told);
+            let answer = make_by_both(&memory, &call, call.least_output(), &told);
             if case.is_whole() {
                 beside.add(&answer);
                 continue;
             }
-            // 10 comes first; an arrival is lent no output.
-            let arrival = matches!(call, Call::Arrive { .. });
-            assert_eq!(short, Err(if arrival { 11 } else { 10 }), "{told}");
             assert_eq!(answer, Err(11), "{told}");
             refused.add(&answer);
+            // 10 comes first; an arrival is lent no output.
+            if let Some(short) = call.least_output().checked_sub(1) {
+                let answer = make_by_both(&memory, &call, short, &told);
+                assert_eq!(answer, Err(10), "{told}");
+            }
         }
     }
 

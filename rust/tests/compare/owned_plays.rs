@@ -23,6 +23,7 @@ fn to_library(call: &Call) -> banavoge::Call<'_> {
             seat: Seat(*seat),
             packet: bytes,
         },
+        Call::Tick { .. } => unreachable!("a tick has no stored form"),
     }
 }
 

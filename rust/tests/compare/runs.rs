@@ -9,6 +9,7 @@
 //! stop and what it must write.
 
 mod allowances;
+mod between_ticks;
 mod both;
 mod counts;
 mod course;

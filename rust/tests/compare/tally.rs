@@ -5,14 +5,14 @@ use std::io::Write;
 /// How often a call was accepted and how often each refusal was met.
 pub struct Tally {
     accepted: u64,
-    refused: [u64; 19],
+    refused: [u64; 20],
 }
 
 impl Tally {
     pub fn new() -> Tally {
         Tally {
             accepted: 0,
-            refused: [0; 19],
+            refused: [0; 20],
         }
     }
 
@@ -20,6 +20,14 @@ impl Tally {
         match outcome {
             Ok(_) => self.accepted += 1,
             Err(number) => self.refused[usize::from(*number)] += 1,
+        }
+    }
+
+    /// Takes in what another tally counted.
+    pub fn join(&mut self, other: &Tally) {
+        self.accepted += other.accepted;
+        for (count, others) in self.refused.iter_mut().zip(other.refused) {
+            *count += others;
         }
     }
 

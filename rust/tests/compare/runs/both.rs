@@ -1,13 +1,14 @@
 //! A room that both play on, and one run by both.
 
 use super::lent::Lent;
+use crate::memory::ROOM_BYTES;
 use crate::output::Output;
-use crate::relay::{empty_room, make, ROOM_BYTES};
+use crate::relay::{empty_room, make};
 use banavoge::raw::play::{self as library, Counts};
 use reference::call::Call;
 use reference::memory;
 use reference::play::{self as second, Played};
-use reference::room::{Room, BASE, LEAST_OUTPUT};
+use reference::room::{Room, BASE};
 
 /// What stands in the three places before a run: no run comes to so much.
 pub const UNSET: Counts = Counts {
@@ -34,9 +35,10 @@ impl Both {
 
     /// Makes a call outside of any run.
     pub fn make(&mut self, call: &Call) {
-        make(call, self.memory.lent(), &mut [0; LEAST_OUTPUT]);
+        let mut out = vec![0; call.least_output()];
+        make(call, self.memory.lent(), &mut out);
         // What is refused changes nothing.
-        let _ = call.make(&mut self.room, LEAST_OUTPUT);
+        let _ = call.make(&mut self.room, call.least_output());
     }
 
     /// Plays a run, and fails where the two differ. Answers what it came to.

@@ -45,6 +45,7 @@ fn kind(call: &Call) -> usize {
             None => 8,
             Some(_) => 9,
         },
+        Call::Tick { .. } => unreachable!("a tick has no stored form"),
     }
 }
 

@@ -47,6 +47,7 @@ fn changes(damage: Damage, call: &Call) -> Vec<(usize, u8)> {
         Call::Arrive { .. } => (true, false),
         Call::Leave { .. } => (false, true),
         Call::Packet { .. } => (false, false),
+        Call::Tick { .. } => unreachable!("a tick has no stored form"),
     };
     match damage {
         UnknownCall => (3..=255).map(|byte| (0, byte)).collect(),

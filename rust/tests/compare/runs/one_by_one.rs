@@ -25,6 +25,7 @@ fn head(call: &Call, answer: i32) -> [u8; 4] {
     let seat = match call {
         Call::Arrive { .. } => answer as u8,
         Call::Leave { seat } | Call::Packet { seat, .. } => *seat,
+        Call::Tick { .. } => unreachable!("a tick has no stored form"),
     };
     let [high, low] = (sent(call, answer) as u16).to_be_bytes();
     [0, seat, high, low]

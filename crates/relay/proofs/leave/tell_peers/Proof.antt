@@ -1,4 +1,4 @@
--- `leave::tell_peers` meets its contract. The invariant: the peers of the numbers passed are told, each in 5 bytes at most. Assumes nothing.
+-- `leave::tell_peers` meets its contract. The invariant: the peers of the numbers passed are told. Assumes nothing.
 use borrow.Author.Needs.{needs}
 use mathlib.Core.Path.{_≡_, refl, _∙_}
 use Prim.Native.Nat.{_+_, _*_, _-_, _≤_}
@@ -12,20 +12,19 @@ use Rattle.room_laws.proofs.ViewLaws.{view-routes-length}
 use Rattle.room_laws.proofs.WholeLaws.{whole-few}
 use Rattle.records.specs.Output.{Appends}
 use Rattle.records.proofs.AppendLaws.{appends-length}
-use Rattle.relay.proofs.LeaveCases.{tells-begun, tells-more, tells-all, tell-next}
+use Rattle.relay.proofs.LeaveCases.{tells-begun, tells-more, tells-all, tells-some, tell-next}
 use Rattle.relay.proofs.leave.tell_peers.Statement.{statement}
 use Rattle.relay.proofs.leave.tell_peers.Tie as tie
 
 abbrev Inv-loop : tie.InvT-loop
-Inv-loop memory seats numbers seat key out₀ at₀ place₀ out at place =
+Inv-loop memory seats numbers seat key out₀ at next₀ place₀ out next place =
     (place ≤ numbers)
     × (numbers ≤ 240)
-    × (at ≤ 5 * place)
     × (length out ≡ length out₀)
-    × Appends (tellPeers (viewRoom seats numbers memory) (seat .0) (key .0) (take place (viewRoutes numbers (routesTable seats numbers memory (seat .0))))) out₀ 0 at out
+    × Appends (tellPeers (viewRoom seats numbers memory) (seat .0) (key .0) (take place (viewRoutes numbers (routesTable seats numbers memory (seat .0))))) out₀ at next out
 
 abbrev μ-loop : tie.MeasureT-loop
-μ-loop memory seats numbers seat key out₀ at₀ place₀ out at place = numbers - place
+μ-loop memory seats numbers seat key out₀ at next₀ place₀ out next place = numbers - place
 
 loop-holds : tie.Need-loop-holds Inv-loop μ-loop
 loop-holds c =
@@ -33,23 +32,25 @@ loop-holds c =
     let a = s .args in (
       omega arith,
       whole-few (a .seats) (a .numbers) (a .memory .now) (s .pre .0),
-      omega arith,
       refl,
       tells-begun (viewRoom (a .seats) (a .numbers) (a .memory .now)) (a .seat .0) (a .key .0)
-          (viewRoutes (a .numbers) (routesTable (a .seats) (a .numbers) (a .memory .now) (a .seat .0))) (a .out .now),
+          (viewRoutes (a .numbers) (routesTable (a .seats) (a .numbers) (a .memory .now) (a .seat .0))) (a .out .now) (a .at),
     )
 
-cast-t11 : tie.Need-cast-t11 Inv-loop μ-loop
-cast-t11 c = search needs
+cast-t12 : tie.Need-cast-t12 Inv-loop μ-loop
+cast-t12 c = search needs
 
-add-t12 : tie.Need-add-t12 Inv-loop μ-loop
-add-t12 c = search needs
+add-t13 : tie.Need-add-t13 Inv-loop μ-loop
+add-t13 c = search needs
 
 tell-peer-requires : tie.Need-tell-peer-requires Inv-loop μ-loop
 tell-peer-requires c κs =
     let s = c .before .before .before .before .before in
+    let a = s .args in
     let l = c .before .before .loop in
-    (s .pre .0, s .pre .1, (let e = l .inv .3 in omega arith), omega arith)
+    let room = viewRoom (a .seats) (a .numbers) (a .memory .now) in
+    let routes = viewRoutes (a .numbers) (routesTable (a .seats) (a .numbers) (a .memory .now) (a .seat .0)) in
+    (s .pre .0, s .pre .1, omega (arith, s .pre .2, l .inv .2, l .inv .3 .answers, tells-some room (a .seat .0) (a .key .0) routes (l .place)), omega arith)
 
 add-place : tie.Need-add-place Inv-loop μ-loop
 add-place c = search needs
@@ -67,12 +68,12 @@ loop-again c =
     let routes = viewRoutes (a .numbers) (routesTable (a .seats) (a .numbers) (a .memory .now) (a .seat .0)) in
     let long = view-routes-length (a .numbers) (routesTable (a .seats) (a .numbers) (a .memory .now) (a .seat .0)) in
     let route = getD routes (16 + l .place - 16) free in
-    let next = tell-next room (a .seat .0) (a .key .0) route (l .out) (l .at) (t .result) _ (t .ensures) in (
+    let next = tell-next room (a .seat .0) (a .key .0) route (l .out) (l .next) (t .result) _ (t .ensures) in
+    let within : t .result ≤ length (l .out) = omega (arith, s .pre .2, l .inv .2, l .inv .3 .answers, tells-some room (a .seat .0) (a .key .0) routes (l .place)) in (
       omega arith,
       l .inv .1,
-      omega arith,
-      appends-length (tellPeer room (a .seat .0) (a .key .0) route) (l .out) (l .at) (t .result) _ (t .ensures) (omega arith) ∙ l .inv .3,
-      tells-more room (a .seat .0) (a .key .0) routes (l .place) (omega arith) (a .out .now) (l .at) (t .result) (l .out) _ (l .inv .4) (t .ensures),
+      appends-length (tellPeer room (a .seat .0) (a .key .0) route) (l .out) (l .next) (t .result) _ (t .ensures) within ∙ l .inv .2,
+      tells-more room (a .seat .0) (a .key .0) routes (l .place) (omega arith) (a .out .now) (a .at) (let h = s .pre .2 in omega arith) (l .next) (t .result) (l .out) _ (l .inv .3) (t .ensures),
     )
 
 same-length : tie.Need-same-length Inv-loop μ-loop
@@ -85,7 +86,7 @@ returns c =
     let l = c .before .loop in
     let long = view-routes-length (a .numbers) (routesTable (a .seats) (a .numbers) (a .memory .now) (a .seat .0)) in
     tells-all (viewRoom (a .seats) (a .numbers) (a .memory .now)) (a .seat .0) (a .key .0)
-    (viewRoutes (a .numbers) (routesTable (a .seats) (a .numbers) (a .memory .now) (a .seat .0))) (l .place) (omega arith) (a .out .now) (l .at) (l .out) (l .inv .4)
+    (viewRoutes (a .numbers) (routesTable (a .seats) (a .numbers) (a .memory .now) (a .seat .0))) (l .place) (omega arith) (a .out .now) (a .at) (l .next) (l .out) (l .inv .3)
 
 pub tell-peers-spec : {M : Type 1} → statement M
 tell-peers-spec =
@@ -94,8 +95,8 @@ tell-peers-spec =
     Inv-loop
     μ-loop
     loop-holds
-    cast-t11
-    add-t12
+    cast-t12
+    add-t13
     tell-peer-requires
     add-place
     loop-less

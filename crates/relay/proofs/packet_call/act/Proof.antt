@@ -10,7 +10,7 @@ use Rattle.rules.specs.Outcome.{act, to}
 use Rattle.room_laws.specs.View.{viewRoom, seatHeld}
 use Rattle.records.proofs.Fits.{answered-fits}
 use Rattle.relay_laws.specs.Calls.{answerOf}
-use Rattle.relay_laws.proofs.OutcomeLeaves.{leaves-none, leaves-sent}
+use Rattle.relay_laws.proofs.OutcomeLeaves.{leaves-sent}
 use Rattle.relay.proofs.PacketCases.{acted, shows-as, shows-request, shows-oob, shows-data}
 use Rattle.relay.proofs.packet_call.act.Statement.{statement}
 use Rattle.relay.proofs.packet_call.act.Tie as tie
@@ -36,11 +36,14 @@ enum-known-shown-2 c = search needs
 answered-requires : tie.Need-answered-requires
 answered-requires c κs = search needs
 
+enum-known-shown-3 : tie.Need-enum-known-shown-3
+enum-known-shown-3 c = search needs
+
+step-requires-3 : tie.Need-step-requires-3
+step-requires-3 c κs = search needs
+
 enum-told-2 : tie.Need-enum-told-2
 enum-told-2 c = search needs
-
-enum-told-3 : tie.Need-enum-told-3
-enum-told-3 c = search needs
 
 key-requires-2 : tie.Need-key-requires-2
 key-requires-2 c κs = search needs
@@ -53,12 +56,12 @@ unfolding Within
 out-of-band-requires c κs =
     let s = c .before .before .before .before .before .before .before .before .before in
     let a = s .args in
-    let e = shows-oob (a .packet .now) (a .shown) (s .pre .2) _ _ (c .before .before .key2 .result .0) (c .before .payload .result .now) (c .before .before .before .before .enum-told3 .given .1) (c .before .before .key2 .ensures) (c .before .payload .ensures .holds) in
+    let e = shows-oob (a .packet .now) (a .shown) (s .pre .2) _ _ (c .before .before .key2 .result .0) (c .before .payload .result .now) (c .before .before .before .before .enum-told2 .given .1) (c .before .before .key2 .ensures) (c .before .payload .ensures .holds) in
     let h = read-within (a .packet .now) _ e in
     (s .pre .0, s .pre .3, h .0, h .1)
 
-enum-known-shown-3 : tie.Need-enum-known-shown-3
-enum-known-shown-3 c = search needs
+enum-known-shown-4 : tie.Need-enum-known-shown-4
+enum-known-shown-4 c = search needs
 
 payload-requires-2 : tie.Need-payload-requires-2
 payload-requires-2 c κs = search needs
@@ -68,7 +71,7 @@ unfolding Within clientPart
 data-requires c κs =
     let s = c .before .before .before .before .before .before .before .before .before in
     let a = s .args in
-    let e = shows-data (a .packet .now) (a .shown) (s .pre .2) (c .before .before .before .before .shown3 .given .0 .0) _ (c .before .payload2 .result .now) (c .before .before .before .before .shown3 .given .1) (c .before .payload2 .ensures .holds) in
+    let e = shows-data (a .packet .now) (a .shown) (s .pre .2) (c .before .before .before .before .shown4 .given .0 .0) _ (c .before .payload2 .result .now) (c .before .before .before .before .shown4 .given .1) (c .before .payload2 .ensures .holds) in
     let h = read-within (a .packet .now) _ e in
     (s .pre .0, s .pre .1, s .pre .3, h .0, h .1)
 
@@ -117,36 +120,39 @@ returns-3 c =
     (leaves-sent (a .seats) (a .numbers) b (a .out .now) (a .seat .0) (to (a .seat .0) (relay.pong (c .before .before .before .before .before .shown2 .given .0 .0)) ∷ []) _ _
     (answered-fits _ (read-within (a .packet .now) _ e) (omega arith) (c .before .before .answered .ensures)))
 
-returns-4 : tie.Need-returns-4
-unfolding clientPacketOf answerOf act
-returns-4 c =
-    let s = c .before .before .before .before .before in
-    let a = s .args in
-    let b = a .memory .now in
-    let e = shows-as (a .packet .now) (a .shown) (s .pre .2) _ (c .enum-told2 .given .1) in
-    acted (a .seats) (a .numbers) (viewRoom (a .seats) (a .numbers) b) (a .seat .0) b (a .out .now) _ _ _ (seatHeld (a .seats) (a .numbers) b (a .seat .0) (a .key .0)) (relayRead (a .packet .now)) _ e
-    (leaves-none (a .seats) (a .numbers) b (a .out .now) (a .seat .0))
-
 same-length-6 : tie.Need-same-length-6
 same-length-6 c = search needs
 
+returns-4 : tie.Need-returns-4
+unfolding clientPacketOf
+returns-4 c =
+    let s = c .before .before .before .before .before .before .before .before .before .before in
+    let a = s .args in
+    let b = a .memory .now in
+    let e = shows-as (a .packet .now) (a .shown) (s .pre .2) _ (c .before .before .before .before .before .shown3 .given .1) in
+    acted (a .seats) (a .numbers) (viewRoom (a .seats) (a .numbers) b) (a .seat .0) b (a .out .now) _ _ _ (seatHeld (a .seats) (a .numbers) b (a .seat .0) (a .key .0)) (relayRead (a .packet .now)) _ e
+    (c .before .before .step3 .ensures (a .key .0) (a .out .now) (s .pre .1))
+
 same-length-7 : tie.Need-same-length-7
 same-length-7 c = search needs
+
+same-length-8 : tie.Need-same-length-8
+same-length-8 c = search needs
 
 returns-5 : tie.Need-returns-5
 returns-5 c =
     let s = c .before .before .before .before .before .before .before .before .before .before .before .before in
     let a = s .args in
     let b = a .memory .now in
-    let e = shows-oob (a .packet .now) (a .shown) (s .pre .2) _ _ (c .before .before .before .before .before .key2 .result .0) (c .before .before .before .before .payload .result .now) (c .before .before .before .before .before .before .before .enum-told3 .given .1) (c .before .before .before .before .before .key2 .ensures) (c .before .before .before .before .payload .ensures .holds) in
+    let e = shows-oob (a .packet .now) (a .shown) (s .pre .2) _ _ (c .before .before .before .before .before .key2 .result .0) (c .before .before .before .before .payload .result .now) (c .before .before .before .before .before .before .before .enum-told2 .given .1) (c .before .before .before .before .before .key2 .ensures) (c .before .before .before .before .payload .ensures .holds) in
     acted (a .seats) (a .numbers) (viewRoom (a .seats) (a .numbers) b) (a .seat .0) b (a .out .now) _ _ _ (seatHeld (a .seats) (a .numbers) b (a .seat .0) (a .key .0)) (relayRead (a .packet .now)) _ e
     (c .before .before .out-of-band .ensures)
 
-same-length-8 : tie.Need-same-length-8
-same-length-8 c = search needs
-
 same-length-9 : tie.Need-same-length-9
 same-length-9 c = search needs
+
+same-length-10 : tie.Need-same-length-10
+same-length-10 c = search needs
 
 returns-6 : tie.Need-returns-6
 unfolding clientPart
@@ -154,7 +160,7 @@ returns-6 c =
     let s = c .before .before .before .before .before .before .before .before .before .before .before .before in
     let a = s .args in
     let b = a .memory .now in
-    let e = shows-data (a .packet .now) (a .shown) (s .pre .2) (c .before .before .before .before .before .before .before .shown3 .given .0 .0) _ (c .before .before .before .before .payload2 .result .now) (c .before .before .before .before .before .before .before .shown3 .given .1) (c .before .before .before .before .payload2 .ensures .holds) in
+    let e = shows-data (a .packet .now) (a .shown) (s .pre .2) (c .before .before .before .before .before .before .before .shown4 .given .0 .0) _ (c .before .before .before .before .payload2 .result .now) (c .before .before .before .before .before .before .before .shown4 .given .1) (c .before .before .before .before .payload2 .ensures .holds) in
     acted (a .seats) (a .numbers) (viewRoom (a .seats) (a .numbers) b) (a .seat .0) b (a .out .now) _ _ _ (seatHeld (a .seats) (a .numbers) b (a .seat .0) (a .key .0)) (relayRead (a .packet .now)) _ e
     (c .before .before .«data» .ensures)
 
@@ -169,12 +175,13 @@ act-spec =
     step-requires-2
     enum-known-shown-2
     answered-requires
+    enum-known-shown-3
+    step-requires-3
     enum-told-2
-    enum-told-3
     key-requires-2
     payload-requires
     out-of-band-requires
-    enum-known-shown-3
+    enum-known-shown-4
     payload-requires-2
     data-requires
     same-length
@@ -185,10 +192,11 @@ act-spec =
     returns-2
     same-length-5
     returns-3
-    returns-4
     same-length-6
+    returns-4
     same-length-7
-    returns-5
     same-length-8
+    returns-5
     same-length-9
+    same-length-10
     returns-6)

@@ -55,9 +55,9 @@ returns-2 c =
     let a = c .before .before .before .before .before .before .before .before .before .before .args in
     let b = a .memory .now in
     let f = sym (c .before .before .before .before .before .before .before .fits2 .ensures) ∙ not-false _ (c .before .before .before .before .before .before .if1 .left) in
-    let d : c .before .before .before .before .before .room-bytes .result - 2 ≡ seatsBytes (a .seats) (a .numbers) = ap (λ (x : ℕ). x - 2) (c .before .before .before .before .before .room-bytes .ensures) ∙ seats-cut (a .seats) (a .numbers) b f in
-    let t = ap (λ (x : ℕ). take (x - 2) (drop 2 b)) (c .before .before .before .before .before .room-bytes .ensures) ∙ seats-lent (a .seats) (a .numbers) b f in
-    ap₂ (λ (k : ℕ) (x : List ℕ). splice b 2 x k) d (c .before .before .free .ensures ∙ ap (λ (x : List ℕ). freedIn (a .seats) x (a .seat .0)) t)
+    let d : c .before .before .before .before .before .room-bytes .result - 10 ≡ seatsBytes (a .seats) (a .numbers) = ap (λ (x : ℕ). x - 10) (c .before .before .before .before .before .room-bytes .ensures) ∙ seats-cut (a .seats) (a .numbers) b f in
+    let t = ap (λ (x : ℕ). take (x - 10) (drop 10 b)) (c .before .before .before .before .before .room-bytes .ensures) ∙ seats-lent (a .seats) (a .numbers) b f in
+    ap₂ (λ (k : ℕ) (x : List ℕ). splice b 10 x k) d (c .before .before .free .ensures ∙ ap (λ (x : List ℕ). freedIn (a .seats) x (a .seat .0)) t)
     ∙ sym (store-emptied (a .seats) (a .numbers) b f (a .seat .0))
 
 pub empty-seat-spec : {M : Type 1} → statement M

@@ -23,7 +23,7 @@ add-result-3 : tie.Need-add-result-3
 add-result-3 c = let s = c .before in rw (c .seat-bytes .ensures) (let q = seats-area (s .args .seats) (s .args .numbers) (s .pre .0) (s .pre .1) in omega arith)
 
 returns : tie.Need-returns
-returns c = ap (λ (w : ℕ). 2 + (1 + c .before .args .seats + c .before .args .seats * w)) (c .seat-bytes .ensures)
+returns c = ap (λ (w : ℕ). 10 + (1 + c .before .args .seats + c .before .args .seats * w)) (c .seat-bytes .ensures)
 
 pub room-bytes-spec : {M : Type 1} → statement M
 room-bytes-spec = tie.close (tie.spec seat-bytes-requires add-result mul-result add-result-2 add-result-3 returns)

@@ -1,54 +1,22 @@
 -- `layout::routes_start` meets its contract. Assumes nothing.
 use borrow.Author.Needs.{needs}
-use mathlib.Core.Path.{ap}
 use native.Mathlib.Omega.{arith}
-use Prim.Native.Nat.{ℕ, _+_, _*_}
-use Rattle.table_laws.proofs.Listed.{row-fits}
-use Rattle.room_laws.specs.Layout.{seatBytes}
-use Rattle.room_laws.proofs.LayoutLaws.{seats-area}
+use Rattle.room_laws.proofs.LayoutLaws.{seat-end-small}
 use Rattle.room.proofs.layout.routes_start.Statement.{statement}
 use Rattle.room.proofs.layout.routes_start.Tie as tie
 
-seat-bytes-requires : tie.Need-seat-bytes-requires
-seat-bytes-requires c κs = search needs
+seat-start-requires : tie.Need-seat-start-requires
+seat-start-requires c κs = search needs
 
 add-result : tie.Need-add-result
-add-result c = search needs
-
-mul-result : tie.Need-mul-result
-mul-result c =
+add-result c =
     let s = c .before in
-    rw (c .seat-bytes .ensures)
-    (let q = seats-area (s .args .seats) (s .args .numbers) (s .pre .0) (s .pre .1) in
-    let r = row-fits (s .args .seats) (seatBytes (s .args .numbers)) (s .args .seat) (s .pre .2) in
-    omega arith)
-
-add-result-2 : tie.Need-add-result-2
-add-result-2 c =
-    let s = c .before in
-    rw (c .seat-bytes .ensures)
-    (let q = seats-area (s .args .seats) (s .args .numbers) (s .pre .0) (s .pre .1) in
-    let r = row-fits (s .args .seats) (seatBytes (s .args .numbers)) (s .args .seat) (s .pre .2) in
-    omega arith)
-
-add-result-3 : tie.Need-add-result-3
-add-result-3 c =
-    let s = c .before in
-    rw (c .seat-bytes .ensures)
-    (let q = seats-area (s .args .seats) (s .args .numbers) (s .pre .0) (s .pre .1) in
-    let r = row-fits (s .args .seats) (seatBytes (s .args .numbers)) (s .args .seat) (s .pre .2) in
-    omega arith)
-
-add-result-4 : tie.Need-add-result-4
-add-result-4 c =
-    let s = c .before in
-    rw (c .seat-bytes .ensures)
-    (let q = seats-area (s .args .seats) (s .args .numbers) (s .pre .0) (s .pre .1) in
-    let r = row-fits (s .args .seats) (seatBytes (s .args .numbers)) (s .args .seat) (s .pre .2) in
-    omega arith)
+    let q = seat-end-small (s .args .seats) (s .args .numbers) (s .args .seat) (s .pre .0) (s .pre .1) (s .pre .2) in
+    let e = c .seat-start .ensures in
+    omega arith
 
 returns : tie.Need-returns
-returns c = ap (λ (w : ℕ). 2 + (1 + c .before .args .seats + c .before .args .seat * w) + 40) (c .seat-bytes .ensures)
+returns c = search needs
 
 pub routes-start-spec : {M : Type 1} → statement M
-routes-start-spec = tie.close (tie.spec seat-bytes-requires add-result mul-result add-result-2 add-result-3 add-result-4 returns)
+routes-start-spec = tie.close (tie.spec seat-start-requires add-result returns)

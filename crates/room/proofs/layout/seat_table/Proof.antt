@@ -26,7 +26,7 @@ part-result-end c =
 returns : tie.Need-returns
 returns c =
     let s = c .before .before .before in
-    ap (λ (e : ℕ). take (e - 2) (drop 2 (s .args .memory .now))) (c .before .room-bytes .ensures) ∙ seats-lent (s .args .seats) (s .args .numbers) (s .args .memory .now) (s .pre)
+    ap (λ (e : ℕ). take (e - 10) (drop 10 (s .args .memory .now))) (c .before .room-bytes .ensures) ∙ seats-lent (s .args .seats) (s .args .numbers) (s .args .memory .now) (s .pre)
 
 pub seat-table-spec : {M : Type 1} → statement M
 seat-table-spec =

@@ -2,7 +2,7 @@
 use borrow.Author.Needs.{needs}
 use borrow.Author.Tests.{not-true, not-false}
 use mathlib.Core.Path.{sym, _∙_}
-use Rattle.room.proofs.WholeSteps.{room-unfit, room-headless, room-unordered, room-routes}
+use Rattle.room.proofs.WholeSteps.{room-unfit, room-headless, room-unordered, room-seats}
 use Rattle.room.proofs.whole.is_whole.Statement.{statement}
 use Rattle.room.proofs.whole.is_whole.Tie as tie
 
@@ -24,18 +24,18 @@ seats-whole-requires c κs = sym (c .before .before .before .fits2 .ensures) ∙
 returns-3 : tie.Need-returns-3
 returns-3 c = let a = c .before .before .before .before .before .before .before .args in sym (room-unordered (a .seats) (a .numbers) (a .memory .now) (sym (c .before .seats-whole .ensures) ∙ not-true _ (c .if3 .taken)))
 
-routes-whole-requires : tie.Need-routes-whole-requires
-routes-whole-requires c κs = (sym (c .before .before .before .before .before .fits2 .ensures) ∙ not-false _ (c .before .before .before .before .if1 .left), sym (c .before .seats-whole .ensures) ∙ not-false _ (c .if3 .left))
+each-whole-requires : tie.Need-each-whole-requires
+each-whole-requires c κs = (sym (c .before .before .before .before .before .fits2 .ensures) ∙ not-false _ (c .before .before .before .before .if1 .left), sym (c .before .seats-whole .ensures) ∙ not-false _ (c .if3 .left))
 
 returns-4 : tie.Need-returns-4
 returns-4 c =
     let a = c .before .before .before .before .before .before .before .before .args in
     let fits = c .before .before .before .before .before in
     let headed = c .before .before .before in
-    room-routes (a .seats) (a .numbers) (a .memory .now) (sym (fits .before .fits2 .ensures) ∙ not-false _ (fits .if1 .left))
+    room-seats (a .seats) (a .numbers) (a .memory .now) (sym (fits .before .fits2 .ensures) ∙ not-false _ (fits .if1 .left))
     (sym (headed .before .header-right .ensures) ∙ not-false _ (headed .if2 .left))
     (sym (c .before .before .seats-whole .ensures) ∙ not-false _ (c .before .if3 .left))
-    (c .routes-whole .result) (c .routes-whole .ensures)
+    (c .each-whole .result) (c .each-whole .ensures)
 
 pub is-whole-spec : {M : Type 1} → statement M
 is-whole-spec =
@@ -47,5 +47,5 @@ is-whole-spec =
     returns-2
     seats-whole-requires
     returns-3
-    routes-whole-requires
+    each-whole-requires
     returns-4)

@@ -1,108 +1,56 @@
--- `whole::routes_whole` meets its contract. The invariant: the seats passed are whole, and those left decide. Assumes nothing.
+-- `whole::routes_whole` meets its contract. Assumes nothing.
 use borrow.Author.Needs.{needs}
-use borrow.Author.Tests.{not-true, not-false}
-use mathlib.Core.Path.{_≡_, refl, sym, ap, _∙_}
-use Prim.Native.Nat.{_-_, _≤_}
-use native.Mathlib.Omega.{arith}
-use lib.ListN.{length, drop}
-use Rattle.table_laws.specs.Table.{listed, usedPlaces}
-use Rattle.room_laws.specs.Layout.{seatTable}
-use Rattle.room_laws.specs.Whole.{routesWhole}
-use Rattle.room.proofs.WholeSteps.{seats-used, listed-low, routes-stop, routes-next, routes-end}
+use mathlib.Core.Path.{ap₂, _∙_}
+use mathlib.Core.List.{List}
+use Prim.Native.Nat.{ℕ, _-_}
+use Rattle.table_laws.specs.Table.{keyAt, keyOfPlace, isTableWithout}
+use Rattle.table_laws.proofs.FitsLaws.{key-place}
+use Rattle.table_laws.proofs.WithoutLaws.{without-fits}
+use Rattle.room_laws.specs.Layout.{seatBytes, seatTable, routesTable}
+use Rattle.room_laws.specs.Whole.{seatRoutesWhole}
+use Rattle.room_laws.proofs.LayoutLaws.{few-numbers, seats-fit, routes-fit}
 use Rattle.room.proofs.whole.routes_whole.Statement.{statement}
 use Rattle.room.proofs.whole.routes_whole.Tie as tie
 
-abbrev Inv-loop : tie.InvT-loop
-Inv-loop memory seats numbers taken i₀ i =
-    (i ≤ length taken) × (taken ≡ listed seats (seatTable seats numbers memory))
-    × (routesWhole seats numbers memory (listed seats (seatTable seats numbers memory)) ≡ routesWhole seats numbers memory (drop i (listed seats (seatTable seats numbers memory))))
+seat-bytes-requires : tie.Need-seat-bytes-requires
+seat-bytes-requires c κs = let s = c .before in few-numbers (s .args .seats) (s .args .numbers) (s .args .memory .now) (s .pre .0)
 
-abbrev μ-loop : tie.MeasureT-loop
-μ-loop memory seats numbers taken i₀ i = length taken - i
-
-seat-table-requires : tie.Need-seat-table-requires Inv-loop μ-loop
+seat-table-requires : tie.Need-seat-table-requires
 seat-table-requires c κs = search needs
 
-used-requires : tie.Need-used-requires Inv-loop μ-loop
-used-requires c κs = search needs
+key-at-requires : tie.Need-key-at-requires
+key-at-requires c κs = search needs
 
-loop-holds : tie.Need-loop-holds Inv-loop μ-loop
-loop-holds c =
-    let s = c .before .before .before in
-    let a = s .args in (
-      omega arith,
-      c .used .ensures ∙ ap (usedPlaces (a .seats)) (c .before .seat-table .ensures) ∙ seats-used (a .seats) (a .numbers) (a .memory .now) (s .pre .0),
-      refl,
-    )
+routes-table-requires : tie.Need-routes-table-requires
+routes-table-requires c κs = search needs
 
-shared-slice-read-seat-whole : tie.Need-shared-slice-read-seat-whole Inv-loop μ-loop
-shared-slice-read-seat-whole c = search needs
+is-whole-without-requires : tie.Need-is-whole-without-requires
+is-whole-without-requires c κs = search needs
 
-cast-seat-whole : tie.Need-cast-seat-whole Inv-loop μ-loop
-cast-seat-whole c = let g = c .shared-slice-known2 .given (c .before .before .loop .i) in omega arith
-
-seat-whole-requires : tie.Need-seat-whole-requires Inv-loop μ-loop
-seat-whole-requires c κs =
+returns : tie.Need-returns
+unfolding seatRoutesWhole
+returns c =
     let s = c .before .before .before .before .before .before in
     let a = s .args in
-    let l = c .before .before .loop in
-    let q = ap length (l .inv .1) in
-    (s .pre .0, rw (l .inv .1) (listed-low (a .seats) (a .numbers) (a .memory .now) (s .pre .0) (s .pre .1) (l .i) (omega arith)))
-
-returns : tie.Need-returns Inv-loop μ-loop
-returns c =
-    let l = c .before .before .before .before .loop in
-    let s = c .before .before .before .before .before .before .before .before in
-    let a = s .args in
     let b = a .memory .now in
-    let is = listed (a .seats) (seatTable (a .seats) (a .numbers) b) in
-    sym (l .inv .2
-    ∙ routes-stop (a .seats) (a .numbers) b is (l .i) (let q = ap length (l .inv .1) in omega arith)
-    _ (l .inv .1) (c .before .seat-whole .result) (c .before .seat-whole .ensures) (not-true _ (c .if1 .taken)))
-
-add-i : tie.Need-add-i Inv-loop μ-loop
-add-i c = search needs
-
-loop-less : tie.Need-loop-less Inv-loop μ-loop
-loop-less c = search needs
-
-loop-again : tie.Need-loop-again Inv-loop μ-loop
-loop-again c =
-    let l = c .before .before .before .before .loop in
-    let s = c .before .before .before .before .before .before .before .before in
-    let a = s .args in
-    let b = a .memory .now in
-    let is = listed (a .seats) (seatTable (a .seats) (a .numbers) b) in (
-      omega arith,
-      l .inv .1,
-      l .inv .2
-          ∙ routes-next (a .seats) (a .numbers) b is (l .i) (let q = ap length (l .inv .1) in omega arith)
-          _ (l .inv .1) (c .before .seat-whole .result) (c .before .seat-whole .ensures) (not-false _ (c .if1 .left)),
-    )
-
-returns-2 : tie.Need-returns-2 Inv-loop μ-loop
-returns-2 c =
-    let l = c .before .loop in
-    let s = c .before .before .before .before .before in
-    let a = s .args in
-    let b = a .memory .now in
-    let q = ap length (l .inv .1) in
-    sym (l .inv .2 ∙ routes-end (a .seats) (a .numbers) b (listed (a .seats) (seatTable (a .seats) (a .numbers) b)) (l .i) (omega arith))
+    let width = seatBytes (a .numbers) in
+    let seats = seatTable (a .seats) (a .numbers) b in
+    let own =
+    c .before .before .key-at .ensures
+    ∙ ap₂ (λ (w : ℕ) (t : List ℕ). keyOfPlace (a .seats) w t (a .seat)) (c .before .before .before .before .seat-bytes .ensures) (c .before .before .before .seat-table .ensures)
+    ∙ key-place (a .seats) width seats (a .seat) (seats-fit (a .seats) (a .numbers) b (s .pre .0)) (s .pre .1) in
+    c .is-whole-without .ensures
+    ∙ ap₂ (λ (t k : List ℕ). isTableWithout (a .numbers) 32 t k) (c .before .routes-table .ensures) own
+    ∙ without-fits (a .numbers) 32 (routesTable (a .seats) (a .numbers) b (a .seat)) (keyAt (a .seats) width seats (a .seat))
+    (routes-fit (a .seats) (a .numbers) b (s .pre .0) (a .seat) (s .pre .1))
 
 pub routes-whole-spec : {M : Type 1} → statement M
 routes-whole-spec =
     tie.close
     (tie.spec
-    Inv-loop
-    μ-loop
+    seat-bytes-requires
     seat-table-requires
-    used-requires
-    loop-holds
-    shared-slice-read-seat-whole
-    cast-seat-whole
-    seat-whole-requires
-    returns
-    add-i
-    loop-less
-    loop-again
-    returns-2)
+    key-at-requires
+    routes-table-requires
+    is-whole-without-requires
+    returns)

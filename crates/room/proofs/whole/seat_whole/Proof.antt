@@ -1,56 +1,28 @@
 -- `whole::seat_whole` meets its contract. Assumes nothing.
 use borrow.Author.Needs.{needs}
-use mathlib.Core.Path.{ap₂, _∙_}
-use mathlib.Core.List.{List}
-use Prim.Native.Nat.{ℕ, _-_}
-use Rattle.table_laws.specs.Table.{keyAt, keyOfPlace, isTableWithout}
-use Rattle.table_laws.proofs.FitsLaws.{key-place}
-use Rattle.table_laws.proofs.WithoutLaws.{without-fits}
-use Rattle.room_laws.specs.Layout.{seatBytes, seatTable, routesTable}
-use Rattle.room_laws.specs.Whole.{seatRoutesWhole}
-use Rattle.room_laws.proofs.LayoutLaws.{few-numbers, seats-fit, routes-fit}
+use mathlib.Core.Path.{sym, _∙_}
+use Rattle.room.proofs.WholeSteps.{seat-late, seat-timely}
 use Rattle.room.proofs.whole.seat_whole.Statement.{statement}
 use Rattle.room.proofs.whole.seat_whole.Tie as tie
 
-seat-bytes-requires : tie.Need-seat-bytes-requires
-seat-bytes-requires c κs = let s = c .before in few-numbers (s .args .seats) (s .args .numbers) (s .args .memory .now) (s .pre .0)
-
-seat-table-requires : tie.Need-seat-table-requires
-seat-table-requires c κs = search needs
-
-key-at-requires : tie.Need-key-at-requires
-key-at-requires c κs = search needs
-
-routes-table-requires : tie.Need-routes-table-requires
-routes-table-requires c κs = search needs
-
-is-whole-without-requires : tie.Need-is-whole-without-requires
-is-whole-without-requires c κs = search needs
+ping-time-requires : tie.Need-ping-time-requires
+ping-time-requires c κs = search needs
 
 returns : tie.Need-returns
-unfolding seatRoutesWhole
 returns c =
-    let s = c .before .before .before .before .before .before in
+    let s = c .before .before .before in
     let a = s .args in
-    let b = a .memory .now in
-    let width = seatBytes (a .numbers) in
-    let seats = seatTable (a .seats) (a .numbers) b in
-    let own =
-    c .before .before .key-at .ensures
-    ∙ ap₂ (λ (w : ℕ) (t : List ℕ). keyOfPlace (a .seats) w t (a .seat)) (c .before .before .before .before .seat-bytes .ensures) (c .before .before .before .seat-table .ensures)
-    ∙ key-place (a .seats) width seats (a .seat) (seats-fit (a .seats) (a .numbers) b (s .pre .0)) (s .pre .1) in
-    c .is-whole-without .ensures
-    ∙ ap₂ (λ (t k : List ℕ). isTableWithout (a .numbers) 32 t k) (c .before .routes-table .ensures) own
-    ∙ without-fits (a .numbers) 32 (routesTable (a .seats) (a .numbers) b (a .seat)) (keyAt (a .seats) width seats (a .seat))
-    (routes-fit (a .seats) (a .numbers) b (s .pre .0) (a .seat) (s .pre .1))
+    sym (seat-late (a .seats) (a .numbers) (a .memory .now) (a .seat) (a .clock) (c .before .ping-time .result) (s .pre .2) (c .before .ping-time .ensures) (c .if1 .taken))
+
+routes-whole-requires : tie.Need-routes-whole-requires
+routes-whole-requires c κs = search needs
+
+returns-2 : tie.Need-returns-2
+returns-2 c =
+    let s = c .before .before .before .before in
+    let a = s .args in
+    c .routes-whole .ensures
+    ∙ sym (seat-timely (a .seats) (a .numbers) (a .memory .now) (a .seat) (a .clock) (c .before .before .ping-time .result) (s .pre .2) (c .before .before .ping-time .ensures) (c .before .if1 .left))
 
 pub seat-whole-spec : {M : Type 1} → statement M
-seat-whole-spec =
-    tie.close
-    (tie.spec
-    seat-bytes-requires
-    seat-table-requires
-    key-at-requires
-    routes-table-requires
-    is-whole-without-requires
-    returns)
+seat-whole-spec = tie.close (tie.spec ping-time-requires returns routes-whole-requires returns-2)

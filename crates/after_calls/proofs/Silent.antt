@@ -1,0 +1,237 @@
+-- For every history: "where the clock moves by at most one second a tick, a client that never answers is gone when the clock is 40 past its latest arrival."
+-- While it sits it is in one of two stages: none is outstanding, it was last pinged at its arrival and that is less than 30 seconds ago; or the ping of the
+-- thirtieth second is outstanding, and that is less than 10 seconds ago. Each call keeps it there or puts it out. Assumes nothing.
+use mathlib.Core.Path.{_≡_, refl, sym, ap, _∙_, subst}
+use mathlib.Core.Bool.{Bool, true, false, _&&_, not, cond, true≢false, false≢true}
+use mathlib.Core.List.{List, [], _∷_, _++_}
+use mathlib.Core.Logic.{_↔_, _≢_}
+use Prim.Native.Nat.{ℕ, suc, _+_, _-_, _<_, _≤_}
+use native.Mathlib.Omega.{arith}
+use lib.Dec.{eqb, leb}
+use borrow.Author.Tests.{eqb-true, eqb-false, leb-true, leb-false, not-true}
+use Rattle.key.specs.Keys.{sameKey}
+use Rattle.key.proofs.Same.{same-refl, same-sound}
+use Rattle.packet_laws.specs.Read.{Read}
+use Rattle.packet_laws.specs.Read as read
+use Rattle.packet_laws.specs.FromClient as client
+use Rattle.rules.specs.Room.{Sizes, Key, Ping, Room, noneSince, emptyRoom}
+use Rattle.rules.specs.Whole.{Whole}
+use Rattle.rules.specs.Call.{Call, arrive, leave, packetCall, tick, Answer, accepted, refused, Sent}
+use Rattle.rules.specs.Outcome.{overdue, outcome, roomAfter}
+use Rattle.rules.specs.History.{Event, event, transcript, happens}
+use Rattle.rules.specs.Transcript.{Past, Maker, nobody, clientOf, Start, fromEmpty, isAccepted, clockAfter, clockOf, pingAfterArrival, pingAfterPacket, pingSentTo, pingAfterTick, pingAfter, pingOf, sitsAfterArrival, sitsAfter, sitter, maker, isClient}
+use Rattle.rules.specs.After.{pastAfter, Tied}
+use Rattle.after_calls.specs.Given.{ArriveAnswered, seated, full, takes}
+use Rattle.after_calls.specs.Ticks.{TickAnswered, zeroPing, clockBack, ticks, Due}
+use Rattle.after_calls.specs.Silent.{each, arrivalOf, arrives, slowly, bears, answersBy, answers, NeverAnswers}
+use Rattle.rules.proofs.FindLaws.{clash}
+use Rattle.rules.proofs.Whole.{whole-empty, whole-after}
+use Rattle.rules.proofs.Tied.{tied-empty, tied-after, both-true}
+use Rattle.after_calls.proofs.Given.{arrive-answered}
+use Rattle.after_calls.proofs.Ticks.{overdue-is, is-overdue, tick-answered, accepted-tick, sent-ping}
+
+-- ---- the two stages of a client that arrived at clock `a`
+
+pub data Stage (a clock : ℕ) (ping : Ping) : Type 0 where
+  notPinged : ping .number ≡ 0 → ping .time ≡ a → a ≤ clock → clock < a + 30 → Stage a clock ping
+  unanswered : ping .number ≢ 0 → ping .time ≡ a + 30 → a ≤ clock → clock < a + 40 → Stage a clock ping
+
+-- either way it is less than 40 seconds there
+stage-below : {a clock : ℕ} {ping : Ping} → Stage a clock ping → clock < a + 40
+stage-below (notPinged n t l h) = omega arith
+stage-below (unanswered n t l h) = h
+
+-- a tick that leaves it seated: whether it is pinged goes by whether it is due, `sent`, and it is not overdue
+stage-tick : (a clock time number : ℕ) (ping : Ping) → number ≢ 0 → clock ≤ time → time ≤ suc clock → overdue time ping ≡ false
+    → (sent : Bool) → (sent ≡ true → (ping .number ≡ 0) × (ping .time + 30 ≤ time)) → (ping .number ≡ 0 → ping .time + 30 ≤ time → sent ≡ true)
+    → Stage a clock ping → Stage a time (cond sent (record { time = time; number = number }) ping)
+stage-tick a clock time number ping nz later slow stays true due isDue (notPinged n t l h) = let d = due refl in unanswered nz (omega arith) (omega arith) (omega arith)
+stage-tick a clock time number ping nz later slow stays true due isDue (unanswered n t l h) = absurd (n (due refl .0))
+stage-tick a clock time number ping nz later slow stays false due isDue (notPinged n t l h) = notPinged n t (omega arith) (below (leb (ping .time + 30) time) refl)
+  where
+    below : (u : Bool) → leb (ping .time + 30) time ≡ u → time < a + 30
+    below true e = absurd (false≢true (isDue n (leb-true (ping .time + 30) time e)))
+    below false e = omega (arith, leb-false)
+stage-tick a clock time number ping nz later slow stays false due isDue (unanswered n t l h) = unanswered n t (omega arith) (below (leb (ping .time + 10) time) refl)
+  where
+    below : (u : Bool) → leb (ping .time + 10) time ≡ u → time < a + 40
+    below true e = absurd (true≢false (sym (is-overdue time ping n (leb-true (ping .time + 10) time e)) ∙ stays))
+    below false e = omega (arith, leb-false)
+
+-- ---- one call more
+
+-- a packet that does not bear the outstanding number leaves the ping
+not-bearing : (r : Read client.FromClient) (ping : Ping) → bears r (ping .number) ≡ false → pingAfterPacket r ping ≡ ping
+unfolding bears pingAfterPacket
+not-bearing (read.packet (client.pong n)) ping h = rw h
+not-bearing (read.packet (client.routingRequest key)) ping h = refl
+not-bearing (read.packet (client.dropRoute n)) ping h = refl
+not-bearing (read.packet (client.ping n)) ping h = refl
+not-bearing (read.packet (client.oobSend key bytes)) ping h = refl
+not-bearing (read.packet (client.routedData n bytes)) ping h = refl
+not-bearing (read.refused why) ping h = refl
+
+module _ (start : Start) (key : Key) (a : ℕ) where
+  -- wherever the client sits it is in one of the stages
+  abbrev InStage : Past → Type 0
+  InStage past = (seat : ℕ) → sitter start past seat ≡ clientOf key → Stage a (clockOf start past) (pingOf start past seat)
+
+  -- what is known of an accepted tick: its number, its time, and to which seats it sends pings
+  abbrev Known : Past → ℕ → ℕ → List Sent → Type 0
+  Known past time number sent = (number ≢ 0) × (clockOf start past ≤ time) × ((seat : ℕ) → (pingSentTo seat sent ≡ true) ↔ Due start past time seat)
+
+  module _ (past : Past) (inv : InStage past) where
+    step-arrive : (k : Key) (answer : Answer) (sent : List Sent) → (sameKey k key && isAccepted answer) ≡ false
+        → InStage (record { call = arrive k; answer = answer; sent = sent } ∷ past)
+    unfolding sitter sitsAfter sitsAfterArrival clockOf clockAfter pingOf pingAfter pingAfterArrival isAccepted
+    step-arrive k (refused why) sent h seat w = inv seat w
+    step-arrive k (accepted taken count) sent h seat w = go (eqb taken seat) w
+      where
+        go : (t : Bool) → cond t (clientOf k) (sitter start past seat) ≡ clientOf key
+            → Stage a (clockOf start past) (cond t (noneSince (clockOf start past)) (pingOf start past seat))
+        go true w = let q : k ≡ key = cc in absurd (true≢false (sym (rw (q, same-refl key) refl) ∙ h))
+        go false w = inv seat w
+
+    step-leave : (left : ℕ) (answer : Answer) (sent : List Sent) → InStage (record { call = leave left; answer = answer; sent = sent } ∷ past)
+    unfolding sitter sitsAfter clockOf clockAfter pingOf pingAfter
+    step-leave left answer sent seat w = go (isAccepted answer && eqb left seat) w
+      where
+        go : (t : Bool) → cond t nobody (sitter start past seat) ≡ clientOf key → Stage a (clockOf start past) (cond t (noneSince 0) (pingOf start past seat))
+        go true w = clash (cc)
+        go false w = inv seat w
+
+    step-packet : (from : ℕ) (bytes : List ℕ) (answer : Answer) (sent : List Sent)
+        → (isClient key (sitter start past from) && bears (client.relayRead bytes) (pingOf start past from .number)) ≡ false
+        → InStage (record { call = packetCall from bytes; answer = answer; sent = sent } ∷ past)
+    unfolding sitter sitsAfter clockOf clockAfter pingOf pingAfter isClient
+    step-packet from bytes answer sent h seat w = go (isAccepted answer && eqb from seat) refl
+      where
+        go : (t : Bool) → (isAccepted answer && eqb from seat) ≡ t
+            → Stage a (clockOf start past) (cond t (pingAfterPacket (client.relayRead bytes) (pingOf start past seat)) (pingOf start past seat))
+        go true e =
+            let q = eqb-true from seat (both-true (isAccepted answer) (eqb from seat) e .1) in
+            let b : bears (client.relayRead bytes) (pingOf start past seat .number) ≡ false = rw (q, w, same-refl key) at h in
+            rw (not-bearing (client.relayRead bytes) (pingOf start past seat) b) (inv seat w)
+        go false e = inv seat w
+
+    step-tick : (time number : ℕ) (answer : Answer) (sent : List Sent)
+        → (isAccepted answer ≡ true → Known past time number sent)
+        → leb (cond (isAccepted answer) time (clockOf start past)) (suc (clockOf start past)) ≡ true
+        → InStage (record { call = tick time number; answer = answer; sent = sent } ∷ past)
+    unfolding sitter sitsAfter clockOf clockAfter pingOf pingAfter pingAfterTick isAccepted
+    step-tick time number (refused why) sent facts slow seat w = inv seat w
+    step-tick time number (accepted s count) sent facts slow seat w = go (overdue time (pingOf start past seat)) refl w
+      where
+        go : (u : Bool) → overdue time (pingOf start past seat) ≡ u → cond u nobody (sitter start past seat) ≡ clientOf key
+            → Stage a time (cond (pingSentTo seat sent) (record { time = time; number = number }) (cond u (noneSince 0) (pingOf start past seat)))
+        go true o w = clash (cc)
+        go false o w =
+            let f = facts refl in
+            stage-tick a (clockOf start past) time number (pingOf start past seat) (f .0) (f .1) (leb-true time (suc (clockOf start past)) slow) o
+            (pingSentTo seat sent) (λ h. let d = f .2 seat .0 h in (d .noneOutstanding, d .old))
+            (λ n old. f .2 seat .1 (record { key = key; sits = w; noneOutstanding = n; old = old })) (inv seat w)
+
+  -- ---- each call of a history
+
+  module _ (sizes : Sizes) where
+    tick-facts : (past : Past) (room : Room) → Whole sizes room → Tied start past room → (time number : ℕ) → isAccepted (event room (tick time number) .answer) ≡ true
+        → Known past time number (event room (tick time number) .sent)
+    unfolding isAccepted
+    tick-facts past room whole tie time number h = go (tick-answered sizes start past room whole tie time number)
+      where
+        told : (seat : ℕ) → (pingSentTo seat (event room (tick time number) .sent) ≡ true) ↔ Due start past time seat
+        told seat =
+            subst (λ (e : Event). (pingSentTo seat (e .sent) ≡ true) ↔ Due start past time seat)
+            (sym (accepted-tick sizes start past room whole tie time number h)) (sent-ping sizes start past room whole tie time number seat)
+
+        go : TickAnswered start past time number (event room (tick time number)) → Known past time number (event room (tick time number) .sent)
+        go (zeroPing z r) = absurd (false≢true (sym (ap isAccepted r) ∙ h))
+        go (clockBack nz b r) = absurd (false≢true (sym (ap isAccepted r) ∙ h))
+        go (ticks nz l r) = (nz, l, told)
+
+    step : (past : Past) (room : Room) → Whole sizes room → Tied start past room → InStage past → (call : Call) → not (arrives key (event room call)) ≡ true
+        → slowly start past (event room call) ≡ true → not (answers start key past (event room call)) ≡ true → InStage (event room call ∷ past)
+    unfolding event arrives arrivalOf slowly answers answersBy maker clockOf clockAfter
+    step past room whole tie inv (arrive k) new slow silent = step-arrive past inv k _ _ (not-true _ new)
+    step past room whole tie inv (leave seat) new slow silent = step-leave past inv seat _ _
+    step past room whole tie inv (packetCall seat bytes) new slow silent = step-packet past inv seat bytes _ _ (not-true _ silent)
+    step past room whole tie inv (tick time number) new slow silent = step-tick past inv time number _ _ (tick-facts past room whole tie time number) slow
+
+    -- the calls after its arrival, where it is in one of the stages at first
+    stays-in-stage : (past : Past) (room : Room) → Whole sizes room → Tied start past room → InStage past
+        → (calls : List Call) (later after : List Event) → transcript sizes room calls ≡ later ++ after
+        → each (λ past e. not (arrives key e)) past later ≡ true → each (slowly start) past later ≡ true → each (λ past e. not (answers start key past e)) past later ≡ true
+        → InStage (pastAfter past later)
+    unfolding transcript pastAfter each
+    stays-in-stage past room whole tie inv calls [] after t new slow silent = inv
+    stays-in-stage past room whole tie inv [] (e ∷ later) after t new slow silent = clash (cc)
+    stays-in-stage past room whole tie inv (call ∷ calls) (e ∷ later) after t new slow silent =
+        let q : event room call ≡ e = cc in
+        let n = both-true _ _ (rw (← q) at new) in
+        let s = both-true _ _ (rw (← q) at slow) in
+        let m = both-true _ _ (rw (← q) at silent) in
+        rw (← q)
+        (stays-in-stage (event room call ∷ past) (roomAfter sizes room (outcome room call)) (whole-after sizes room whole call)
+        (tied-after sizes start past room whole tie call) (step past room whole tie inv call (n .0) (s .0) (m .0)) calls later after (cc) (n .1) (s .1) (m .1))
+
+-- ---- its arrival
+
+module _ (sizes : Sizes) (start : Start) (past : Past) (room : Room) (whole : Whole sizes room) (tie : Tied start past room) where
+  -- it takes the seat that it is answered with, and sat in no other: "An arrival starts with the last clock as its ping time."
+  arrived : (k : Key) (answer : Answer) (sent : List Sent) → ArriveAnswered sizes start past k answer → isAccepted answer ≡ true
+      → InStage start k (clockOf start past) (record { call = arrive k; answer = answer; sent = sent } ∷ past)
+  unfolding isAccepted sitter sitsAfter sitsAfterArrival clockOf clockAfter pingOf pingAfter pingAfterArrival
+  arrived k answer sent (seated seat w r) h = absurd (false≢true (sym (ap isAccepted r) ∙ h))
+  arrived k answer sent (full w f r) h = absurd (false≢true (sym (ap isAccepted r) ∙ h))
+  arrived k answer sent (takes taken others within empty lower r) h = rw r (λ here. go here (eqb taken here))
+    where
+      go : (here : ℕ) (t : Bool) → cond t (clientOf k) (sitter start past here) ≡ clientOf k
+          → Stage (clockOf start past) (clockOf start past) (cond t (noneSince (clockOf start past)) (pingOf start past here))
+      go here true w = notPinged refl refl (omega arith) (omega arith)
+      go here false w = absurd (others here w)
+
+  begins : (key : Key) (call : Call) → arrives key (event room call) ≡ true → InStage start key (clockOf start past) (event room call ∷ past)
+  unfolding event arrives arrivalOf
+  begins key (arrive k) h =
+      let b = both-true (sameKey k key) (isAccepted (outcome room (arrive k) .answer)) h in
+      rw (← (same-sound k key (b .0))) (arrived k _ _ (unfold event in arrive-answered sizes start past room whole tie k) (b .1))
+  begins key (leave seat) h = absurd (false≢true h)
+  begins key (packetCall seat bytes) h = absurd (false≢true h)
+  begins key (tick time number) h = absurd (false≢true h)
+
+-- ---- every history
+
+-- THE THEOREM. After `before` the client arrives, by `e`; `later` has happened by then, and `after` is still to come. From a whole room on, with a past
+-- that says what it says
+pub silent-gone : (sizes : Sizes) (start : Start) (past : Past) (room : Room) → Whole sizes room → Tied start past room
+    → (calls : List Call) (before : List Event) (e : Event) (later after : List Event) → transcript sizes room calls ≡ before ++ (e ∷ (later ++ after))
+    → (key : Key) → NeverAnswers start (pastAfter past before) key e later
+    → clockOf start (pastAfter past before) + 40 ≤ clockOf start (pastAfter past (before ++ (e ∷ later)))
+    → (seat : ℕ) → sitter start (pastAfter past (before ++ (e ∷ later))) seat ≢ clientOf key
+unfolding transcript pastAfter
+silent-gone sizes start past room whole tie [] [] e later after t key never forty seat w = clash (cc)
+silent-gone sizes start past room whole tie [] (b ∷ before) e later after t key never forty seat w = clash (cc)
+silent-gone sizes start past room whole tie (call ∷ calls) [] e later after t key never forty seat w =
+    let q : event room call ≡ e = cc in
+    let n = never .latest in
+    let s = never .slow in
+    let m = never .silent in
+    let inv : InStage start key (clockOf start past) (e ∷ past) =
+    subst (λ (x : Event). InStage start key (clockOf start past) (x ∷ past)) q (begins sizes start past room whole tie key call (rw q (never .arrival))) in
+    let tie′ : Tied start (e ∷ past) (roomAfter sizes room (outcome room call)) =
+    subst (λ (x : Event). Tied start (x ∷ past) (roomAfter sizes room (outcome room call))) q (tied-after sizes start past room whole tie call) in
+    let last = stage-below
+    (stays-in-stage start key (clockOf start past) sizes (e ∷ past) (roomAfter sizes room (outcome room call)) (whole-after sizes room whole call) tie′ inv calls later after (cc) n s m seat w) in
+    omega arith
+silent-gone sizes start past room whole tie (call ∷ calls) (b ∷ before) e later after t key never forty seat w =
+    let q : event room call ≡ b = cc in
+    silent-gone sizes start (b ∷ past) (roomAfter sizes room (outcome room call)) (whole-after sizes room whole call)
+    (subst (λ (x : Event). Tied start (x ∷ past) (roomAfter sizes room (outcome room call))) q (tied-after sizes start past room whole tie call)) calls before e later after (cc) key never forty seat w
+
+-- from the empty room
+pub silent-gone-from-empty : (sizes : Sizes) (calls : List Call) (before : List Event) (e : Event) (later after : List Event)
+    → happens sizes calls ≡ before ++ (e ∷ (later ++ after))
+    → (key : Key) → NeverAnswers (fromEmpty sizes) (pastAfter [] before) key e later
+    → clockOf (fromEmpty sizes) (pastAfter [] before) + 40 ≤ clockOf (fromEmpty sizes) (pastAfter [] (before ++ (e ∷ later)))
+    → (seat : ℕ) → sitter (fromEmpty sizes) (pastAfter [] (before ++ (e ∷ later))) seat ≢ clientOf key
+silent-gone-from-empty sizes = silent-gone sizes (fromEmpty sizes) [] (emptyRoom sizes) (whole-empty sizes) (tied-empty sizes)
