@@ -96,7 +96,7 @@ never-pinged o = o .outstanding (rw (pings-then .2))
 -- ---- "with none outstanding, last pinged 30 seconds ago or more"
 
 pub due-at-40 : Due begin past30 40 2
-due-at-40 = record { key = kc; sits = sits-then .1; noneOutstanding = rw (pings-then .2); old = rw (pings-then .2) (omega arith) }
+due-at-40 = record { key = kc; sits = rw (sits-then .1); noneOutstanding = rw (pings-then .2); old = rw (pings-then .2) (omega arith) }
 
 pub not-due-at-39 : Due begin past30 39 2 → ⊥
 not-due-at-39 d = let h = rw (pings-then .2) at (d .old) in omega arith
@@ -170,62 +170,55 @@ pings-at-30 = pings first (pings second (passes third done))
     third : Due begin (after three) 30 2 → ⊥
     third d = let h = rw (pings-before .2) at (d .old) in omega arith
 
--- ---- "leaves as if it had called": KA and KB are connected, KA's 16 with KB's 17, and the tick at 40 puts both out. KA goes first and tells KB; when KB goes there
--- is nobody to tell
+-- ---- "leaves as if it had called": the clients in seats 0 and 1 were pinged at 30, and the tick at 40 puts both out, one after the other
 
+unfoldable pub roomBy : List Call → Room
+roomBy made = roomAfterAll small (emptyRoom small) made
+
+-- when the first has left
+unfoldable pub roomThen : List Call → Room
+roomThen made = roomAfter small (roomBy made) (outcome (roomBy made) (leave 0))
+
+module _ (made : List Call) where
+  whole-by : Whole small (roomBy made)
+  unfolding roomBy
+  whole-by = whole-from-empty small made
+
+  tied-by : Tied begin (after made) (roomBy made)
+  unfolding roomBy after
+  tied-by = tied-from-empty small made
+
+  -- what each tells, by the Leave calls one after the other
+  first-tells : LeaveTells small begin (after made) 0 (event (roomBy made) (leave 0) .sent)
+  first-tells = leave-tells small begin (after made) (roomBy made) whole-by tied-by 0
+
+  second-tells : LeaveTells small begin (event (roomBy made) (leave 0) ∷ after made) 1 (event (roomThen made) (leave 1) .sent)
+  unfolding roomThen
+  second-tells =
+      leave-tells small begin (event (roomBy made) (leave 0) ∷ after made) (roomThen made) (whole-after small (roomBy made) whole-by (leave 0))
+      (tied-after small begin (after made) (roomBy made) whole-by tied-by (leave 0)) 1
+
+  out : (seat : ℕ) → pingOf begin (after made) seat ≡ record { time = 30; number = 7 } → Overdue begin (after made) 40 seat
+  out seat e = record { outstanding = rw e (λ q. omega arith); old = rw e (omega arith) }
+
+  pub two-leave : (front back : List Sent)
+      → (pingOf begin (after made) 0 ≡ record { time = 30; number = 7 }) × (pingOf begin (after made) 1 ≡ record { time = 30; number = 7 })
+      → event (roomBy made) (leave 0) ≡ leaveEvent 0 front → event (roomThen made) (leave 1) .sent ≡ back
+      → LeavesFrom small begin (after made) 40 (after made) 0 2 (front ++ (back ++ []))
+  two-leave front back pinged e f = leaves front (out 0 (pinged .0)) (rw e at first-tells) (leaves back (out 1 (pinged .1)) (rw (e, f) at second-tells) done)
+
+-- KA and KB are connected, KA's 16 with KB's 17: KA goes first and tells KB; when KB goes there is nobody to tell
 unfoldable pub pair : List Call
 pair = connected ++ (tick 30 7 ∷ [])
 
-unfoldable pub pastPair : Past
-pastPair = after pair
+pub both-leave : LeavesFrom small begin (after pair) 40 (after pair) 0 2 (to 1 (relay.disconnectNotice 17) ∷ [])
+unfolding moment connected pair roomBy roomThen
+both-leave = two-leave pair (to 1 (relay.disconnectNotice 17) ∷ []) [] (refl, refl) refl refl
 
-unfoldable pub roomPair : Room
-roomPair = roomAfterAll small (emptyRoom small) pair
-
-pub whole-pair : Whole small roomPair
-unfolding roomPair
-whole-pair = whole-from-empty small pair
-
-pub tied-pair : Tied begin pastPair roomPair
-unfolding roomPair pastPair after
-tied-pair = tied-from-empty small pair
-
--- what each tells, by the Leave calls one after the other
-pub first-tells : LeaveTells small begin pastPair 0 (event roomPair (leave 0) .sent)
-first-tells = leave-tells small begin pastPair roomPair whole-pair tied-pair 0
-
-unfoldable pub roomThen : Room
-roomThen = roomAfter small roomPair (outcome roomPair (leave 0))
-
-pub second-tells : LeaveTells small begin (event roomPair (leave 0) ∷ pastPair) 1 (event roomThen (leave 1) .sent)
-unfolding roomThen
-second-tells =
-    leave-tells small begin (event roomPair (leave 0) ∷ pastPair) roomThen (whole-after small roomPair whole-pair (leave 0))
-    (tied-after small begin pastPair roomPair whole-pair tied-pair (leave 0)) 1
-
--- by computation: the two Leave calls, and the pings of both
-unfoldable pub tellsKB : List Sent
-tellsKB = to 1 (relay.disconnectNotice 17) ∷ []
-
-pub first-leave : event roomPair (leave 0) ≡ leaveEvent 0 tellsKB
-unfolding moment connected pair roomPair tellsKB
-first-leave = refl
-
-pub second-leave : event roomThen (leave 1) .sent ≡ []
-unfolding moment connected pair roomPair roomThen
-second-leave = refl
-
-pub both-pinged : (pingOf begin pastPair 0 ≡ record { time = 30; number = 7 }) × (pingOf begin pastPair 1 ≡ record { time = 30; number = 7 })
-unfolding moment connected pair pastPair
-both-pinged = (refl, refl)
-
-out : (seat : ℕ) → pingOf begin pastPair seat ≡ record { time = 30; number = 7 } → Overdue begin pastPair 40 seat
-out seat e = record { outstanding = λ q. (let z = ap (λ (x : Ping). x .number) e in omega arith); old = rw e (omega arith) }
-
-pub both-leave : LeavesFrom small begin pastPair 40 pastPair 0 2 (tellsKB ++ ([] ++ []))
-both-leave =
-    leaves tellsKB (out 0 (both-pinged .0)) (rw first-leave at first-tells)
-    (leaves [] (out 1 (both-pinged .1)) (rw (first-leave, second-leave) at second-tells) done)
+-- KA's and KB's requests for KC stand, and KC's for both: each tells KC, KA first
+pub both-tell : LeavesFrom small begin (after calls) 40 (after calls) 0 2 (to 2 (relay.disconnectNotice 16) ∷ to 2 (relay.disconnectNotice 17) ∷ [])
+unfolding moment roomBy roomThen
+both-tell = two-leave calls (to 2 (relay.disconnectNotice 16) ∷ []) (to 2 (relay.disconnectNotice 17) ∷ []) (refl, refl) refl refl
 
 -- ---- "A pong with the outstanding number clears it; other pongs do nothing." Of KA, alone in the room and pinged at 30, at 35
 
