@@ -73,7 +73,7 @@ enum banavoge_refusal {
     BANAVOGE_REFUSAL_ROOM_FULL = 1,
     /* arrival of a key already seated */
     BANAVOGE_REFUSAL_ALREADY_SEATED = 2,
-    /* seat above 39, or empty */
+    /* seat above 39, or empty; of banavoge_seat_of, a key that sits nowhere */
     BANAVOGE_REFUSAL_NOT_SEATED = 3,
     /* packet of 0 or more than 2,032 bytes */
     BANAVOGE_REFUSAL_PACKET_SIZE = 4,

@@ -11,13 +11,13 @@ use crate::play::{answer_bytes, play, Why};
 use crate::record::{self, Record};
 use crate::room::{Accepted, LEAST_OUTPUT};
 
-const SMALL: Sizes = Sizes {
+pub(super) const SMALL: Sizes = Sizes {
     seats: 5,
     numbers: 3,
 };
 
 /// Two histories: without ticks, and with them.
-fn both_histories(seed: u64, sizes: Sizes) -> [Generator; 2] {
+pub(super) fn both_histories(seed: u64, sizes: Sizes) -> [Generator; 2] {
     [
         Generator::new(seed, sizes),
         Generator::with_ticks(seed, sizes),

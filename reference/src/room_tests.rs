@@ -44,7 +44,14 @@ pub(super) fn leaves(room: &mut Room, seat: usize) -> Written {
     written(seat, &before, room, answer)
 }
 
-fn written(seat: usize, before: &Room, after: &Room, answer: Result<Accepted, Refusal>) -> Written {
+/// The bytes of the answer's records. The answer has this seat; if it is a
+/// refusal the room stayed as it was.
+pub(super) fn written(
+    seat: usize,
+    before: &Room,
+    after: &Room,
+    answer: Result<Accepted, Refusal>,
+) -> Written {
     assert!(after.whole());
     match answer {
         Ok(accepted) => {

@@ -7,22 +7,10 @@
 
 use std::collections::BTreeMap;
 
+use super::tests::{both_histories, SMALL};
 use super::*;
 use crate::record::Record;
 use crate::room::Accepted;
-
-const SMALL: Sizes = Sizes {
-    seats: 5,
-    numbers: 3,
-};
-
-/// Two histories: without ticks, and with them.
-fn both_histories(seed: u64, sizes: Sizes) -> [Generator; 2] {
-    [
-        Generator::new(seed, sizes),
-        Generator::with_ticks(seed, sizes),
-    ]
-}
 
 /// The seated clients, their pings, and their requests that stand.
 #[derive(Debug, Default, PartialEq, Eq)]

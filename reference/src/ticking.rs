@@ -3,7 +3,8 @@
 //!
 //! Time at random would put everybody out again and again. So the clock has
 //! paces that last for some ticks, and in each of them the clients answer pings
-//! always, seldom or never: rooms stay full for a while, and go at once.
+//! always, seldom or never: rooms stay full for a while, and then many clients
+//! are put out at once.
 
 use crate::random::Random;
 use crate::record::Record;

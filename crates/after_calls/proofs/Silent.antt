@@ -14,6 +14,7 @@ use Rattle.key.proofs.Same.{same-refl, same-sound}
 use Rattle.packet_laws.specs.Read.{Read}
 use Rattle.packet_laws.specs.Read as read
 use Rattle.packet_laws.specs.FromClient as client
+use Rattle.refusal.specs.declared.Refusal.{Refusal}
 use Rattle.rules.specs.Room.{Sizes, Key, Ping, Room, noneSince, emptyRoom}
 use Rattle.rules.specs.Whole.{Whole}
 use Rattle.rules.specs.Call.{Call, arrive, leave, packetCall, tick, Answer, accepted, refused, Sent}
@@ -73,7 +74,7 @@ not-bearing (read.refused why) ping h = refl
 
 module _ (start : Start) (key : Key) (a : ℕ) where
   -- wherever the client sits it is in one of the stages
-  abbrev InStage : Past → Type 0
+  abbrev pub InStage : Past → Type 0
   InStage past = (seat : ℕ) → sitter start past seat ≡ clientOf key → Stage a (clockOf start past) (pingOf start past seat)
 
   -- what is known of an accepted tick: its number, its time, and to which seats it sends pings
@@ -157,22 +158,13 @@ module _ (start : Start) (key : Key) (a : ℕ) where
     step past room whole tie inv (packetCall seat bytes) new slow silent = step-packet past inv seat bytes _ _ (not-true _ silent)
     step past room whole tie inv (tick time number) new slow silent = step-tick past inv time number _ _ (tick-facts past room whole tie time number) slow
 
-    -- the calls after its arrival, where it is in one of the stages at first
-    stays-in-stage : (past : Past) (room : Room) → Whole sizes room → Tied start past room → InStage past
-        → (calls : List Call) (later after : List Event) → transcript sizes room calls ≡ later ++ after
-        → each (λ past e. not (arrives key e)) past later ≡ true → each (slowly start) past later ≡ true → each (λ past e. not (answers start key past e)) past later ≡ true
-        → InStage (pastAfter past later)
-    unfolding transcript pastAfter each
-    stays-in-stage past room whole tie inv calls [] after t new slow silent = inv
-    stays-in-stage past room whole tie inv [] (e ∷ later) after t new slow silent = clash (cc)
-    stays-in-stage past room whole tie inv (call ∷ calls) (e ∷ later) after t new slow silent =
-        let q : event room call ≡ e = cc in
-        let n = both-true _ _ (rw (← q) at new) in
-        let s = both-true _ _ (rw (← q) at slow) in
-        let m = both-true _ _ (rw (← q) at silent) in
-        rw (← q)
-        (stays-in-stage (event room call ∷ past) (roomAfter sizes room (outcome room call)) (whole-after sizes room whole call)
-        (tied-after sizes start past room whole tie call) (step past room whole tie inv call (n .0) (s .0) (m .0)) calls later after (cc) (n .1) (s .1) (m .1))
+  -- one that is refused does nothing
+  step-refused : (past : Past) → InStage past → (call : Call) (why : Refusal) → InStage (record { call = call; answer = refused why; sent = [] } ∷ past)
+  unfolding sitter sitsAfter sitsAfterArrival clockOf clockAfter pingOf pingAfter pingAfterArrival pingAfterTick isAccepted
+  step-refused past inv (arrive k) why seat w = inv seat w
+  step-refused past inv (leave left) why seat w = inv seat w
+  step-refused past inv (packetCall from bytes) why seat w = inv seat w
+  step-refused past inv (tick time number) why seat w = inv seat w
 
 -- ---- its arrival
 
@@ -199,34 +191,67 @@ module _ (sizes : Sizes) (start : Start) (past : Past) (room : Room) (whole : Wh
   begins key (packetCall seat bytes) h = absurd (false≢true h)
   begins key (tick time number) h = absurd (false≢true h)
 
+-- ---- one event after another
+
+-- what each event does to the stages of a client: its arrival begins them, and every other event keeps it there
+pub record Goes (start : Start) (past : Past) (e : Event) : Type 0 where
+  pub begins : (key : Key) → arrives key e ≡ true → InStage start key (clockOf start past) (e ∷ past)
+  pub keeps : (key : Key) (a : ℕ) → InStage start key a past → not (arrives key e) ≡ true → slowly start past e ≡ true → not (answers start key past e) ≡ true
+      → InStage start key a (e ∷ past)
+
+abbrev pub AllGo : Start → Past → List Event → Type 0
+AllGo start past [] = Unit {0}
+AllGo start past (e ∷ events) = Goes start past e × AllGo start (e ∷ past) events
+
+pub event-goes : (sizes : Sizes) (start : Start) (past : Past) (room : Room) → Whole sizes room → Tied start past room → (call : Call) → Goes start past (event room call)
+event-goes sizes start past room whole tie call =
+    record {
+      begins = λ key. begins sizes start past room whole tie key call;
+      keeps = λ key a inv. step start key a sizes past room whole tie inv call;
+    }
+
+pub refused-goes : (start : Start) (past : Past) (call : Call) (why : Refusal) → Goes start past (record { call = call; answer = refused why; sent = [] })
+refused-goes start past call why =
+    record {
+      begins = λ key h. absurd (true≢false (sym (both-true (arrivalOf key call) false (unfold arrives isAccepted in h) .1)));
+      keeps = λ key a inv new slow silent. step-refused start key a past inv call why;
+    }
+
+module _ (start : Start) (key : Key) where
+  -- the events after its arrival, where it is in one of the stages at first
+  stays-in-stage : (a : ℕ) (past : Past) → InStage start key a past → (later after : List Event) → AllGo start past (later ++ after)
+      → each (λ past e. not (arrives key e)) past later ≡ true → each (slowly start) past later ≡ true → each (λ past e. not (answers start key past e)) past later ≡ true
+      → InStage start key a (pastAfter past later)
+  unfolding pastAfter each
+  stays-in-stage a past inv [] after go new slow silent = inv
+  stays-in-stage a past inv (e ∷ later) after go new slow silent =
+      let n = both-true _ _ new in
+      let s = both-true _ _ slow in
+      let m = both-true _ _ silent in
+      stays-in-stage a (e ∷ past) (go .0 .keeps key a inv (n .0) (s .0) (m .0)) later after (go .1) (n .1) (s .1) (m .1)
+
+  -- THE THEOREM. After `before` the client arrives, by `e`; `later` has happened by then, and `after` is still to come
+  pub silent-gone : (past : Past) (before : List Event) (e : Event) (later after : List Event) → AllGo start past (before ++ (e ∷ (later ++ after)))
+      → NeverAnswers start (pastAfter past before) key e later
+      → clockOf start (pastAfter past before) + 40 ≤ clockOf start (pastAfter past (before ++ (e ∷ later)))
+      → (seat : ℕ) → sitter start (pastAfter past (before ++ (e ∷ later))) seat ≢ clientOf key
+  unfolding pastAfter
+  silent-gone past [] e later after go never forty seat w =
+      let last = stage-below
+      (stays-in-stage (clockOf start past) (e ∷ past) (go .0 .begins key (never .arrival)) later after (go .1) (never .latest) (never .slow) (never .silent) seat w) in
+      omega arith
+  silent-gone past (b ∷ before) e later after go never forty seat w = silent-gone (b ∷ past) before e later after (go .1) never forty seat w
+
 -- ---- every history
 
--- THE THEOREM. After `before` the client arrives, by `e`; `later` has happened by then, and `after` is still to come. From a whole room on, with a past
--- that says what it says
-pub silent-gone : (sizes : Sizes) (start : Start) (past : Past) (room : Room) → Whole sizes room → Tied start past room
-    → (calls : List Call) (before : List Event) (e : Event) (later after : List Event) → transcript sizes room calls ≡ before ++ (e ∷ (later ++ after))
-    → (key : Key) → NeverAnswers start (pastAfter past before) key e later
-    → clockOf start (pastAfter past before) + 40 ≤ clockOf start (pastAfter past (before ++ (e ∷ later)))
-    → (seat : ℕ) → sitter start (pastAfter past (before ++ (e ∷ later))) seat ≢ clientOf key
-unfolding transcript pastAfter
-silent-gone sizes start past room whole tie [] [] e later after t key never forty seat w = clash (cc)
-silent-gone sizes start past room whole tie [] (b ∷ before) e later after t key never forty seat w = clash (cc)
-silent-gone sizes start past room whole tie (call ∷ calls) [] e later after t key never forty seat w =
-    let q : event room call ≡ e = cc in
-    let n = never .latest in
-    let s = never .slow in
-    let m = never .silent in
-    let inv : InStage start key (clockOf start past) (e ∷ past) =
-    subst (λ (x : Event). InStage start key (clockOf start past) (x ∷ past)) q (begins sizes start past room whole tie key call (rw q (never .arrival))) in
-    let tie′ : Tied start (e ∷ past) (roomAfter sizes room (outcome room call)) =
-    subst (λ (x : Event). Tied start (x ∷ past) (roomAfter sizes room (outcome room call))) q (tied-after sizes start past room whole tie call) in
-    let last = stage-below
-    (stays-in-stage start key (clockOf start past) sizes (e ∷ past) (roomAfter sizes room (outcome room call)) (whole-after sizes room whole call) tie′ inv calls later after (cc) n s m seat w) in
-    omega arith
-silent-gone sizes start past room whole tie (call ∷ calls) (b ∷ before) e later after t key never forty seat w =
-    let q : event room call ≡ b = cc in
-    silent-gone sizes start (b ∷ past) (roomAfter sizes room (outcome room call)) (whole-after sizes room whole call)
-    (subst (λ (x : Event). Tied start (x ∷ past) (roomAfter sizes room (outcome room call))) q (tied-after sizes start past room whole tie call)) calls before e later after (cc) key never forty seat w
+transcript-goes : (sizes : Sizes) (start : Start) (past : Past) (room : Room) → Whole sizes room → Tied start past room → (calls : List Call)
+    → AllGo start past (transcript sizes room calls)
+unfolding transcript
+transcript-goes sizes start past room whole tie [] = tt
+transcript-goes sizes start past room whole tie (call ∷ calls) = (
+  event-goes sizes start past room whole tie call,
+  transcript-goes sizes start (event room call ∷ past) (roomAfter sizes room (outcome room call)) (whole-after sizes room whole call) (tied-after sizes start past room whole tie call) calls,
+)
 
 -- from the empty room
 pub silent-gone-from-empty : (sizes : Sizes) (calls : List Call) (before : List Event) (e : Event) (later after : List Event)
@@ -234,4 +259,6 @@ pub silent-gone-from-empty : (sizes : Sizes) (calls : List Call) (before : List 
     → (key : Key) → NeverAnswers (fromEmpty sizes) (pastAfter [] before) key e later
     → clockOf (fromEmpty sizes) (pastAfter [] before) + 40 ≤ clockOf (fromEmpty sizes) (pastAfter [] (before ++ (e ∷ later)))
     → (seat : ℕ) → sitter (fromEmpty sizes) (pastAfter [] (before ++ (e ∷ later))) seat ≢ clientOf key
-silent-gone-from-empty sizes = silent-gone sizes (fromEmpty sizes) [] (emptyRoom sizes) (whole-empty sizes) (tied-empty sizes)
+silent-gone-from-empty sizes calls before e later after t key =
+    silent-gone (fromEmpty sizes) key [] before e later after
+    (subst (AllGo (fromEmpty sizes) []) t (transcript-goes sizes (fromEmpty sizes) [] (emptyRoom sizes) (whole-empty sizes) (tied-empty sizes) calls))

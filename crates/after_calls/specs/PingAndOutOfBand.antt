@@ -15,7 +15,8 @@ use Rattle.rules.specs.Transcript.{Past, clientOf, Start, isAccepted, clockOf, 
 abbrev pub Accepted : (List Sent → Type 0) → Event → Type 0
 Accepted P e = (isAccepted (e .answer) ≡ true) × P (e .sent)
 
--- what a pong of the client in `seat`, with the number `n`, does to the pings that are outstanding: `e` is the event, so that `e ∷ past` is now
+-- what a pong of the client in `seat`, with the number `n`, does to the pings that are outstanding, by what has happened: `e` is the event, so that `e ∷ past` is
+-- now. A pong sends nothing that would show it; that the room says the same after it is `tied-after` (`rules`) and, of the exports, `any-calls-tied` (`histories`)
 pub record PongDoes (start : Start) (past : Past) (seat n : ℕ) (e : Event) : Type 0 where
   -- document 02: "A pong with the outstanding number clears it". The time of the ping stays
   pub clears : n ≡ pingOf start past seat .number → pingOf start (e ∷ past) seat ≡ noneSince (pingOf start past seat .time)

@@ -1,4 +1,6 @@
 -- What a tick is answered and what it does, by what has happened alone: document 02, "Notice dead laptops". "A tick brings the time and a nonzero ping number."
+-- Of clock, seats, pings and requests this says what comes of the event by `rules` `Transcript.antt`; that the room says the same after it is `tied-after` (`rules`)
+-- and, of the exports, `any-calls-tied` (`histories`).
 use mathlib.Core.Bool.{true, false}
 use mathlib.Core.List.{List, [], _∷_, _++_}
 use mathlib.Core.Logic.{_↔_, _≢_}
@@ -21,7 +23,8 @@ pub data TickAnswered (start : Start) (past : Past) (time number : ℕ) (e : Eve
   clockBack : number ≢ 0 → time < clockOf start past → e .answer ≡ refused ClockBack → TickAnswered start past time number e
   ticks : number ≢ 0 → clockOf start past ≤ time → e .answer ≡ accepted 0 (length (sentBytes (e .sent))) → TickAnswered start past time number e
 
--- a refused one does nothing: "A refusal answers its number with 0 bytes written; room, list and lent output are as before the call."
+-- a refused one does nothing: "A refusal answers its number with 0 bytes written; room, list and lent output are as before the call." Of the lent room and output
+-- themselves it is `refused-leaves` (`histories`)
 pub record AsBefore (start : Start) (past : Past) (e : Event) : Type 0 where
   pub sent : e .sent ≡ []
   pub clock : clockOf start (e ∷ past) ≡ clockOf start past

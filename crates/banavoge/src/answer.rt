@@ -2,9 +2,9 @@
 ghost use mathlib.Core.Path.{_≡_};
 ghost use Prim.Native.Nat.{_≤_};
 ghost use lib.IntN.{pos};
-ghost use Rattle.banavoge.specs.Answers.{refusalCode, writtenCode, Counted};
-ghost use Rattle.banavoge.specs.Nearest.{doneCode, keptCode};
-ghost use Rattle.banavoge.specs.Rooms.{doneOr};
+ghost use Rattle.banavoge_laws.specs.Answers.{refusalCode, writtenCode, Counted};
+ghost use Rattle.banavoge_laws.specs.Nearest.{doneCode, keptCode};
+ghost use Rattle.banavoge_laws.specs.Rooms.{doneOr};
 use nearest::Answer;
 use nearest::OfferAnswer;
 use packet_write::Written;

@@ -1,7 +1,7 @@
 // The reader of frames. Document 02, Req 01; the keep and the number of bytes held are the host's.
 ghost use mathlib.Core.Path.{_≡_};
 ghost use Rattle.frame.specs.Reader.{readerHolding, readFrame};
-ghost use Rattle.banavoge.specs.Frames.{framePlaces, shownCode, endAfter, ReadsFrame};
+ghost use Rattle.banavoge_laws.specs.Frames.{framePlaces, shownCode, endAfter, ReadsFrame};
 use crate::answer;
 use frame::Reader;
 use frame::Shown;

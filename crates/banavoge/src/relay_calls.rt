@@ -4,8 +4,8 @@
 // Every call tests the room in full before it uses it. A refused call leaves every byte of the room and of the output.
 ghost use mathlib.Core.Path.{_≡_};
 ghost use Rattle.relay_laws.specs.Calls.{answerOf, Arrives, Departs, Sends, Ticks};
-ghost use Rattle.banavoge.specs.Answers.{ToldAs};
-ghost use Rattle.banavoge.specs.RelayCalls.{seatCode, countCode, CallCounted};
+ghost use Rattle.banavoge_laws.specs.Answers.{ToldAs};
+ghost use Rattle.banavoge_laws.specs.RelayCalls.{seatCode, countCode, CallCounted};
 use crate::answer;
 use key::Key;
 use relay::Answer;

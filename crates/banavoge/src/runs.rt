@@ -2,8 +2,8 @@
 ghost use mathlib.Core.Path.{_≡_};
 ghost use lib.IntN.{pos};
 ghost use Rattle.relay.specs.Play.{Plays};
-ghost use Rattle.banavoge.specs.Answers.{ToldAs};
-ghost use Rattle.banavoge.specs.Runs.{stopNumber, counts, telling, runTold};
+ghost use Rattle.banavoge_laws.specs.Answers.{ToldAs};
+ghost use Rattle.banavoge_laws.specs.Runs.{stopNumber, counts, telling, runTold};
 use crate::answer;
 use relay::play;
 use relay::play::Run;

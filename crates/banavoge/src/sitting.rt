@@ -3,7 +3,7 @@
 //
 // Both test the room in full before they look, and write nothing of it.
 ghost use mathlib.Core.Path.{_≡_};
-ghost use Rattle.banavoge.specs.Sitting.{TellsSitter, seatOfKey};
+ghost use Rattle.banavoge_laws.specs.Sitting.{TellsSitter, seatOfKey};
 use crate::answer;
 use key::Key;
 use refusal::Refusal;

@@ -1,5 +1,5 @@
 // The writers: the byte count, or minus the refusal number; on a refusal the output is as before.
-ghost use Rattle.banavoge.specs.Answers.{ToldAs, writtenCode};
+ghost use Rattle.banavoge_laws.specs.Answers.{ToldAs, writtenCode};
 ghost use Rattle.packet_write.specs.Written.{ClientWrites, RelayWrites, PingWrites, PongWrites, DataWrites};
 ghost use Rattle.packet_laws.specs.FromClient.{routingRequest, dropRoute, oobSend};
 ghost use Rattle.packet_laws.specs.FromRelay.{routingResponse, connectNotice, disconnectNotice, oobReceived};

@@ -1,8 +1,8 @@
 -- The exported calls of the relay. Each contract is what stands here, and asks nothing of the caller. Assumes nothing.
 use denote.Ref.{now}
 use Rattle.relay_laws.specs.Calls.{Arrives, Departs, Sends, Ticks}
-use Rattle.banavoge.specs.Answers.{ToldAs}
-use Rattle.banavoge.specs.RelayCalls.{seatCode, countCode}
+use Rattle.banavoge_laws.specs.Answers.{ToldAs}
+use Rattle.banavoge_laws.specs.RelayCalls.{seatCode, countCode}
 use Rattle.banavoge.proofs.relay_calls.banavoge_arrive.Kinds as arrive-kinds
 use Rattle.banavoge.proofs.relay_calls.banavoge_arrive.Reads as arrive-reads
 use Rattle.banavoge.proofs.relay_calls.banavoge_leave.Kinds as leave-kinds

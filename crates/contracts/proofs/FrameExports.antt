@@ -1,7 +1,7 @@
 -- The export that reads frames. Its contract is what stands here, and asks nothing of the caller. Assumes nothing.
 use denote.Ref.{now}
 use Rattle.frame.specs.Reader.{readerHolding, readFrame}
-use Rattle.banavoge.specs.Frames.{framePlaces, ReadsFrame}
+use Rattle.banavoge_laws.specs.Frames.{framePlaces, ReadsFrame}
 use Rattle.banavoge.proofs.frames.banavoge_frame_read.Kinds as frame-read-kinds
 use Rattle.banavoge.proofs.frames.banavoge_frame_read.Reads as frame-read-reads
 use Rattle.contracts.specs.Promises.{Promises}

@@ -4,9 +4,9 @@ use mathlib.Core.Path.{_≡_}
 use Rattle.lent_list_laws.specs.Layout.{listLength}
 use Rattle.lent_list_laws.specs.Calls.{Begins, Offers, Removes}
 use Rattle.lent_list.specs.Held.{heldAt}
-use Rattle.banavoge.specs.Answers.{ToldAs}
-use Rattle.banavoge.specs.Nodes.{nodeGiven}
-use Rattle.banavoge.specs.Nearest.{keyGiven, doneCode, keptCode, heldPlaces, ShowsHeld}
+use Rattle.banavoge_laws.specs.Answers.{ToldAs}
+use Rattle.banavoge_laws.specs.Nodes.{nodeGiven}
+use Rattle.banavoge_laws.specs.Nearest.{keyGiven, doneCode, keptCode, heldPlaces, ShowsHeld}
 use Rattle.banavoge.proofs.nearest_lists.banavoge_nearest_bytes.Kinds as nearest-bytes-kinds
 use Rattle.banavoge.proofs.nearest_lists.banavoge_nearest_bytes.Reads as nearest-bytes-reads
 use Rattle.banavoge.proofs.nearest_lists.banavoge_nearest_begin.Kinds as nearest-begin-kinds

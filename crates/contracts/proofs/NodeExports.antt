@@ -4,8 +4,8 @@ use lib.ListN.{drop}
 use Rattle.node.specs.Nodes.{readNode}
 use Rattle.node.specs.Steps.{stepOf}
 use Rattle.node.specs.Written.{WritesNode}
-use Rattle.banavoge.specs.Answers.{OfBytes, ToldAs}
-use Rattle.banavoge.specs.Nodes.{nodePlaces, nodeGiven, ReadsNode, StepsNode, nodeWrittenCode}
+use Rattle.banavoge_laws.specs.Answers.{OfBytes, ToldAs}
+use Rattle.banavoge_laws.specs.Nodes.{nodePlaces, nodeGiven, ReadsNode, StepsNode, nodeWrittenCode}
 use Rattle.banavoge.proofs.nodes.banavoge_node_read.Kinds as node-read-kinds
 use Rattle.banavoge.proofs.nodes.banavoge_node_read.Reads as node-read-reads
 use Rattle.banavoge.proofs.nodes.banavoge_nodes_step.Kinds as nodes-step-kinds

@@ -2,8 +2,8 @@
 use denote.Ref.{now}
 use Rattle.packet_laws.specs.FromClient.{relayRead, relayKey}
 use Rattle.packet_laws.specs.FromRelay.{clientRead, clientKey}
-use Rattle.banavoge.specs.Answers.{OfBytes}
-use Rattle.banavoge.specs.Fields.{places, ReadsFields, ReadsKey}
+use Rattle.banavoge_laws.specs.Answers.{OfBytes}
+use Rattle.banavoge_laws.specs.Fields.{places, ReadsFields, ReadsKey}
 use Rattle.fields.specs.Fields.{clientFields, relayFields}
 use Rattle.banavoge.proofs.readers.banavoge_relay_read.Kinds as relay-read-kinds
 use Rattle.banavoge.proofs.readers.banavoge_relay_read.Reads as relay-read-reads

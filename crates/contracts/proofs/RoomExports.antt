@@ -4,8 +4,8 @@ use mathlib.Core.Path.{_≡_}
 use Rattle.room_laws.specs.Layout.{roomBytes}
 use Rattle.refusal.specs.declared.Refusal.the-variants.{OutputTooShort}
 use Rattle.room_laws.specs.Store.{MakesEmpty}
-use Rattle.banavoge.specs.Answers.{ToldAs}
-use Rattle.banavoge.specs.Rooms.{doneOr, roomCode}
+use Rattle.banavoge_laws.specs.Answers.{ToldAs}
+use Rattle.banavoge_laws.specs.Rooms.{doneOr, roomCode}
 use Rattle.banavoge.proofs.rooms.banavoge_room_bytes.Kinds as room-bytes-kinds
 use Rattle.banavoge.proofs.rooms.banavoge_room_bytes.Reads as room-bytes-reads
 use Rattle.banavoge.proofs.rooms.banavoge_room_empty.Kinds as room-empty-kinds

@@ -1,8 +1,8 @@
 -- The exported run of stored calls. Each contract is what stands here, and asks nothing of the caller. Assumes nothing.
 use denote.Ref.{now}
 use Rattle.relay.specs.Play.{Plays}
-use Rattle.banavoge.specs.Answers.{ToldAs}
-use Rattle.banavoge.specs.Runs.{counts, telling, runTold}
+use Rattle.banavoge_laws.specs.Answers.{ToldAs}
+use Rattle.banavoge_laws.specs.Runs.{counts, telling, runTold}
 use Rattle.banavoge.proofs.runs.banavoge_play.Kinds as play-kinds
 use Rattle.banavoge.proofs.runs.banavoge_play.Reads as play-reads
 use Rattle.contracts.specs.Promises.{Promises}

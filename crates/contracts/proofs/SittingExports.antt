@@ -1,7 +1,7 @@
 -- The exports that tell who sits where. Each contract is what stands here, and asks nothing of the caller. Assumes nothing.
 use denote.Ref.{now}
 use mathlib.Core.Path.{_≡_}
-use Rattle.banavoge.specs.Sitting.{TellsSitter, seatOfKey}
+use Rattle.banavoge_laws.specs.Sitting.{TellsSitter, seatOfKey}
 use Rattle.banavoge.proofs.sitting.banavoge_key_in.Kinds as key-in-kinds
 use Rattle.banavoge.proofs.sitting.banavoge_key_in.Reads as key-in-reads
 use Rattle.banavoge.proofs.sitting.banavoge_seat_of.Kinds as seat-of-kinds

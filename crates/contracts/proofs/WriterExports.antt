@@ -1,7 +1,7 @@
 -- The exported writers of packets. Each contract is what stands here, and asks nothing of the caller. Assumes nothing.
 use denote.Ref.{now}
 use Rattle.packet_write.specs.Written.{ClientWrites, RelayWrites, PingWrites, PongWrites, DataWrites}
-use Rattle.banavoge.specs.Answers.{ToldAs, writtenCode}
+use Rattle.banavoge_laws.specs.Answers.{ToldAs, writtenCode}
 use Rattle.packet_laws.specs.FromClient.{routingRequest, dropRoute, oobSend}
 use Rattle.packet_laws.specs.FromRelay.{routingResponse, connectNotice, disconnectNotice, oobReceived}
 use Rattle.banavoge.proofs.writers.banavoge_routing_request.Kinds as routing-request-kinds

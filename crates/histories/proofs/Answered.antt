@@ -13,8 +13,8 @@ use Rattle.rules.specs.Room.{Key}
 use Rattle.rules.specs.Call.{Call, arrive, accepted, refused, Sent}
 use Rattle.rules.specs.Outcome.{Outcome, refuse, accept, sentBytes}
 use Rattle.rules.specs.Accepted.{RefusedOrAccepted, MadeAt, refusal, acceptance}
-use Rattle.banavoge.specs.Answers.{refusalCode}
-use Rattle.banavoge.specs.RelayCalls.{seatCode, countCode}
+use Rattle.banavoge_laws.specs.Answers.{refusalCode}
+use Rattle.banavoge_laws.specs.RelayCalls.{seatCode, countCode}
 use Rattle.histories.specs.Seen.{acceptedWith, answered}
 
 -- the number that a refusal is answered by is below 0: minus its own

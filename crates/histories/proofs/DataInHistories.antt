@@ -19,8 +19,8 @@ use Rattle.after_calls.specs.GoesOn.{DataGoesOn}
 use Rattle.rules.specs.Room.{sizesOf}
 use Rattle.after_calls.proofs.DataGoesOn.{data-goes-on, data-goes-on-from-empty}
 use Rattle.relay_laws.specs.Calls.{Sends}
-use Rattle.banavoge.specs.Answers.{ToldAs}
-use Rattle.banavoge.specs.RelayCalls.{countCode}
+use Rattle.banavoge_laws.specs.Answers.{ToldAs}
+use Rattle.banavoge_laws.specs.RelayCalls.{countCode}
 use Rattle.histories.specs.Seen.{seenAs, seen}
 use Rattle.histories.specs.Lent.{Lent, lentWith}
 use Rattle.histories.specs.History.{sends, AnyCalls, History, callsOf}

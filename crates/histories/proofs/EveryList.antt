@@ -19,7 +19,7 @@ use Rattle.lent_list_laws.specs.Layout.{listLength, listAt, stored, Storable}
 use Rattle.lent_list_laws.specs.Calls.{begunAnswer, offerAnswered, removeAnswered}
 use Rattle.lent_list.specs.Held.{heldAt}
 use Rattle.lent_list_laws.proofs.AfterCalls.{begin-storable, offer-storable, remove-storable, stored-read, bytes-stored, length-stored}
-use Rattle.banavoge.specs.Nearest.{doneCode, keptCode, heldCode, heldAfter}
+use Rattle.banavoge_laws.specs.Nearest.{doneCode, keptCode, heldCode, heldAfter}
 use Rattle.histories.specs.ListHistory.{ListCall, offering, removing, reading, ListEvent, listEvent, noHeld, ListChain, none, next, ListBegun, ofSize, ofBadSize, listCalls, FitsCalls, ListHistoryOf}
 use Rattle.histories.specs.ListHistory as list
 use Rattle.histories.proofs.ListHistories.{begun-answer}

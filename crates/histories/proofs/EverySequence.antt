@@ -18,8 +18,8 @@ use Rattle.room_laws.specs.View.{viewRoom}
 use Rattle.room_laws.specs.Whole.{roomWhole}
 use Rattle.room_laws.specs.Store.{storeAll, emptied}
 use Rattle.relay_laws.specs.Calls.{Leaves, tested, ifLong, withOutput}
-use Rattle.banavoge.specs.Rooms.{doneOr}
-use Rattle.banavoge.specs.RelayCalls.{seatCode, countCode}
+use Rattle.banavoge_laws.specs.Rooms.{doneOr}
+use Rattle.banavoge_laws.specs.RelayCalls.{seatCode, countCode}
 use Rattle.histories.specs.Seen.{seenAs, seen}
 use Rattle.histories.specs.Lent.{AllLong}
 use Rattle.histories.specs.Sequences.{AllFieldsFit, lentTo, CallMade, lentsTo, callsMade, AnyChainOf, ChainOf, AnyCallsOf, HistoryOf}

@@ -21,8 +21,8 @@ use Rattle.frame.proofs.StreamLaws.{frames-at, frames-joined, frames-whole}
 use Rattle.frame.proofs.ReaderLaws.{IsAccepted, Ways, ways, refuses-short, refuses-state, refuses-length, goes-on, shows-piece, shows-keep, in-piece, all-held, uses, keeps}
 use Rattle.frame.proofs.ReaderLaws.{too-short as keep-too-short, bad-state}
 use Rattle.frame.proofs.GoesOn.{framesShown, goes-on-after, ends-bad, told-at-once}
-use Rattle.banavoge.specs.Answers.{refusalCode}
-use Rattle.banavoge.specs.Frames.{FramePlaces, framePlaces, shownCode, endAfter, framePlacesAfter}
+use Rattle.banavoge_laws.specs.Answers.{refusalCode}
+use Rattle.banavoge_laws.specs.Frames.{FramePlaces, framePlaces, shownCode, endAfter, framePlacesAfter}
 use Rattle.histories.specs.ExportedCalls.{Below0}
 use Rattle.histories.specs.FrameStream.{FrameCall, framesSeen, Reading, begun, then-read, EndsBad, CopiedOnly, ShownInPiece, Bounded, RefusedFrame, too-short, bad-frame, FrameCalls, none, next, AllRefused, AnsweredCall}
 use Rattle.histories.proofs.Answered.{below-zero, below-not, same-refusal}

@@ -27,9 +27,9 @@ use Rattle.banavoge.proofs.sitting.banavoge_seat_of.Reads as seat-of-reads
 use Rattle.banavoge.proofs.runs.banavoge_play.Kinds as play-kinds
 use Rattle.banavoge.proofs.runs.banavoge_play.Reads as play-reads
 use Rattle.room_laws.specs.Store.{MakesEmpty}
-use Rattle.banavoge.specs.Answers.{ToldAs}
-use Rattle.banavoge.specs.Rooms.{doneOr, roomCode}
-use Rattle.banavoge.specs.Runs.{counts, telling}
+use Rattle.banavoge_laws.specs.Answers.{ToldAs}
+use Rattle.banavoge_laws.specs.Rooms.{doneOr, roomCode}
+use Rattle.banavoge_laws.specs.Runs.{counts, telling}
 use Rattle.contracts.specs.Promises.{Gives}
 use Rattle.contracts.proofs.RoomExports.{banavoge-room-empty, banavoge-room-check}
 use Rattle.contracts.proofs.CallExports.{banavoge-arrive, banavoge-leave, banavoge-packet, banavoge-tick}

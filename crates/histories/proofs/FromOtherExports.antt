@@ -55,11 +55,11 @@ use Rattle.refusal.specs.declared.Refusal.the-variants.{ListSize}
 use Rattle.nearest.specs.Lists.{defaultSize, sizeRight}
 use Rattle.lent_list_laws.specs.Layout.{listLength}
 use Rattle.lent_list_laws.specs.Calls.{Begins}
-use Rattle.banavoge.specs.Answers.{refusalCode, ToldAs}
-use Rattle.banavoge.specs.Frames.{framePlaces}
-use Rattle.banavoge.specs.Fields.{places}
-use Rattle.banavoge.specs.Nodes.{nodePlaces, nodeGiven}
-use Rattle.banavoge.specs.Nearest.{keyGiven, doneCode, heldPlaces}
+use Rattle.banavoge_laws.specs.Answers.{refusalCode, ToldAs}
+use Rattle.banavoge_laws.specs.Frames.{framePlaces}
+use Rattle.banavoge_laws.specs.Fields.{places}
+use Rattle.banavoge_laws.specs.Nodes.{nodePlaces, nodeGiven}
+use Rattle.banavoge_laws.specs.Nearest.{keyGiven, doneCode, heldPlaces}
 use Rattle.contracts.specs.Promises.{Gives}
 use Rattle.contracts.proofs.FrameExports.{banavoge-frame-read}
 use Rattle.contracts.proofs.ReaderExports.{banavoge-relay-read, banavoge-client-read, banavoge-relay-key, banavoge-client-key}

@@ -16,8 +16,8 @@ use Rattle.after_calls.specs.Handed.{SameSitter, EachSent, EachWritten, afterLe
 use Rattle.after_calls.proofs.TickHanded.{tick-handed}
 use Rattle.isolation.specs.Record.{handedIf, handed}
 use Rattle.relay_laws.specs.Calls.{Ticks}
-use Rattle.banavoge.specs.Answers.{ToldAs}
-use Rattle.banavoge.specs.RelayCalls.{countCode}
+use Rattle.banavoge_laws.specs.Answers.{ToldAs}
+use Rattle.banavoge_laws.specs.RelayCalls.{countCode}
 use Rattle.histories.specs.Seen.{seen}
 use Rattle.histories.specs.Lent.{Lent}
 use Rattle.histories.specs.History.{AnyCalls, History}

@@ -33,9 +33,9 @@ use Rattle.relay_laws.specs.Calls.{written, Leaves, tested, withOutput, Arrives
 use Rattle.records.proofs.RoundTrips.{all-short}
 use Rattle.relay_laws.proofs.OutcomeLeaves.{made-written}
 use Rattle.relay_laws.proofs.CallsLaws.{by-call}
-use Rattle.banavoge.specs.Answers.{refusalCode, ToldAs}
-use Rattle.banavoge.specs.Rooms.{doneOr}
-use Rattle.banavoge.specs.RelayCalls.{seatCode, countCode}
+use Rattle.banavoge_laws.specs.Answers.{refusalCode, ToldAs}
+use Rattle.banavoge_laws.specs.Rooms.{doneOr}
+use Rattle.banavoge_laws.specs.RelayCalls.{seatCode, countCode}
 use Rattle.histories.specs.Seen.{recordsRead, seenAs, acceptedWith, answered, seen}
 use Rattle.histories.specs.Lent.{Lent, lentWith, lentOutcome, lentEvent, lentTranscript, lentRoomAfter, AllLong, callsLent}
 use Rattle.histories.specs.History.{Step, arrives, departs, sends, ticks, AnyChain, none, next, Chain, BeginsEmpty, AnyCalls, History, callsOf}

@@ -42,10 +42,10 @@ use Rattle.lent_list.specs.Held.{heldAt}
 use Rattle.lent_list.specs.Held as lent
 use Rattle.lent_list_laws.proofs.RoundTrips.{remove-refused-same}
 use Rattle.lent_list_laws.proofs.AfterCalls.{begin-storable, offer-storable, remove-storable, stored-read, length-stored}
-use Rattle.banavoge.specs.Answers.{refusalCode}
-use Rattle.banavoge.specs.Nodes.{nodeGiven}
-use Rattle.banavoge.specs.Nearest.{doneCode, keptCode, heldCode, HeldPlaces, heldPlacesOf}
-use Rattle.banavoge.specs.Nearest as told
+use Rattle.banavoge_laws.specs.Answers.{refusalCode}
+use Rattle.banavoge_laws.specs.Nodes.{nodeGiven}
+use Rattle.banavoge_laws.specs.Nearest.{doneCode, keptCode, heldCode, HeldPlaces, heldPlacesOf}
+use Rattle.banavoge_laws.specs.Nearest as told
 use Rattle.histories.specs.ListHistory.{ListCall, offering, removing, reading, ListEvent, listEvent, noHeld, ListStep, ListChain, none, next, ListBegun, ofSize, ofBadSize, ListHistory, listCalls, listAfter, eventOf, listEvents, listAfterAll, ListSteps, NeverBroken, TakesNothingOut, NothingRemoved, offeredBy, offeredIn, ReadsBack, HoldsNearest}
 use Rattle.histories.specs.ListHistory as list
 use Rattle.histories.proofs.Answered.{below-zero, below-not}

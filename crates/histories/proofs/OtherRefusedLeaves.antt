@@ -38,11 +38,11 @@ use Rattle.lent_list_laws.specs.Calls.{Begins, Offers, Removes}
 use Rattle.lent_list.specs.Held.{heldAt}
 use Rattle.lent_list_laws.proofs.RefusedLeaves.{refused-offer-leaves, refused-remove-leaves}
 use Rattle.fields.specs.declared.Fields.{Fields}
-use Rattle.banavoge.specs.Answers.{refusalCode, writtenCode, ToldAs}
-use Rattle.banavoge.specs.Frames.{FramePlaces}
-use Rattle.banavoge.specs.Fields.{Places, readCode, placesAfter, ReadsFields, keyAfter, ReadsKey}
-use Rattle.banavoge.specs.Nodes.{NodePlaces, nodeCode, nodeAfter, ReadsNode, stepCode, stepAfter, StepsNode, nodeWrittenCode}
-use Rattle.banavoge.specs.Nearest.{doneCode, keptCode, heldCode, HeldPlaces, heldAfter}
+use Rattle.banavoge_laws.specs.Answers.{refusalCode, writtenCode, ToldAs}
+use Rattle.banavoge_laws.specs.Frames.{FramePlaces}
+use Rattle.banavoge_laws.specs.Fields.{Places, readCode, placesAfter, ReadsFields, keyAfter, ReadsKey}
+use Rattle.banavoge_laws.specs.Nodes.{NodePlaces, nodeCode, nodeAfter, ReadsNode, stepCode, stepAfter, StepsNode, nodeWrittenCode}
+use Rattle.banavoge_laws.specs.Nearest.{doneCode, keptCode, heldCode, HeldPlaces, heldAfter}
 use Rattle.histories.specs.ExportedCalls.{Below0}
 use Rattle.histories.specs.FrameStream.{RefusedFrame, too-short, bad-frame}
 use Rattle.histories.specs.OtherExports.{Lending, lentBytes, lentFields, lentNode, lentHeld, lentFrame, heldRefused, refusedLeaves, OtherExport, relayReads, clientReads, relayKeys, clientKeys, clientWrites, relayWrites, bothWrite, nodeReads, nodesStep, nodeWrites, begins, offers, removes, shows, readsFrame}

@@ -1,7 +1,7 @@
 -- Pongs that the host passes on, and where a key sits. After any calls from the empty room in lent memory, whatever outputs it lent, `banavoge_packet` with a pong of
--- a seated client, and an output that is long enough, is seen to do what the paper says by what the host has seen before; and so is every pong inside a history:
--- "A pong with the outstanding number clears it; other pongs do nothing." (`pong-after-calls`, `pong-in-histories`). And after any calls `banavoge_seat_of` tells
--- where a key sits (`seat-told-after-calls`). Assumes nothing.
+-- a seated client, and an output that is long enough, is accepted and does what the paper says, by what the host has seen before; and so does every pong inside a
+-- history: "A pong with the outstanding number clears it; other pongs do nothing." (`pong-after-calls`, `pong-in-histories`). That the room after it says the same is
+-- `any-calls-tied` (`Histories`). And after any calls `banavoge_seat_of` tells where a key sits (`seat-told-after-calls`). Assumes nothing.
 use mathlib.Core.Path.{_≡_, refl, sym, subst, _∙_}
 use mathlib.Core.List.{List, [], _∷_, _++_}
 use mathlib.Core.Logic.{_↔_, _≢_}
@@ -22,10 +22,10 @@ use Rattle.rules.proofs.Tied.{seat-holds}
 use Rattle.after_calls.specs.PingAndOutOfBand.{Accepted, PongDoes}
 use Rattle.after_calls.proofs.PingAndOutOfBand.{pong-sends, pong-does, pong-sends-from-empty, pong-does-from-empty}
 use Rattle.relay_laws.specs.Calls.{Sends}
-use Rattle.banavoge.specs.Answers.{refusalCode, ToldAs}
-use Rattle.banavoge.specs.RelayCalls.{countCode}
-use Rattle.banavoge.specs.Sitting.{seatOfKey}
-use Rattle.banavoge.proofs.SittingLaws.{key-found, found-key, nowhere-found, found-nowhere}
+use Rattle.banavoge_laws.specs.Answers.{refusalCode, ToldAs}
+use Rattle.banavoge_laws.specs.RelayCalls.{countCode}
+use Rattle.banavoge_laws.specs.Sitting.{seatOfKey}
+use Rattle.banavoge_laws.proofs.SittingLaws.{key-found, found-key, nowhere-found, found-nowhere}
 use Rattle.histories.specs.Seen.{seenAs, seen}
 use Rattle.histories.specs.Lent.{Lent, lentWith}
 use Rattle.histories.specs.History.{sends, AnyCalls, History, callsOf}

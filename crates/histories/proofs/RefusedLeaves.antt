@@ -24,11 +24,11 @@ use Rattle.relay.specs.declared.play.Run as code
 use Rattle.relay_laws.specs.Calls.{Leaves, tested, ifLong, withOutput}
 use Rattle.relay_laws.proofs.CallsLaws.{call-made}
 use Rattle.relay.specs.Play.{run, played, Playing, playing, LeavesRun, Plays}
-use Rattle.banavoge.specs.Answers.{refusalCode}
-use Rattle.banavoge.specs.Rooms.{doneOr}
-use Rattle.banavoge.specs.RelayCalls.{seatCode, countCode}
-use Rattle.banavoge.specs.Sitting.{Told, turned, sits, whoSits, sitCode, keyThen, TellsSitter, seatOfKey}
-use Rattle.banavoge.specs.Runs.{runCode, Counts, runCounts, Telling, runTold}
+use Rattle.banavoge_laws.specs.Answers.{refusalCode}
+use Rattle.banavoge_laws.specs.Rooms.{doneOr}
+use Rattle.banavoge_laws.specs.RelayCalls.{seatCode, countCode}
+use Rattle.banavoge_laws.specs.Sitting.{Told, turned, sits, whoSits, sitCode, keyThen, TellsSitter, seatOfKey}
+use Rattle.banavoge_laws.specs.Runs.{runCode, Counts, runCounts, Telling, runTold}
 use Rattle.histories.specs.ExportedCalls.{HostMemory, hostMemory, noPlaces, Exported, empties, checks, arrives, departs, sends, ticks, tellsKey, tellsSeat, plays, TestsRoom, Below0}
 
 -- ---- single calls

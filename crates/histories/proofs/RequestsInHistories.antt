@@ -35,8 +35,8 @@ use Rattle.room_laws.specs.View.{viewRoom}
 use Rattle.room_laws.specs.Store.{storeAll}
 use Rattle.room_laws.proofs.WholeLaws.{whole-view}
 use Rattle.relay_laws.specs.Calls.{Leaves, tested, ifLong, withOutput, Sends}
-use Rattle.banavoge.specs.Answers.{ToldAs}
-use Rattle.banavoge.specs.RelayCalls.{countCode}
+use Rattle.banavoge_laws.specs.Answers.{ToldAs}
+use Rattle.banavoge_laws.specs.RelayCalls.{countCode}
 use Rattle.histories.specs.Seen.{seenAs, seen}
 use Rattle.histories.specs.Lent.{Lent, lentWith}
 use Rattle.histories.specs.History.{Step, sends, AnyCalls, History, callsOf}

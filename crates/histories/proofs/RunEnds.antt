@@ -30,8 +30,8 @@ use Rattle.relay.specs.declared.play.Stop.the-variants.{End}
 use Rattle.relay.specs.Play.{entryHead, entryBytes, entriesBytes, mostSpace, run, Plays}
 use Rattle.records.proofs.EntryLaws.{length-entry-head}
 use Rattle.relay.proofs.PlayLaws.{space-within, next-end, next-plays, firstThen, run-stops, run-plays}
-use Rattle.banavoge.specs.Answers.{ToldAs}
-use Rattle.banavoge.specs.Runs.{Counts, Telling, runTold}
+use Rattle.banavoge_laws.specs.Answers.{ToldAs}
+use Rattle.banavoge_laws.specs.Runs.{Counts, Telling, runTold}
 use Rattle.histories.specs.Runs.{AllStorable, runOn, writtenFor, LeftForEach, AllPlayed}
 use Rattle.histories.proofs.RunIsChain.{run-told, run-is-chain}
 use Rattle.histories.proofs.RunStops.{transcript-append}

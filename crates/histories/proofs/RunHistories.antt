@@ -14,8 +14,8 @@ use Rattle.rules.specs.History.{Event}
 use Rattle.rules.specs.Transcript.{fromEmpty}
 use Rattle.isolation.specs.Record.{recordFor, packetsFor, answersFor, zeroForC}
 use Rattle.relay.specs.Play.{Plays}
-use Rattle.banavoge.specs.Answers.{ToldAs}
-use Rattle.banavoge.specs.Runs.{Counts, Telling, runTold}
+use Rattle.banavoge_laws.specs.Answers.{ToldAs}
+use Rattle.banavoge_laws.specs.Runs.{Counts, Telling, runTold}
 use Rattle.histories.specs.Lent.{Lent}
 use Rattle.histories.specs.History.{none, AnyCalls, History}
 use Rattle.histories.specs.RunSeen.{runSeen}

@@ -28,8 +28,8 @@ use Rattle.relay.specs.Play as play
 use Rattle.relay_laws.proofs.PartLaws.{store-all-append}
 use Rattle.relay.proofs.PlayLaws.{next-is, restOf}
 use Rattle.relay.proofs.RunCases.{stored-key}
-use Rattle.banavoge.specs.Answers.{ToldAs}
-use Rattle.banavoge.specs.Runs.{stopNumber, runCode, Counts, runCounts, Telling, telling, runTold}
+use Rattle.banavoge_laws.specs.Answers.{ToldAs}
+use Rattle.banavoge_laws.specs.Runs.{stopNumber, runCode, Counts, runCounts, Telling, telling, runTold}
 use Rattle.histories.specs.Lent.{Lent, AllLong}
 use Rattle.histories.specs.History.{AnyChain, none, next, Chain, callsOf}
 use Rattle.histories.specs.Runs.{InFront, runOn, runEvents, readBy, writtenFor, SameAsRun}

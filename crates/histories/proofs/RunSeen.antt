@@ -27,8 +27,8 @@ use Rattle.relay_laws.specs.Calls.{written}
 use Rattle.relay.specs.Play.{entryHead, entryBytes, entriesBytes, Plays}
 use Rattle.relay_laws.proofs.OutcomeLeaves.{made-written}
 use Rattle.records.proofs.EntryLaws.{length-entry-head}
-use Rattle.banavoge.specs.Answers.{ToldAs}
-use Rattle.banavoge.specs.Runs.{Counts, Telling, runTold}
+use Rattle.banavoge_laws.specs.Answers.{ToldAs}
+use Rattle.banavoge_laws.specs.Runs.{Counts, Telling, runTold}
 use Rattle.histories.specs.Seen.{seenAs}
 use Rattle.histories.specs.Lent.{Lent, lentOutcome, lentEvent}
 use Rattle.histories.specs.History.{AnyChain, none, next, Chain, callsOf}

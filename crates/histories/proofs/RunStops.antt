@@ -34,8 +34,8 @@ use Rattle.relay.specs.declared.play.Stop.{Stop}
 use Rattle.relay.specs.declared.play.Stop.the-variants.{End, NoCall, Allowance, Output}
 use Rattle.relay.specs.Play.{entryBytes, entriesBytes, Next, stops, plays, leastSpace, nextCall, next, Run, goOn, run, played, Playing, playing, Plays}
 use Rattle.relay.proofs.PlayLaws.{next-is, ended, firstThen, restOf}
-use Rattle.banavoge.specs.Answers.{refusalCode, ToldAs}
-use Rattle.banavoge.specs.Runs.{stopNumber, runCode, Counts, Telling, telling, runTold}
+use Rattle.banavoge_laws.specs.Answers.{refusalCode, ToldAs}
+use Rattle.banavoge_laws.specs.Runs.{stopNumber, runCode, Counts, Telling, telling, runTold}
 use Rattle.histories.specs.History.{Chain}
 use Rattle.histories.specs.Runs.{InFront, runOn, runEvents, readBy, writtenFor, StoppedThere, CallNext, StopMeans}
 use Rattle.histories.proofs.Histories.{chain-runs}

@@ -1,29 +1,26 @@
 -- Ticks that the host makes: document 02, "Notice dead laptops". After any calls from the empty room in lent memory, whatever outputs it lent, `banavoge_tick`
 -- with an output that is long enough is answered, and does, what the paper says by what the host has seen before (`tick-after-calls`, `tick-does-after-calls`);
--- and so does every tick inside a history. And of every history: "where the clock moves by at most one second a tick, a client that never answers is gone when
--- the clock is 40 past its latest arrival" (`silent-gone-in-histories`). And after any calls `banavoge_key_in` tells who sits in a seat. Assumes nothing.
+-- and so does every tick inside a history. That the room after it says the same is `any-calls-tied` (`Histories`), and that a refused one leaves room and output is
+-- `refused-leaves` (`RefusedLeaves`). And after any calls `banavoge_key_in` tells who sits in a seat. Assumes nothing.
 use mathlib.Core.Path.{_≡_, refl, sym, ap, subst, _∙_}
 use mathlib.Core.Bool.{true, false}
 use mathlib.Core.List.{List, [], _∷_, _++_}
-use mathlib.Core.Logic.{_≢_}
-use Prim.Native.Nat.{ℕ, _+_, _≤_}
+use Prim.Native.Nat.{ℕ, _≤_}
 use lib.IntN.{ℤ}
 use lib.ListN.{length}
-use Rattle.rules.specs.Room.{sizesOf, Key}
+use Rattle.rules.specs.Room.{sizesOf}
 use Rattle.rules.specs.Call.{Call, tick, needed}
 use Rattle.rules.specs.History.{Event, event}
-use Rattle.rules.specs.Transcript.{clientOf, fromEmpty, isAccepted, clockOf, sitter}
+use Rattle.rules.specs.Transcript.{fromEmpty, isAccepted, sitter}
 use Rattle.rules.specs.After.{pastAfter}
 use Rattle.after_calls.specs.Ticks.{TickAnswered, AsBefore, TickDoes}
-use Rattle.after_calls.specs.Silent.{NeverAnswers}
 use Rattle.after_calls.proofs.Ticks.{tick-answered, refused-tick}
 use Rattle.after_calls.proofs.TickTells.{tick-does, tick-answered-from-empty, refused-tick-from-empty, tick-does-from-empty}
-use Rattle.after_calls.proofs.Silent.{silent-gone-from-empty}
 use Rattle.relay_laws.specs.Calls.{Ticks}
-use Rattle.banavoge.specs.Answers.{ToldAs}
-use Rattle.banavoge.specs.RelayCalls.{countCode}
-use Rattle.banavoge.specs.Sitting.{Told, sitCode, keyThen, TellsSitter, toldOf}
-use Rattle.banavoge.proofs.SittingLaws.{told-of-sitter}
+use Rattle.banavoge_laws.specs.Answers.{ToldAs}
+use Rattle.banavoge_laws.specs.RelayCalls.{countCode}
+use Rattle.banavoge_laws.specs.Sitting.{Told, sitCode, keyThen, TellsSitter, toldOf}
+use Rattle.banavoge_laws.proofs.SittingLaws.{told-of-sitter}
 use Rattle.histories.specs.Seen.{seenAs, seen}
 use Rattle.histories.specs.Lent.{Lent, lentWith}
 use Rattle.histories.specs.History.{ticks, AnyCalls, History, callsOf}
@@ -78,16 +75,6 @@ module _ (s n : ℕ) (events : List Event) (b′ : List ℕ) (h : History s n ev
 
   pub tick-does-in-histories : isAccepted (e .answer) ≡ true → TickDoes (sizesOf s n) (fromEmpty (sizesOf s n)) (pastAfter [] before) time number e
   tick-does-in-histories = tick-does-from-empty (sizesOf s n) (callsOf events) before e later (history-event s n events b′ h before e later t) time number c
-
--- ---- the 40 seconds: `before` has happened by the arrival `e`, `later` by now, and `after` is still to come
-
-pub silent-gone-in-histories : (s n : ℕ) (events : List Event) (b′ : List ℕ) → History s n events b′
-    → (before : List Event) (e : Event) (later after : List Event) → events ≡ before ++ (e ∷ (later ++ after))
-    → (key : Key) → NeverAnswers (fromEmpty (sizesOf s n)) (pastAfter [] before) key e later
-    → clockOf (fromEmpty (sizesOf s n)) (pastAfter [] before) + 40 ≤ clockOf (fromEmpty (sizesOf s n)) (pastAfter [] (before ++ (e ∷ later)))
-    → (seat : ℕ) → sitter (fromEmpty (sizesOf s n)) (pastAfter [] (before ++ (e ∷ later))) seat ≢ clientOf key
-silent-gone-in-histories s n events b′ h before e later after t =
-    silent-gone-from-empty (sizesOf s n) (callsOf events) before e later after (history-event s n events b′ h before e (later ++ after) t)
 
 -- ---- who was put out: after any calls, `banavoge_key_in` tells who sits in a seat by what the host has seen
 

@@ -37,10 +37,10 @@ use Rattle.node.proofs.NodeLaws.{read-packed, info-of-value}
 use Rattle.node.proofs.RoundTrips.{read-exactly, count-put, put-count, value-settled, value-fits}
 use Rattle.node.proofs.StepLaws.{step-read}
 use Rattle.fields.specs.declared.Fields.{Fields}
-use Rattle.banavoge.specs.Answers.{writtenCode, OfBytes, ToldAs}
-use Rattle.banavoge.specs.Fields.{Places, placesOf, readCode, placesAfter, keyAfter}
+use Rattle.banavoge_laws.specs.Answers.{writtenCode, OfBytes, ToldAs}
+use Rattle.banavoge_laws.specs.Fields.{Places, placesOf, readCode, placesAfter, keyAfter}
 use Rattle.fields.specs.Fields.{clientFields, relayFields}
-use Rattle.banavoge.specs.Nodes.{NodePlaces, nodePlacesOf, nodeGiven, nodeCode, nodeAfter, ReadsNode, stepCode, stepAfter, StepsNode, nodeWrittenCode}
+use Rattle.banavoge_laws.specs.Nodes.{NodePlaces, nodePlacesOf, nodeGiven, nodeCode, nodeAfter, ReadsNode, stepCode, stepAfter, StepsNode, nodeWrittenCode}
 use Rattle.histories.specs.WrittenAndRead.{kindTold, payloadAt, clientTold, relayTold, Tells, RelayTells, ClientTells, ClientWriting, RelayWriting, Makes, WrittenBack, NodeTold, NodeTells, NodeMakes}
 use Rattle.histories.proofs.Answered.{below-not}
 

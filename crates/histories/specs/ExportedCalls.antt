@@ -12,11 +12,11 @@ use Rattle.room_laws.specs.Whole.{roomWhole}
 use Rattle.room_laws.specs.Store.{MakesEmpty}
 use Rattle.relay_laws.specs.Calls.{Arrives, Departs, Sends, Ticks}
 use Rattle.relay.specs.Play.{Plays}
-use Rattle.banavoge.specs.Answers.{ToldAs}
-use Rattle.banavoge.specs.Rooms.{doneOr}
-use Rattle.banavoge.specs.RelayCalls.{seatCode, countCode}
-use Rattle.banavoge.specs.Sitting.{TellsSitter, seatOfKey}
-use Rattle.banavoge.specs.Runs.{Counts, counts, runTold}
+use Rattle.banavoge_laws.specs.Answers.{ToldAs}
+use Rattle.banavoge_laws.specs.Rooms.{doneOr}
+use Rattle.banavoge_laws.specs.RelayCalls.{seatCode, countCode}
+use Rattle.banavoge_laws.specs.Sitting.{TellsSitter, seatOfKey}
+use Rattle.banavoge_laws.specs.Runs.{Counts, counts, runTold}
 
 -- the memory of a room, the output or the 32 bytes for a key, and the places for counts
 pub record HostMemory : Type 0 where

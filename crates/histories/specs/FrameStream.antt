@@ -8,8 +8,8 @@ use lib.ListN.{length, take, drop}
 use Rattle.refusal.specs.declared.Refusal.the-variants.{OutputTooShort, BadFrame}
 use Rattle.frame.specs.Frames.{bad, parted, framesOf}
 use Rattle.frame.specs.Reader.{readerHolding, readFrame}
-use Rattle.banavoge.specs.Answers.{refusalCode}
-use Rattle.banavoge.specs.Frames.{FramePlaces, framePlaces, ReadsFrame}
+use Rattle.banavoge_laws.specs.Answers.{refusalCode}
+use Rattle.banavoge_laws.specs.Frames.{FramePlaces, framePlaces, ReadsFrame}
 
 -- ---- one call
 

@@ -1,7 +1,7 @@
 -- Histories as the host makes them. Document 01, "The record for a client": "A history is any sequence of Arrive, Leave and packet calls, with any bytes,
 -- refused ones included. The first gets the empty room, each later one the room that the last returned; nothing else writes the room meanwhile. Each lent
 -- output is long enough that 10 is not given." And document 02: "Ticks are calls of a history too". The room is lent bytes, for s seats with n connection numbers
--- each. A step is the relation that the contract of an exported call states (`banavoge`, `ToldAs`; held in `contracts`), on the bytes given and left, and is seen
+-- each. A step is the relation that the contract of an exported call states (`banavoge_laws`, `ToldAs`; held in `contracts`), on the bytes given and left, and is seen
 -- by the number that the export answers.
 use mathlib.Core.List.{List, [], _∷_}
 use mathlib.Core.Path.{_≡_}
@@ -13,9 +13,9 @@ use Rattle.rules.specs.Call.{Call, arrive, leave, packetCall, tick}
 use Rattle.rules.specs.History.{Event}
 use Rattle.room_laws.specs.Store.{MakesEmpty}
 use Rattle.relay_laws.specs.Calls.{Arrives, Departs, Sends, Ticks}
-use Rattle.banavoge.specs.Answers.{ToldAs}
-use Rattle.banavoge.specs.Rooms.{doneOr}
-use Rattle.banavoge.specs.RelayCalls.{seatCode, countCode}
+use Rattle.banavoge_laws.specs.Answers.{ToldAs}
+use Rattle.banavoge_laws.specs.Rooms.{doneOr}
+use Rattle.banavoge_laws.specs.RelayCalls.{seatCode, countCode}
 use Rattle.histories.specs.Seen.{seen}
 use Rattle.histories.specs.Lent.{Lent, lentWith, AllLong}
 

@@ -18,10 +18,10 @@ use Rattle.lent_list_laws.specs.Layout.{listLength, listAt, Fits}
 use Rattle.lent_list_laws.specs.Calls.{Begins, Offers, Removes}
 use Rattle.lent_list.specs.Held.{heldAt}
 use Rattle.lent_list.specs.Held as lent
-use Rattle.banavoge.specs.Answers.{refusalCode, ToldAs}
-use Rattle.banavoge.specs.Nodes.{nodeGiven}
-use Rattle.banavoge.specs.Nearest.{doneCode, keptCode, heldCode, HeldPlaces, heldPlaces, ShowsHeld}
-use Rattle.banavoge.specs.Nearest as told
+use Rattle.banavoge_laws.specs.Answers.{refusalCode, ToldAs}
+use Rattle.banavoge_laws.specs.Nodes.{nodeGiven}
+use Rattle.banavoge_laws.specs.Nearest.{doneCode, keptCode, heldCode, HeldPlaces, heldPlaces, ShowsHeld}
+use Rattle.banavoge_laws.specs.Nearest as told
 
 -- ---- one call
 

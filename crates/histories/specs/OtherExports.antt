@@ -19,12 +19,12 @@ use Rattle.nearest.specs.Lists.{sizeRight}
 use Rattle.lent_list_laws.specs.Calls.{Begins, Offers, Removes}
 use Rattle.lent_list.specs.Held.{heldAt}
 use Rattle.frame.specs.Reader.{readerHolding, readFrame}
-use Rattle.banavoge.specs.Answers.{ToldAs, writtenCode}
-use Rattle.banavoge.specs.Frames.{FramePlaces, framePlaces, ReadsFrame}
-use Rattle.banavoge.specs.Fields.{Places, ReadsFields, ReadsKey}
+use Rattle.banavoge_laws.specs.Answers.{ToldAs, writtenCode}
+use Rattle.banavoge_laws.specs.Frames.{FramePlaces, framePlaces, ReadsFrame}
+use Rattle.banavoge_laws.specs.Fields.{Places, ReadsFields, ReadsKey}
 use Rattle.fields.specs.Fields.{clientFields, relayFields}
-use Rattle.banavoge.specs.Nodes.{NodePlaces, nodeWrittenCode, ReadsNode, StepsNode}
-use Rattle.banavoge.specs.Nearest.{doneCode, keptCode, HeldPlaces, ShowsHeld}
+use Rattle.banavoge_laws.specs.Nodes.{NodePlaces, nodeWrittenCode, ReadsNode, StepsNode}
+use Rattle.banavoge_laws.specs.Nearest.{doneCode, keptCode, HeldPlaces, ShowsHeld}
 
 -- an output, a list or a key; the places of a reader, of a node, of a held node; the keep and the places of a reader of frames
 pub data Lending : Type 0 where

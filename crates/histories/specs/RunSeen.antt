@@ -16,7 +16,7 @@ use Rattle.rules.specs.History.{Event}
 use Rattle.records.specs.Read.{tooLong}
 use Rattle.stored.specs.Stored.{storedBytes, First, none, call, firstCall}
 use Rattle.relay_laws.specs.Calls.{written}
-use Rattle.banavoge.specs.Runs.{Telling}
+use Rattle.banavoge_laws.specs.Runs.{Telling}
 use Rattle.histories.specs.Seen.{seenAs}
 
 -- ---- the calls that were played

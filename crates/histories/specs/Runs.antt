@@ -14,8 +14,8 @@ use Rattle.stored.specs.Stored.{storedBytes, storedAll, Storable, none, call, f
 use Rattle.relay.specs.declared.play.Stop.{Stop}
 use Rattle.relay.specs.declared.play.Stop.the-variants.{End, NoCall, Allowance, Output}
 use Rattle.relay.specs.Play.{entriesBytes, stops, leastSpace, next, Run, run, Plays}
-use Rattle.banavoge.specs.Answers.{ToldAs}
-use Rattle.banavoge.specs.Runs.{stopNumber, Counts, Telling, telling, runTold}
+use Rattle.banavoge_laws.specs.Answers.{ToldAs}
+use Rattle.banavoge_laws.specs.Runs.{stopNumber, Counts, Telling, telling, runTold}
 use Rattle.histories.specs.Lent.{Lent, AllLong}
 use Rattle.histories.specs.History.{Chain, BeginsEmpty, AnyCalls, callsOf}
 

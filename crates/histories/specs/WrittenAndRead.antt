@@ -20,10 +20,10 @@ use Rattle.node.specs.Values.{settled}
 use Rattle.node.specs.Steps.{stepOf}
 use Rattle.node.specs.Written.{WritesNode}
 use Rattle.fields.specs.declared.Fields.{Fields}
-use Rattle.banavoge.specs.Answers.{OfBytes, ToldAs, writtenCode}
-use Rattle.banavoge.specs.Fields.{Places, ReadsFields, ReadsKey}
+use Rattle.banavoge_laws.specs.Answers.{OfBytes, ToldAs, writtenCode}
+use Rattle.banavoge_laws.specs.Fields.{Places, ReadsFields, ReadsKey}
 use Rattle.fields.specs.Fields.{clientFields, relayFields}
-use Rattle.banavoge.specs.Nodes.{NodePlaces, nodeGiven, nodeWrittenCode, ReadsNode, StepsNode}
+use Rattle.banavoge_laws.specs.Nodes.{NodePlaces, nodeGiven, nodeWrittenCode, ReadsNode, StepsNode}
 
 -- ---- packets: what the host is told
 

@@ -9,7 +9,7 @@ use mathlib.Core.List.{List, [], _∷_, _++_, map}
 use Prim.Native.Nat.{ℕ}
 use native.Mathlib.Omega.{arith}
 use Rattle.wire.specs.Numbers.{bytesOf}
-use Rattle.rules.specs.Room.{Sizes, Key, sizesOf}
+use Rattle.rules.specs.Room.{Key, baseSizes}
 use Rattle.rules.specs.Call.{Call, arrive, leave, packetCall, tick}
 use Rattle.rules.specs.History.{happens}
 use Rattle.rules.specs.Transcript.{fromEmpty}
@@ -32,25 +32,22 @@ withTicks f (ticked time number out ∷ es) = f time number out ++ withTicks f e
 
 -- would it do: are C's packets equal where so much of the records is
 abbrev pub Suffices : (List Entry → List Entry) → Type 0
-Suffices less = (sizes : Sizes) (c : Key) (h₁ h₂ : List Call)
-    → zeroForC (fromEmpty sizes) [] c (happens sizes h₁) ≡ false
-    → zeroForC (fromEmpty sizes) [] c (happens sizes h₂) ≡ false
-    → less (recordFor (fromEmpty sizes) [] c (happens sizes h₁)) ≡ less (recordFor (fromEmpty sizes) [] c (happens sizes h₂))
-    → packetsFor (fromEmpty sizes) [] c (happens sizes h₁) ≡ packetsFor (fromEmpty sizes) [] c (happens sizes h₂)
-
-small : Sizes
-small = sizesOf 2 1
+Suffices less = (c : Key) (h₁ h₂ : List Call)
+    → zeroForC (fromEmpty baseSizes) [] c (happens baseSizes h₁) ≡ false
+    → zeroForC (fromEmpty baseSizes) [] c (happens baseSizes h₂) ≡ false
+    → less (recordFor (fromEmpty baseSizes) [] c (happens baseSizes h₁)) ≡ less (recordFor (fromEmpty baseSizes) [] c (happens baseSizes h₂))
+    → packetsFor (fromEmpty baseSizes) [] c (happens baseSizes h₁) ≡ packetsFor (fromEmpty baseSizes) [] c (happens baseSizes h₂)
 
 -- a history without a 0 for C, what is left of its record, and what C is handed in it
 record Shown (less : List Entry → List Entry) (calls : List Call) (es : List Entry) (packets : List (List ℕ)) : Type 0 where
-  noZero : zeroForC (fromEmpty small) [] kc (happens small calls) ≡ false
-  entered : less (recordFor (fromEmpty small) [] kc (happens small calls)) ≡ es
-  given : packetsFor (fromEmpty small) [] kc (happens small calls) ≡ packets
+  noZero : zeroForC (fromEmpty baseSizes) [] kc (happens baseSizes calls) ≡ false
+  entered : less (recordFor (fromEmpty baseSizes) [] kc (happens baseSizes calls)) ≡ es
+  given : packetsFor (fromEmpty baseSizes) [] kc (happens baseSizes calls) ≡ packets
 
 -- two that leave the same, with different packets
 not-enough : (less : List Entry → List Entry) (h₁ h₂ : List Call) (es : List Entry) (p₁ p₂ : List (List ℕ)) → Shown less h₁ es p₁ → Shown less h₂ es p₂ → p₁ ≢ p₂ → Suffices less → ⊥
 not-enough less h₁ h₂ es p₁ p₂ a b differ all =
-    differ (sym (a .given) ∙ all small kc h₁ h₂ (a .noZero) (b .noZero) (a .entered ∙ sym (b .entered)) ∙ b .given)
+    differ (sym (a .given) ∙ all kc h₁ h₂ (a .noZero) (b .noZero) (a .entered ∙ sym (b .entered)) ∙ b .given)
 
 -- ---- C alone: with a tick at 30 it is pinged with the tick's number, with none or one at 29 it is not
 
@@ -73,11 +70,11 @@ abbrev pub noTicks : List Entry → List Entry
 noTicks = withTicks (λ time number out. [])
 
 no-ticks : Shown noTicks (arrive kc ∷ []) seated []
-unfolding opened recorded small withTicks seated
+unfolding opened recorded withTicks seated
 no-ticks = record { noZero = refl; entered = refl; given = refl }
 
 one-tick : Shown noTicks (arrive kc ∷ tick 30 1 ∷ []) seated (pinged 1)
-unfolding opened recorded small withTicks seated pinged
+unfolding opened recorded withTicks seated pinged
 one-tick = record { noZero = refl; entered = refl; given = refl }
 
 pub needs-ticks : Suffices noTicks → ⊥
@@ -88,11 +85,11 @@ abbrev pub noTimes : List Entry → List Entry
 noTimes = withTicks (λ time number out. ticked 0 number out ∷ [])
 
 too-early : Shown noTimes (arrive kc ∷ tick 29 1 ∷ []) (seated ++ (ticked 0 1 [] ∷ [])) []
-unfolding opened recorded small withTicks seated
+unfolding opened recorded withTicks seated
 too-early = record { noZero = refl; entered = refl; given = refl }
 
 in-time : Shown noTimes (arrive kc ∷ tick 30 1 ∷ []) (seated ++ (ticked 0 1 [] ∷ [])) (pinged 1)
-unfolding opened recorded small withTicks seated pinged
+unfolding opened recorded withTicks seated pinged
 in-time = record { noZero = refl; entered = refl; given = refl }
 
 pub needs-times : Suffices noTimes → ⊥
@@ -104,11 +101,11 @@ abbrev pub noNumbers : List Entry → List Entry
 noNumbers = withTicks (λ time number out. ticked time 0 out ∷ [])
 
 by-one : Shown noNumbers (arrive kc ∷ tick 30 1 ∷ []) (seated ++ (ticked 30 0 [] ∷ [])) (pinged 1)
-unfolding opened recorded small withTicks seated pinged
+unfolding opened recorded withTicks seated pinged
 by-one = record { noZero = refl; entered = refl; given = refl }
 
 by-two : Shown noNumbers (arrive kc ∷ tick 30 2 ∷ []) (seated ++ (ticked 30 0 [] ∷ [])) (pinged 2)
-unfolding opened recorded small withTicks seated pinged
+unfolding opened recorded withTicks seated pinged
 by-two = record { noZero = refl; entered = refl; given = refl }
 
 pub needs-numbers : Suffices noNumbers → ⊥
@@ -141,11 +138,11 @@ abbrev pub noKeys : List Entry → List Entry
 noKeys = withTicks (λ time number out. ticked time number [] ∷ [])
 
 puts-out : Shown noKeys (meeting ++ (tick 60 2 ∷ [])) (met ++ (ticked 60 2 [] ∷ [])) (handedThen (lost ∷ ping ∷ []))
-unfolding opened recorded small withTicks meeting met handedThen lost ping
+unfolding opened recorded withTicks meeting met handedThen lost ping
 puts-out = record { noZero = refl; entered = refl; given = refl }
 
 puts-none-out : Shown noKeys (meeting ++ (answers ∷ tick 60 2 ∷ [])) (met ++ (ticked 60 2 [] ∷ [])) (handedThen (ping ∷ []))
-unfolding opened recorded small withTicks meeting answers met handedThen ping
+unfolding opened recorded withTicks meeting answers met handedThen ping
 puts-none-out = record { noZero = refl; entered = refl; given = refl }
 
 told-or-not : handedThen (lost ∷ ping ∷ []) ≢ handedThen (ping ∷ [])
@@ -162,11 +159,11 @@ abbrev pub unmarked : List Entry → List Entry
 unmarked = withTicks (λ time number out. ticked time number [] ∷ map departed out)
 
 out-by-tick : Shown unmarked (meeting ++ (tick 60 2 ∷ [])) (met ++ (ticked 60 2 [] ∷ departed ka ∷ [])) (handedThen (lost ∷ ping ∷ []))
-unfolding opened recorded small withTicks meeting met handedThen lost ping
+unfolding opened recorded withTicks meeting met handedThen lost ping
 out-by-tick = record { noZero = refl; entered = refl; given = refl }
 
 out-by-leave : Shown unmarked (meeting ++ (answers ∷ tick 60 2 ∷ leave 0 ∷ [])) (met ++ (ticked 60 2 [] ∷ departed ka ∷ [])) (handedThen (ping ∷ lost ∷ []))
-unfolding opened recorded small withTicks meeting answers met handedThen lost ping
+unfolding opened recorded withTicks meeting answers met handedThen lost ping
 out-by-leave = record { noZero = refl; entered = refl; given = refl }
 
 told-before-or-after : handedThen (lost ∷ ping ∷ []) ≢ handedThen (ping ∷ lost ∷ [])
@@ -179,16 +176,16 @@ needs-marks =
     (handedThen (lost ∷ ping ∷ [])) (handedThen (ping ∷ lost ∷ [])) out-by-tick out-by-leave told-before-or-after
 
 -- "so that a Leave after a tick reads otherwise": as they are, the two records differ
-tick-reads : recordFor (fromEmpty small) [] kc (happens small (meeting ++ (tick 60 2 ∷ []))) ≡ met ++ (ticked 60 2 (ka ∷ []) ∷ [])
-unfolding opened recorded small meeting met
+tick-reads : recordFor (fromEmpty baseSizes) [] kc (happens baseSizes (meeting ++ (tick 60 2 ∷ []))) ≡ met ++ (ticked 60 2 (ka ∷ []) ∷ [])
+unfolding opened recorded meeting met
 tick-reads = refl
 
-leave-reads : recordFor (fromEmpty small) [] kc (happens small (meeting ++ (answers ∷ tick 60 2 ∷ leave 0 ∷ []))) ≡ met ++ (ticked 60 2 [] ∷ departed ka ∷ [])
-unfolding opened recorded small meeting answers met
+leave-reads : recordFor (fromEmpty baseSizes) [] kc (happens baseSizes (meeting ++ (answers ∷ tick 60 2 ∷ leave 0 ∷ []))) ≡ met ++ (ticked 60 2 [] ∷ departed ka ∷ [])
+unfolding opened recorded meeting answers met
 leave-reads = refl
 
-reads-otherwise : recordFor (fromEmpty small) [] kc (happens small (meeting ++ (tick 60 2 ∷ [])))
-    ≢ recordFor (fromEmpty small) [] kc (happens small (meeting ++ (answers ∷ tick 60 2 ∷ leave 0 ∷ [])))
+reads-otherwise : recordFor (fromEmpty baseSizes) [] kc (happens baseSizes (meeting ++ (tick 60 2 ∷ [])))
+    ≢ recordFor (fromEmpty baseSizes) [] kc (happens baseSizes (meeting ++ (answers ∷ tick 60 2 ∷ leave 0 ∷ [])))
 reads-otherwise e = differ (sym tick-reads ∙ e ∙ leave-reads)
   where
     differ : met ++ (ticked 60 2 (ka ∷ []) ∷ []) ≢ met ++ (ticked 60 2 [] ∷ departed ka ∷ [])

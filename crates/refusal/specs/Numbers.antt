@@ -12,7 +12,7 @@ abbrev pub refusalNumber : Refusal → ℕ
 refusalNumber RoomFull = 1
 -- "arrival of a key already seated"
 refusalNumber AlreadySeated = 2
--- "seat above 39, or empty"
+-- "seat above 39, or empty"; where a key sits is asked for, also a key that sits nowhere
 refusalNumber NotSeated = 3
 -- "packet of 0 or more than 2,032 bytes"
 refusalNumber PacketSize = 4

@@ -1,6 +1,6 @@
 -- What each public call does: one relation between what it is given (the call, the bytes of the room, the output) and what it leaves (the bytes of the room,
 -- the output, its answer). The relation is named here once. It is the contract of the function in `relay`; the contract of the export is the same relation with
--- the answer as one number (`banavoge`, `Answers.antt`); and a step of a history is made of that (`histories`, `History.antt`).
+-- the answer as one number (`banavoge_laws`, `Answers.antt`); and a step of a history is made of that (`histories`, `History.antt`).
 use mathlib.Core.Bool.{cond}
 use mathlib.Core.List.{List, [], _++_}
 use mathlib.Core.Path.{_≡_}

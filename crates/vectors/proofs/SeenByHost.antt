@@ -23,8 +23,8 @@ use Rattle.nearest.specs.Sequence.{offers}
 use Rattle.rules.specs.Room.{baseSizes, emptyRoom}
 use Rattle.rules.specs.Call.{Call}
 use Rattle.rules.specs.History.{Event, transcript}
-use Rattle.banavoge.specs.Nodes.{nodePlacesOf, nodeCode, nodeAfter, nodeWrittenCode}
-use Rattle.banavoge.specs.Nearest.{keptCode}
+use Rattle.banavoge_laws.specs.Nodes.{nodePlacesOf, nodeCode, nodeAfter, nodeWrittenCode}
+use Rattle.banavoge_laws.specs.Nearest.{keptCode}
 use Rattle.histories.specs.ListHistory.{listAfter, eventOf, listEvents, listAfterAll, ReadsBack}
 use Rattle.histories.proofs.Histories.{base-history-runs}
 use Rattle.histories.proofs.ListHistories.{begun-empty, list-steps, list-reads-back}

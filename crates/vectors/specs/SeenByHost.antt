@@ -15,9 +15,9 @@ use Rattle.node.specs.Written.{WritesNode}
 use Rattle.nearest.specs.declared.OfferAnswer.{OfferAnswer}
 use Rattle.rules.specs.Room.{baseSizes}
 use Rattle.rules.specs.History.{Event}
-use Rattle.banavoge.specs.Answers.{ToldAs}
-use Rattle.banavoge.specs.Nodes.{NodePlaces, ReadsNode, nodeWrittenCode}
-use Rattle.banavoge.specs.Nearest.{keptCode}
+use Rattle.banavoge_laws.specs.Answers.{ToldAs}
+use Rattle.banavoge_laws.specs.Nodes.{NodePlaces, ReadsNode, nodeWrittenCode}
+use Rattle.banavoge_laws.specs.Nearest.{keptCode}
 use Rattle.histories.specs.History.{History, callsOf}
 use Rattle.histories.specs.ListHistory.{ListCall, offering, ListEvent, ListHistory, listCalls, ReadsBack}
 use Rattle.histories.specs.WrittenAndRead.{NodeTold}

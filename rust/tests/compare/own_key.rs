@@ -218,30 +218,57 @@ pub fn make_by_both(memory: &[u8], call: &Call, output: usize, told: &str) -> Re
     answer.map(|_| ())
 }
 
+/// The answers to calls on rooms that are not whole, and on whole rooms beside
+/// them.
+pub struct Made {
+    pub refused: Tally,
+    pub beside: Tally,
+}
+
+impl Made {
+    pub fn new() -> Self {
+        let (refused, beside) = (Tally::new(), Tally::new());
+        Self { refused, beside }
+    }
+
+    /// Makes each call on the memory by both. Where it holds no whole room, the
+    /// answer is 11; with output too short it is 10, which comes first.
+    pub fn make_each(
+        &mut self,
+        memory: &[u8],
+        is_whole: bool,
+        calls: impl IntoIterator<Item = Call>,
+        told: &str,
+    ) {
+        for call in calls {
+            let told = format!("{told}: {call:?}");
+            let answer = make_by_both(memory, &call, call.least_output(), &told);
+            if is_whole {
+                self.beside.add(&answer);
+                continue;
+            }
+            assert_eq!(answer, Err(11), "{told}");
+            self.refused.add(&answer);
+            // An arrival is lent no output.
+            if let Some(short) = call.least_output().checked_sub(1) {
+                let answer = make_by_both(memory, &call, short, &told);
+                assert_eq!(answer, Err(10), "{told}");
+            }
+        }
+    }
+}
+
 #[test]
 fn rooms_where_a_seat_names_its_own_key_are_not_whole() {
     let mut met = [0; NAMED.len()];
-    let (mut refused, mut beside) = (Tally::new(), Tally::new());
+    let mut made = Made::new();
     for case in cases() {
         let memory = case.memory();
         let told = format!("{case:?}");
         assert_eq!(test_by_both(&memory, &told), case.is_whole(), "{told}");
         met[case.named as usize] += 1;
-        for call in case.calls().into_iter().chain(ticks()) {
-            let told = format!("{told}: {call:?}");
-            let answer = make_by_both(&memory, &call, call.least_output(), &told);
-            if case.is_whole() {
-                beside.add(&answer);
-                continue;
-            }
-            assert_eq!(answer, Err(11), "{told}");
-            refused.add(&answer);
-            // 10 comes first; an arrival is lent no output.
-            if let Some(short) = call.least_output().checked_sub(1) {
-                let answer = make_by_both(&memory, &call, short, &told);
-                assert_eq!(answer, Err(10), "{told}");
-            }
-        }
+        let calls = case.calls().into_iter().chain(ticks());
+        made.make_each(&memory, case.is_whole(), calls, &told);
     }
 
     let mut text = String::from("rooms where a route has a seat's own key, or another");
@@ -249,12 +276,12 @@ fn rooms_where_a_seat_names_its_own_key_are_not_whole() {
         text += &format!(", {named:?}: {count}");
     }
     text += "\n";
-    text += &refused.line("calls where a seat names its own key");
-    text += &beside.line("calls on the whole rooms beside them");
+    text += &made.refused.line("calls where a seat names its own key");
+    text += &made.beside.line("calls on the whole rooms beside them");
     say(&text);
     assert!(met.iter().all(|count| *count > 0));
-    assert!(refused.total() >= 1_000);
-    beside.demand(
+    assert!(made.refused.total() >= 1_000);
+    made.beside.demand(
         "calls on the whole rooms beside them",
         &[1, 2, 3, 4, 5, 6, 7, 8, 9],
     );

@@ -8,9 +8,9 @@
 //! answer.
 
 use crate::memory::test_by_both;
-use crate::own_key::make_by_both;
+use crate::own_key::Made;
 use crate::sitting::ask_by_both;
-use crate::tally::{say, Tally};
+use crate::tally::say;
 use reference::call::Call;
 use reference::key::Key;
 use reference::memory;
@@ -54,7 +54,7 @@ impl Case {
     }
 
     /// Calls of every kind, most by the seat: accepted in a whole room, or
-    /// refused with each of 1 to 9, of the ticks with 7 and 19.
+    /// refused with 1 to 3 and 5 to 8, of the ticks with 7 and 19.
     fn calls(self) -> Vec<Call> {
         let packet = |kind: u8, rest: &[u8]| Call::Packet {
             seat: self.seat as u8,
@@ -114,7 +114,7 @@ fn cases() -> Vec<Case> {
 
 #[test]
 fn rooms_with_a_ping_time_after_the_clock_are_not_whole() {
-    let (mut refused, mut beside) = (Tally::new(), Tally::new());
+    let mut made = Made::new();
     let (mut rooms, mut stale) = (0, 0);
     for case in cases() {
         let memory = case.memory();
@@ -126,32 +126,20 @@ fn rooms_with_a_ping_time_after_the_clock_are_not_whole() {
         if !case.taken && case.ping_time > case.clock {
             stale += 1;
         }
-        for call in case.calls() {
-            let told = format!("{told}: {call:?}");
-            let answer = make_by_both(&memory, &call, call.least_output(), &told);
-            if case.is_whole() {
-                beside.add(&answer);
-                continue;
-            }
-            assert_eq!(answer, Err(11), "{told}");
-            refused.add(&answer);
-            // 10 comes first; an arrival is lent no output.
-            if let Some(short) = call.least_output().checked_sub(1) {
-                let answer = make_by_both(&memory, &call, short, &told);
-                assert_eq!(answer, Err(10), "{told}");
-            }
-        }
+        made.make_each(&memory, case.is_whole(), case.calls(), &told);
     }
 
     let mut text = format!(
         "rooms with a ping time in question: {rooms}, of these {stale} whole with a ping time \
          after the clock in an empty seat\n"
     );
-    text += &refused.line("calls where a ping time is after the clock");
-    text += &beside.line("calls on the whole rooms beside them");
+    text += &made
+        .refused
+        .line("calls where a ping time is after the clock");
+    text += &made.beside.line("calls on the whole rooms beside them");
     say(&text);
-    assert!(refused.total() >= 1_000 && stale >= 50);
-    beside.demand(
+    assert!(made.refused.total() >= 1_000 && stale >= 50);
+    made.beside.demand(
         "calls on the whole rooms beside them",
         &[2, 3, 5, 6, 7, 8, 19],
     );

@@ -141,7 +141,7 @@ impl Compared {
     }
 
     /// What stands around the room is as before; of a tick, so is all of the
-    /// room that it has no business with.
+    /// room that it may not change.
     fn accepted(&mut self, call: &Call, accepted: &Accepted, before: &Output, told: &str) {
         self.longest = self.longest.max(record::bytes(&accepted.records).len());
         let mut after = self.memory.clone();

@@ -2,7 +2,7 @@
 //! others: request 03 of document 02, "Notice dead laptops".
 //!
 //! Of a tick the room is decoded each time, and every byte of the memory that it
-//! has no business with must be as before.
+//! may not change must be as before.
 
 use crate::output::Output;
 use crate::relay::{all_met, make, Compared};

@@ -3,7 +3,7 @@ use borrow.Author.Needs.{needs}
 use mathlib.Core.Path.{_∙_, sym, ap}
 use mir.Syntax.{w32}
 use mir.ValLaws.{toZ-ofZ}
-use Rattle.banavoge.specs.Nearest.{doneCode}
+use Rattle.banavoge_laws.specs.Nearest.{doneCode}
 use Rattle.banavoge.proofs.answer.done.Statement.{statement}
 use Rattle.banavoge.proofs.answer.done.Tie as tie
 

@@ -4,7 +4,7 @@ use borrow.Author.Tests.{not-true, not-false}
 use mathlib.Core.Path.{_∙_, sym, ap}
 use mir.Syntax.{w32}
 use mir.ValLaws.{toZ-ofZ}
-use Rattle.banavoge.specs.Rooms.{doneOr}
+use Rattle.banavoge_laws.specs.Rooms.{doneOr}
 use Rattle.banavoge.proofs.answer.done_or.Statement.{statement}
 use Rattle.banavoge.proofs.answer.done_or.Tie as tie
 

@@ -3,7 +3,7 @@ use borrow.Author.Needs.{needs}
 use mathlib.Core.Path.{_∙_, sym, ap}
 use mir.Syntax.{w32}
 use mir.ValLaws.{toZ-ofZ}
-use Rattle.banavoge.specs.Nearest.{keptCode}
+use Rattle.banavoge_laws.specs.Nearest.{keptCode}
 use Rattle.banavoge.proofs.answer.kept.Statement.{statement}
 use Rattle.banavoge.proofs.answer.kept.Tie as tie
 

@@ -4,8 +4,8 @@ use mathlib.Core.Path.{_∙_, ap}
 use Prim.Native.Nat.{ℕ}
 use native.Mathlib.Omega.{arith}
 use lib.IntN.{pos, negℤ}
-use Rattle.banavoge.specs.Answers.{refusalCode}
-use Rattle.banavoge.proofs.Codes.{less-fits, less-is}
+use Rattle.banavoge_laws.specs.Answers.{refusalCode}
+use Rattle.banavoge_laws.proofs.Codes.{less-fits, less-is}
 use Rattle.banavoge.proofs.answer.refused.Statement.{statement}
 use Rattle.banavoge.proofs.answer.refused.Tie as tie
 

@@ -3,8 +3,8 @@ use borrow.Author.Needs.{needs}
 use mathlib.Core.Path.{_∙_, sym, ap}
 use mir.Syntax.{w32}
 use mir.ValLaws.{toZ-ofZ}
-use Rattle.banavoge.specs.Answers.{writtenCode}
-use Rattle.banavoge.proofs.Codes.{counted}
+use Rattle.banavoge_laws.specs.Answers.{writtenCode}
+use Rattle.banavoge_laws.proofs.Codes.{counted}
 use Rattle.banavoge.proofs.answer.written.Statement.{statement}
 use Rattle.banavoge.proofs.answer.written.Tie as tie
 

@@ -4,7 +4,7 @@ use mathlib.Core.Path.{_∙_, ap}
 use mir.Syntax.{w32}
 use mir.ValLaws.{toZ-ofZ}
 use Rattle.frame.specs.declared.Read.{Read}
-use Rattle.banavoge.specs.Frames.{framePlaces, shownCode, framePlacesAfter}
+use Rattle.banavoge_laws.specs.Frames.{framePlaces, shownCode, framePlacesAfter}
 use Rattle.banavoge.proofs.frames.banavoge_frame_read.Statement.{statement}
 use Rattle.banavoge.proofs.frames.banavoge_frame_read.Tie as tie
 

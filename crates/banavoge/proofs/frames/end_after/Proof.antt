@@ -2,7 +2,7 @@
 use borrow.Author.Needs.{needs}
 use mathlib.Core.Path.{sym, ap}
 use Rattle.frame.specs.declared.Shown.{Shown}
-use Rattle.banavoge.specs.Frames.{endAfter}
+use Rattle.banavoge_laws.specs.Frames.{endAfter}
 use Rattle.banavoge.proofs.frames.end_after.Statement.{statement}
 use Rattle.banavoge.proofs.frames.end_after.Tie as tie
 

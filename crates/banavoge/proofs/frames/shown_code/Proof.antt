@@ -3,7 +3,7 @@ use borrow.Author.Needs.{needs}
 use mathlib.Core.Path.{_∙_, sym, ap}
 use mir.Syntax.{w32}
 use mir.ValLaws.{toZ-ofZ}
-use Rattle.banavoge.specs.Frames.{shownCode}
+use Rattle.banavoge_laws.specs.Frames.{shownCode}
 use Rattle.banavoge.proofs.frames.shown_code.Statement.{statement}
 use Rattle.banavoge.proofs.frames.shown_code.Tie as tie
 

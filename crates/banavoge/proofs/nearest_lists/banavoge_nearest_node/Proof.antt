@@ -3,7 +3,7 @@ use borrow.Author.Needs.{needs}
 use mathlib.Core.Path.{_∙_}
 use mir.Syntax.{w32}
 use mir.ValLaws.{toZ-ofZ}
-use Rattle.banavoge.proofs.HeldTelling.{held-told, held-none, held-turned}
+use Rattle.banavoge_laws.proofs.HeldTelling.{held-told, held-none, held-turned}
 use Rattle.banavoge.proofs.nearest_lists.banavoge_nearest_node.Statement.{statement}
 use Rattle.banavoge.proofs.nearest_lists.banavoge_nearest_node.Tie as tie
 

@@ -6,7 +6,7 @@ use mir.ValLaws.{toZ-ofZ}
 use lib.ListN.{drop}
 use Rattle.wire.proofs.Numbers.{bytes-each}
 use Rattle.node.specs.Nodes.{readNode}
-use Rattle.banavoge.proofs.NodeTelling.{node-told, node-turned}
+use Rattle.banavoge_laws.proofs.NodeTelling.{node-told, node-turned}
 use Rattle.banavoge.proofs.nodes.banavoge_node_read.Statement.{statement}
 use Rattle.banavoge.proofs.nodes.banavoge_node_read.Tie as tie
 

@@ -5,8 +5,8 @@ use mir.Syntax.{w32}
 use mir.ValLaws.{toZ-ofZ}
 use Rattle.wire.proofs.Numbers.{bytes-each}
 use Rattle.node.specs.Steps.{stepOf}
-use Rattle.banavoge.specs.Nodes.{nodePlaces}
-use Rattle.banavoge.proofs.NodeTelling.{step-told, step-ended, step-turned}
+use Rattle.banavoge_laws.specs.Nodes.{nodePlaces}
+use Rattle.banavoge_laws.proofs.NodeTelling.{step-told, step-ended, step-turned}
 use Rattle.banavoge.proofs.nodes.banavoge_nodes_step.Statement.{statement}
 use Rattle.banavoge.proofs.nodes.banavoge_nodes_step.Tie as tie
 

@@ -3,8 +3,8 @@ use borrow.Author.Needs.{needs}
 use mathlib.Core.Path.{_∙_, sym, ap}
 use mir.Syntax.{w32}
 use mir.ValLaws.{toZ-ofZ}
-use Rattle.banavoge.specs.Nodes.{nodeWrittenCode}
-use Rattle.banavoge.proofs.NodeTelling.{node-counted}
+use Rattle.banavoge_laws.specs.Nodes.{nodeWrittenCode}
+use Rattle.banavoge_laws.proofs.NodeTelling.{node-counted}
 use Rattle.banavoge.proofs.nodes.packed.Statement.{statement}
 use Rattle.banavoge.proofs.nodes.packed.Tie as tie
 

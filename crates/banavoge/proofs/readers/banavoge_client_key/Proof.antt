@@ -7,7 +7,7 @@ use Rattle.packet_laws.specs.FromRelay.{clientRead, clientKey}
 use native.Mathlib.Omega.{arith}
 use Rattle.packet.proofs.ClientLaws.{client-key}
 use Rattle.fields.specs.Fields.{relayFields}
-use Rattle.banavoge.proofs.Reading.{client-found, client-turned, tells-key, refuses-key}
+use Rattle.banavoge_laws.proofs.Reading.{client-found, client-turned, tells-key, refuses-key}
 use Rattle.banavoge.proofs.readers.banavoge_client_key.Statement.{statement}
 use Rattle.banavoge.proofs.readers.banavoge_client_key.Tie as tie
 

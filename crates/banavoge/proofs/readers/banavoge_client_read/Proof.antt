@@ -6,7 +6,7 @@ use mir.ValLaws.{toZ-ofZ}
 use Rattle.wire.proofs.Numbers.{bytes-each}
 use Rattle.packet_laws.specs.FromRelay.{clientRead}
 use Rattle.fields.specs.Fields.{relayFields}
-use Rattle.banavoge.proofs.Reading.{client-found, client-turned, tells, refuses}
+use Rattle.banavoge_laws.proofs.Reading.{client-found, client-turned, tells, refuses}
 use Rattle.banavoge.proofs.readers.banavoge_client_read.Statement.{statement}
 use Rattle.banavoge.proofs.readers.banavoge_client_read.Tie as tie
 

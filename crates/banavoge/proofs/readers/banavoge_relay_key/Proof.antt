@@ -7,7 +7,7 @@ use Rattle.packet_laws.specs.FromClient.{relayRead, relayKey}
 use native.Mathlib.Omega.{arith}
 use Rattle.packet.proofs.RelayLaws.{relay-key}
 use Rattle.fields.specs.Fields.{clientFields}
-use Rattle.banavoge.proofs.Reading.{relay-found, relay-turned, tells-key, refuses-key}
+use Rattle.banavoge_laws.proofs.Reading.{relay-found, relay-turned, tells-key, refuses-key}
 use Rattle.banavoge.proofs.readers.banavoge_relay_key.Statement.{statement}
 use Rattle.banavoge.proofs.readers.banavoge_relay_key.Tie as tie
 

@@ -6,7 +6,7 @@ use mir.ValLaws.{toZ-ofZ}
 use Rattle.wire.proofs.Numbers.{bytes-each}
 use Rattle.packet_laws.specs.FromClient.{relayRead}
 use Rattle.fields.specs.Fields.{clientFields}
-use Rattle.banavoge.proofs.Reading.{relay-found, relay-turned, tells, refuses}
+use Rattle.banavoge_laws.proofs.Reading.{relay-found, relay-turned, tells, refuses}
 use Rattle.banavoge.proofs.readers.banavoge_relay_read.Statement.{statement}
 use Rattle.banavoge.proofs.readers.banavoge_relay_read.Tie as tie
 

@@ -4,7 +4,7 @@ use mathlib.Core.Path.{_∙_}
 use mir.Syntax.{w32}
 use mir.ValLaws.{toZ-ofZ}
 use Rattle.rules.specs.Call.{packetCall}
-use Rattle.banavoge.proofs.RelayCounts.{call-counted}
+use Rattle.banavoge_laws.proofs.RelayCounts.{call-counted}
 use Rattle.banavoge.proofs.relay_calls.banavoge_packet.Statement.{statement}
 use Rattle.banavoge.proofs.relay_calls.banavoge_packet.Tie as tie
 

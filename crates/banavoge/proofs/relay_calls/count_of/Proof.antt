@@ -6,8 +6,8 @@ use mir.Syntax.{w32}
 use mir.ValLaws.{toZ-ofZ, toZ-pos}
 use Rattle.records.specs.declared.Answer.{Answer}
 use Rattle.relay_laws.specs.Calls.{answerOf}
-use Rattle.banavoge.specs.RelayCalls.{countCode}
-use Rattle.banavoge.proofs.RelayCounts.{given-small}
+use Rattle.banavoge_laws.specs.RelayCalls.{countCode}
+use Rattle.banavoge_laws.proofs.RelayCounts.{given-small}
 use Rattle.banavoge.proofs.relay_calls.count_of.Statement.{statement}
 use Rattle.banavoge.proofs.relay_calls.count_of.Tie as tie
 

@@ -6,7 +6,7 @@ use mir.Syntax.{w32}
 use mir.ValLaws.{toZ-ofZ, toZ-pos}
 use Rattle.records.specs.declared.Answer.{Answer}
 use Rattle.relay_laws.specs.Calls.{answerOf}
-use Rattle.banavoge.specs.RelayCalls.{seatCode}
+use Rattle.banavoge_laws.specs.RelayCalls.{seatCode}
 use Rattle.banavoge.proofs.relay_calls.seat_of.Statement.{statement}
 use Rattle.banavoge.proofs.relay_calls.seat_of.Tie as tie
 

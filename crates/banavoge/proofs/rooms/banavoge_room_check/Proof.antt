@@ -4,7 +4,7 @@ use mathlib.Core.Path.{_∙_, ap}
 use mir.Syntax.{w32}
 use mir.ValLaws.{toZ-ofZ}
 use Rattle.refusal.specs.declared.Refusal.the-variants.{RoomNotWhole}
-use Rattle.banavoge.specs.Rooms.{doneOr, roomCode}
+use Rattle.banavoge_laws.specs.Rooms.{doneOr, roomCode}
 use Rattle.banavoge.proofs.rooms.banavoge_room_check.Statement.{statement}
 use Rattle.banavoge.proofs.rooms.banavoge_room_check.Tie as tie
 

@@ -5,7 +5,7 @@ use lib.IntN.{ℤ}
 use mir.Syntax.{w32}
 use mir.ValLaws.{toZ-ofZ}
 use Rattle.relay.specs.declared.play.Run.{Run}
-use Rattle.banavoge.specs.Runs.{runCode, Counts, counts, runCounts, Telling, runTold}
+use Rattle.banavoge_laws.specs.Runs.{runCode, Counts, counts, runCounts, Telling, runTold}
 use Rattle.banavoge.proofs.runs.banavoge_play.Statement.{statement}
 use Rattle.banavoge.proofs.runs.banavoge_play.Tie as tie
 

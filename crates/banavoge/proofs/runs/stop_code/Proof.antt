@@ -3,7 +3,7 @@ use borrow.Author.Needs.{needs}
 use mathlib.Core.Path.{sym, ap}
 use lib.IntN.{pos}
 use Rattle.relay.specs.declared.play.Stop.{Stop}
-use Rattle.banavoge.specs.Runs.{stopNumber}
+use Rattle.banavoge_laws.specs.Runs.{stopNumber}
 use Rattle.banavoge.proofs.runs.stop_code.Statement.{statement}
 use Rattle.banavoge.proofs.runs.stop_code.Tie as tie
 

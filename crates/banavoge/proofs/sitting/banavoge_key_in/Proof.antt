@@ -5,7 +5,7 @@ use mathlib.Core.Path.{refl, sym, _∙_}
 use mir.Syntax.{w32}
 use mir.ValLaws.{toZ-ofZ}
 use Rattle.refusal.specs.declared.Refusal.the-variants.{RoomNotWhole, NotSeated}
-use Rattle.banavoge.proofs.SittingLaws.{not-whole-told, vacant-told, key-told, tells-refusal, tells-key}
+use Rattle.banavoge_laws.proofs.SittingLaws.{not-whole-told, vacant-told, key-told, tells-refusal, tells-key}
 use Rattle.banavoge.proofs.sitting.banavoge_key_in.Statement.{statement}
 use Rattle.banavoge.proofs.sitting.banavoge_key_in.Tie as tie
 

@@ -5,7 +5,7 @@ use mathlib.Core.Path.{sym, _∙_}
 use native.Mathlib.Omega.{arith}
 use mir.Syntax.{w32}
 use mir.ValLaws.{toZ-ofZ, toZ-pos}
-use Rattle.banavoge.proofs.SittingLaws.{not-whole-code, seat-code, none-code}
+use Rattle.banavoge_laws.proofs.SittingLaws.{not-whole-code, seat-code, none-code}
 use Rattle.banavoge.proofs.sitting.banavoge_seat_of.Statement.{statement}
 use Rattle.banavoge.proofs.sitting.banavoge_seat_of.Tie as tie
 

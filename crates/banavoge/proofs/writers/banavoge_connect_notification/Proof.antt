@@ -4,7 +4,7 @@ use mathlib.Core.Path.{_∙_}
 use mir.Syntax.{w32}
 use mir.ValLaws.{toZ-ofZ}
 use Rattle.packet_laws.specs.FromRelay.{connectNotice}
-use Rattle.banavoge.proofs.Writing.{relay-counted}
+use Rattle.banavoge_laws.proofs.Writing.{relay-counted}
 use Rattle.banavoge.proofs.writers.banavoge_connect_notification.Statement.{statement}
 use Rattle.banavoge.proofs.writers.banavoge_connect_notification.Tie as tie
 

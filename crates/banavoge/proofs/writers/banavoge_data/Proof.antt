@@ -4,7 +4,7 @@ use mathlib.Core.Path.{_∙_}
 use mir.Syntax.{w32}
 use mir.ValLaws.{toZ-ofZ}
 use Rattle.packet_laws.specs.FromClient as client
-use Rattle.banavoge.proofs.Writing.{client-counted}
+use Rattle.banavoge_laws.proofs.Writing.{client-counted}
 use Rattle.banavoge.proofs.writers.banavoge_data.Statement.{statement}
 use Rattle.banavoge.proofs.writers.banavoge_data.Tie as tie
 

@@ -4,7 +4,7 @@ use mathlib.Core.Path.{_∙_}
 use mir.Syntax.{w32}
 use mir.ValLaws.{toZ-ofZ}
 use Rattle.packet_laws.specs.FromRelay.{oobReceived}
-use Rattle.banavoge.proofs.Writing.{relay-counted}
+use Rattle.banavoge_laws.proofs.Writing.{relay-counted}
 use Rattle.banavoge.proofs.writers.banavoge_oob_received.Statement.{statement}
 use Rattle.banavoge.proofs.writers.banavoge_oob_received.Tie as tie
 

@@ -13,7 +13,7 @@ use Rattle.nearest.specs.declared.OfferAnswer.the-variants as offer
 use Rattle.lent_list.specs.declared.Held.{Held}
 use Rattle.lent_list.specs.declared.Held.the-variants as found
 use Rattle.lent_list.specs.declared.HeldNode.{HeldNode}
-use Rattle.banavoge.specs.Answers.{refusalCode}
+use Rattle.banavoge_laws.specs.Answers.{refusalCode}
 
 -- the key that a parameter of a call makes
 abbrev pub keyGiven : List ℕ → Key

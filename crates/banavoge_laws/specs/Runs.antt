@@ -6,7 +6,7 @@ use Rattle.relay.specs.declared.play.Run.{Run}
 use Rattle.relay.specs.declared.play.Run.the-variants.{Stopped, Refused}
 use Rattle.relay.specs.declared.play.Stop.{Stop}
 use Rattle.relay.specs.declared.play.Stop.the-variants.{End, NoCall, Allowance, Output}
-use Rattle.banavoge.specs.Answers.{refusalCode}
+use Rattle.banavoge_laws.specs.Answers.{refusalCode}
 
 -- why it stopped
 unfoldable pub stopNumber : Stop → ℕ

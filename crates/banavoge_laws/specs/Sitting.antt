@@ -1,5 +1,5 @@
--- What the host is told of a room's seats: who sits in one, and where a key sits. This is how it learns, after a tick, whom it put out. The refusals are
--- document 01's: 11 comes first, "Every lent state is tested in full before use", then 3, "seat above 39, or empty".
+-- What the host is told of a room's seats: who sits in one, and where a key sits. This is how it learns, after a tick, whom it put out. The refusals have
+-- document 01's numbers: 11 comes first, "Every lent state is tested in full before use", then 3, "seat above 39, or empty", and here also a key that sits nowhere.
 use mathlib.Core.Bool.{cond}
 use mathlib.Core.List.{List}
 use mathlib.Core.Path.{_≡_}
@@ -11,7 +11,7 @@ use Rattle.rules.specs.Room.{Key, Seat, vacant, holds, seatAt, Found, none, at,
 use Rattle.rules.specs.Transcript.{Maker, nobody, clientOf}
 use Rattle.room_laws.specs.View.{viewRoom}
 use Rattle.room_laws.specs.Whole.{roomWhole}
-use Rattle.banavoge.specs.Answers.{refusalCode}
+use Rattle.banavoge_laws.specs.Answers.{refusalCode}
 
 -- ---- who sits in a seat
 
@@ -43,7 +43,7 @@ pub record TellsSitter (s n seat : ℕ) (b before after : List ℕ) (answer : �
   pub answers : answer ≡ sitCode (whoSits s n b seat)
   pub leaves : after ≡ keyThen (whoSits s n b seat) before
 
--- what is to be told of a seat by who sits there after the calls so far (`sitter` of `rules`, which sees calls and answers and no room)
+-- what is to be told of a seat by who sits there after the calls so far (`sitter` of `rules`, which sees calls, answers and records and no room)
 unfoldable pub toldOf : Maker → Told
 toldOf nobody = turned NotSeated
 toldOf (clientOf key) = sits key

@@ -15,7 +15,7 @@ use Rattle.packet_write.specs.Written.{Writes, ClientWrites, RelayWrites, writt
 use Rattle.packet_laws.specs.Judged.{clientJudged, relayJudged}
 use Rattle.packet_laws.proofs.ClientRoundTrip.{client-judged-size}
 use Rattle.packet_laws.proofs.RelayRoundTrip.{relay-judged-size}
-use Rattle.banavoge.specs.Answers.{Counted}
+use Rattle.banavoge_laws.specs.Answers.{Counted}
 
 -- ---- every count is that of a packet, so it is small
 

@@ -24,8 +24,8 @@ use Rattle.room_laws.specs.Lookup.{taken, keyIn, seatHolding}
 use Rattle.room_laws.proofs.WholeLaws.{whole-view}
 use Rattle.room_laws.proofs.LookupLaws.{taken-is, seat-holding-finds}
 use Rattle.relay.proofs.LeaveCases.{leave-sits}
-use Rattle.banavoge.specs.Answers.{refusalCode}
-use Rattle.banavoge.specs.Sitting.{Told, turned, sits, sitting, whoSits, sitCode, keyThen, TellsSitter, toldOf, placeCode, seatOfKey}
+use Rattle.banavoge_laws.specs.Answers.{refusalCode}
+use Rattle.banavoge_laws.specs.Sitting.{Told, turned, sits, sitting, whoSits, sitCode, keyThen, TellsSitter, toldOf, placeCode, seatOfKey}
 
 -- ---- who sits in a seat
 

@@ -6,7 +6,7 @@ use Prim.Native.Nat.{ℕ}
 use lib.IntN.{ℤ, pos}
 use Rattle.fields.specs.declared.Fields.{Fields}
 use Rattle.packet_laws.specs.Read.{Read, packet, refused}
-use Rattle.banavoge.specs.Answers.{refusalCode}
+use Rattle.banavoge_laws.specs.Answers.{refusalCode}
 
 -- what the four references refer to
 pub record Places : Type 0 where

@@ -18,7 +18,7 @@ use Rattle.room_laws.proofs.OutcomeLaws.{outcome-within}
 use Rattle.records.specs.declared.Answer as code
 use Rattle.relay_laws.specs.Calls.{answerOf, Leaves, tested, withOutput}
 use Rattle.relay_laws.proofs.CallsLaws.{by-length}
-use Rattle.banavoge.specs.RelayCalls.{CallCounted}
+use Rattle.banavoge_laws.specs.RelayCalls.{CallCounted}
 
 -- an answer counts the bytes sent
 counted : (o : Outcome) → RefusedOrAccepted o → length (sentBytes (o .sent)) ≤ mostNeeded → CallCounted (o .answer)

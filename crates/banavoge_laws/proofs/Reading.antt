@@ -15,10 +15,10 @@ use Rattle.packet_laws.specs.FromRelay as relay
 use Rattle.packet.specs.RelayReads.{shownRelayRead, shownClient}
 use Rattle.packet.specs.ClientReads.{shownClientRead, shownRelay}
 use Rattle.fields.specs.declared.Fields.{Fields}
-use Rattle.banavoge.specs.Answers.{refusalCode}
+use Rattle.banavoge_laws.specs.Answers.{refusalCode}
 use Rattle.fields.proofs.FieldsShown.{client-fields-shown, relay-fields-shown}
 use Rattle.fields.specs.Fields.{clientFields, relayFields, clientShown, relayShown}
-use Rattle.banavoge.specs.Fields.{Places, placesOf, readCode, placesAfter, keyAfter, ReadsFields, ReadsKey}
+use Rattle.banavoge_laws.specs.Fields.{Places, placesOf, readCode, placesAfter, keyAfter, ReadsFields, ReadsKey}
 
 -- ---- at either end: a packet was read, and these are its fields; or none was
 

@@ -7,7 +7,7 @@ use lib.IntN.{ℤ, pos}
 use Rattle.refusal.specs.declared.Refusal.{Refusal}
 use Rattle.refusal.specs.declared.Refusal.the-variants.{RoomNotWhole}
 use Rattle.room_laws.specs.Whole.{roomWhole}
-use Rattle.banavoge.specs.Answers.{refusalCode}
+use Rattle.banavoge_laws.specs.Answers.{refusalCode}
 
 -- 0, or minus a refusal
 unfoldable pub doneOr : Refusal → Bool → ℤ

@@ -10,7 +10,7 @@ use Rattle.node.specs.declared.writer.Written.the-variants.{Bytes, Refused}
 use Rattle.node.specs.Nodes.{packedNode, Read, node, refused}
 use Rattle.node.specs.Values.{valueOf}
 use Rattle.node.specs.Steps.{Showing, shows, ends, refuses}
-use Rattle.banavoge.specs.Answers.{refusalCode}
+use Rattle.banavoge_laws.specs.Answers.{refusalCode}
 
 -- what the five references refer to
 pub record NodePlaces : Type 0 where

@@ -3,7 +3,7 @@
 use Prim.Native.Nat.{_≤_}
 use lib.IntN.{ℤ, pos}
 use Rattle.rules.specs.Call as rules
-use Rattle.banavoge.specs.Answers.{refusalCode}
+use Rattle.banavoge_laws.specs.Answers.{refusalCode}
 
 -- of an Arrive: the seat, or minus the refusal
 unfoldable pub seatCode : rules.Answer → ℤ

@@ -5,8 +5,8 @@ use Rattle.refusal.specs.declared.Refusal.{Refusal}
 use Rattle.lent_list.specs.declared.Held.{Held}
 use Rattle.lent_list.specs.declared.Held.the-variants as found
 use Rattle.lent_list.specs.declared.HeldNode.{HeldNode}
-use Rattle.banavoge.specs.Answers.{refusalCode}
-use Rattle.banavoge.specs.Nearest.{HeldPlaces, heldPlacesOf, heldCode, heldAfter, ShowsHeld}
+use Rattle.banavoge_laws.specs.Answers.{refusalCode}
+use Rattle.banavoge_laws.specs.Nearest.{HeldPlaces, heldPlacesOf, heldCode, heldAfter, ShowsHeld}
 
 module _ (r shown : HeldNode) (e : r ≡ shown) (before : HeldPlaces) where
   is : (h : Held) → r .held ≡ h → shown .held ≡ h

@@ -23,8 +23,8 @@ use Rattle.node.specs.Values.{infoOf}
 use Rattle.node.specs.Written.{WritesNode, writtenAnswer}
 use Rattle.node.proofs.FamilyLaws.{address-fits, packed-length}
 use Rattle.node.proofs.NodeLaws.{length-value}
-use Rattle.banavoge.specs.Answers.{refusalCode}
-use Rattle.banavoge.specs.Nodes.{NodePlaces, nodePlacesOf, nodeCode, nodeAfter, ReadsNode, stepCode, stepAfter, StepsNode}
+use Rattle.banavoge_laws.specs.Answers.{refusalCode}
+use Rattle.banavoge_laws.specs.Nodes.{NodePlaces, nodePlacesOf, nodeCode, nodeAfter, ReadsNode, stepCode, stepAfter, StepsNode}
 
 -- ---- one node
 

@@ -8,7 +8,7 @@ use Rattle.frame.specs.declared.Shown.{Shown}
 use Rattle.frame.specs.declared.Shown.the-variants.{More, InPiece, InKeep, Refused}
 use Rattle.frame.specs.declared.Read.{Read}
 use Rattle.frame.specs.Reader.{Outcome}
-use Rattle.banavoge.specs.Answers.{refusalCode}
+use Rattle.banavoge_laws.specs.Answers.{refusalCode}
 
 -- what the three references refer to
 pub record FramePlaces : Type 0 where

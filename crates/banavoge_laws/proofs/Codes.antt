@@ -8,7 +8,7 @@ use mir.Val.{SFits, toZ, ofZ}
 use mir.ValLaws.{toZ-pos, toZ-ofZ}
 use Rattle.packet_write.specs.declared.Written.{Written}
 use Rattle.packet_write.specs.declared.Written.the-variants.{Bytes}
-use Rattle.banavoge.specs.Answers.{Counted}
+use Rattle.banavoge_laws.specs.Answers.{Counted}
 
 minus-fits : (n : ℕ) → n < 2 ^ 31 → SFits w32 (negℤ (pos n))
 minus-fits zero h = record { sfits = omega arith }
