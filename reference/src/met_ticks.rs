@@ -13,7 +13,7 @@ use crate::room::{Accepted, Room};
 use crate::seat::Seat;
 
 /// Every case that is counted for histories with ticks, in no order.
-pub const TICK_CASES: [&str; 37] = [
+pub const TICK_CASES: [&str; 38] = [
     "put out with peers",
     "put out without peers",
     "put out at 10 seconds",
@@ -37,6 +37,7 @@ pub const TICK_CASES: [&str; 37] = [
     "tick that does neither",
     "cleared by a pong",
     "pong of another's number",
+    "pong of a wrong number",
     "pong late",
     "pong late, none outstanding",
     "pong late, another outstanding",
@@ -147,6 +148,9 @@ impl MetTicks {
         let mut clients = room.seats.iter().flatten();
         let anothers = clients.any(|other| other.outstanding == id);
         let late = self.told.pings.contains(&(client.key, id));
+        // One is outstanding, and this was never its own nor is it another's.
+        let wrong = !none && !anothers && !late;
+        self.count_if(wrong, "pong of a wrong number");
         self.count_if(none, "pong with none outstanding");
         self.count_if(anothers, "pong of another's number");
         self.count_if(late, "pong late");

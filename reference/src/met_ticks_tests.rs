@@ -149,7 +149,8 @@ fn pongs_of_every_sort() {
     meets(&owing, &[pong(0, 7)], &[("cleared by a pong", 1)]);
     meets(&owing, &[pong(0, 8)], &[("pong of another's number", 1)]);
     meets(&owing, &[pong(1, 7)], &[("pong of another's number", 1)]);
-    meets(&owing, &[pong(0, 1), pong(2, 7)], &[]);
+    meets(&owing, &[pong(0, 1)], &[("pong of a wrong number", 1)]);
+    meets(&owing, &[pong(2, 7)], &[]);
     let cleared = [&owing[..], &[pong(0, 7), pong(1, 8)]].concat();
     let late = [
         ("pong late", 1),
