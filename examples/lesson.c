@@ -44,7 +44,8 @@ enum {
     BOB_SEAT = 1,
     CAROL_SEAT = 2,
     DAVE_SEAT = BOB_SEAT,
-    BOB_SECOND_SEAT = 3
+    BOB_SECOND_SEAT = 3,
+    BOB_THIRD_SEAT = DAVE_SEAT
 };
 
 /* A connection number belongs to the client that asked for it, so each pair has two of them. */
@@ -111,10 +112,11 @@ static void fill_output(struct host *host)
 
 /* ---- Answers and records, printed ---- */
 
-/* The papers' words for each refusal; of 8 and 10, those for a room, of 18, for a length. */
+/* The papers' words for each refusal; of 8 and 10, those for a room, of 18, for a length. 2 is
+   retired and never given. */
 static const char *const refusal_words[] = {
-    [BANAVOGE_REFUSAL_ROOM_FULL] = "arrival with all 40 seats taken",
-    [BANAVOGE_REFUSAL_ALREADY_SEATED] = "arrival of a key already seated",
+    [BANAVOGE_REFUSAL_ROOM_FULL] = "arrival with all 40 seats taken, of a key not seated",
+    [BANAVOGE_REFUSAL_ALREADY_SEATED] = "retired: arrival of a key already seated",
     [BANAVOGE_REFUSAL_NOT_SEATED] = "seat above 39, or empty",
     [BANAVOGE_REFUSAL_PACKET_SIZE] = "packet of 0 or more than 2,032 bytes",
     [BANAVOGE_REFUSAL_UNEXPECTED_KIND] = "a kind this end does not take",
@@ -141,6 +143,7 @@ static void print_refusal(int32_t answer)
     size_t number = (size_t)-answer;
 
     CHECK(number < sizeof refusal_words / sizeof refusal_words[0]);
+    CHECK(refusal_words[number] != NULL);
     printf("refused with %zu: %s\n", number, refusal_words[number]);
 }
 
@@ -234,17 +237,27 @@ static void print_outcome(const struct host *host, int32_t answer)
 
 /* ---- Calls ---- */
 
-static int32_t arrive(struct host *host, const struct client *client)
+/* A key that is seated already leaves its old seat by arriving. Here a host closes the socket that
+   it holds for that key; it makes no leave for it. */
+static int32_t arrive(struct host *host, const struct client *client, uint8_t *seat)
 {
-    int32_t answer = banavoge_arrive(host->room, host->room_length, client->key);
+    int32_t old_seat = banavoge_seat_of(host->room, host->room_length, client->key);
+    int32_t answer;
 
-    printf("%s arrives: ", client->name);
+    fill_output(host);
+    answer = banavoge_arrive(host->room, host->room_length, client->key, host->out,
+                             sizeof host->out, seat);
+    printf("%s arrives%s: ", client->name, old_seat < 0 ? "" : " again");
     if (answer < 0) {
         print_refusal(answer);
-    } else {
-        host->seated[answer] = client;
-        printf("seat %d\n", (int)answer);
+        return answer;
     }
+    if (old_seat >= 0) {
+        host->seated[old_seat] = NULL;
+    }
+    host->seated[*seat] = client;
+    printf("seat %u; ", *seat);
+    print_records(host, (size_t)answer);
     return answer;
 }
 
@@ -447,13 +460,16 @@ static bool refused(const struct host *host, int32_t answer, enum banavoge_refus
 
 /* ---- The lesson; P1 to P9 are document 01's examples ---- */
 
-/* P1 to P3. An arrival writes nothing, so it is lent no output. */
+/* P1 to P3. There is nobody to tell, not even where Alice arrives again. */
 static void arrivals(struct host *host)
 {
-    CHECK(arrive(host, &alice) == ALICE_SEAT);
-    CHECK(arrive(host, &bob) == BOB_SEAT);
-    CHECK(arrive(host, &bob) == -BANAVOGE_REFUSAL_ALREADY_SEATED);
-    CHECK(arrive(host, &carol) == CAROL_SEAT);
+    const struct output none = nothing();
+    uint8_t seat;
+
+    CHECK(sent(host, arrive(host, &alice, &seat), &none) && seat == ALICE_SEAT);
+    CHECK(sent(host, arrive(host, &bob, &seat), &none) && seat == BOB_SEAT);
+    CHECK(sent(host, arrive(host, &alice, &seat), &none) && seat == ALICE_SEAT);
+    CHECK(sent(host, arrive(host, &carol, &seat), &none) && seat == CAROL_SEAT);
 }
 
 /* P4, P7, P8. Alice alone has asked: her request stands, and her number waits. */
@@ -552,14 +568,16 @@ static void ping_and_pong(struct host *host)
    has no number of his own yet. A packet for a seat that is empty belongs to nobody. */
 static void guest_in_the_seat(struct host *host)
 {
+    const struct output none = nothing();
     struct output disconnected = nothing();
+    uint8_t seat;
 
     add_disconnected(&disconnected, ALICE_SEAT, ALICE_TO_BOB);
     CHECK(sent(host, leave(host, BOB_SEAT), &disconnected));
     CHECK(refused(host, send_data(host, BOB_SEAT, BOB_TO_ALICE, "ab"),
                   BANAVOGE_REFUSAL_NOT_SEATED));
 
-    CHECK(arrive(host, &dave) == DAVE_SEAT);
+    CHECK(sent(host, arrive(host, &dave, &seat), &none) && seat == DAVE_SEAT);
     CHECK(refused(host, send_data(host, ALICE_SEAT, ALICE_TO_BOB, "ab"),
                   BANAVOGE_REFUSAL_NOT_CONNECTED));
     CHECK(refused(host, send_data(host, DAVE_SEAT, BOB_TO_ALICE, "ab"),
@@ -570,10 +588,12 @@ static void guest_in_the_seat(struct host *host)
    wherever he sits. */
 static void back_in_another_seat(struct host *host)
 {
+    const struct output none = nothing();
     struct output connected = nothing();
     struct output to_bob = nothing();
+    uint8_t seat;
 
-    CHECK(arrive(host, &bob) == BOB_SECOND_SEAT);
+    CHECK(sent(host, arrive(host, &bob, &seat), &none) && seat == BOB_SECOND_SEAT);
     add_response(&connected, BOB_SECOND_SEAT, BOB_TO_ALICE, &alice);
     add_connected(&connected, BOB_SECOND_SEAT, BOB_TO_ALICE);
     add_connected(&connected, ALICE_SEAT, ALICE_TO_BOB);
@@ -581,6 +601,29 @@ static void back_in_another_seat(struct host *host)
 
     add_data(&to_bob, BOB_SECOND_SEAT, BOB_TO_ALICE, "ab");
     CHECK(sent(host, send_data(host, ALICE_SEAT, ALICE_TO_BOB, "ab"), &to_bob));
+}
+
+/* Bob comes back and has not left: Alice is told as if he had, and he gets the lowest empty seat,
+   which Dave has left. His old seat is empty, and he has to ask again. */
+static void back_without_leaving(struct host *host)
+{
+    const struct output none = nothing();
+    struct output disconnected = nothing();
+    struct output connected = nothing();
+    uint8_t seat;
+
+    CHECK(sent(host, leave(host, DAVE_SEAT), &none));
+    add_disconnected(&disconnected, ALICE_SEAT, ALICE_TO_BOB);
+    CHECK(sent(host, arrive(host, &bob, &seat), &disconnected) && seat == BOB_THIRD_SEAT);
+    CHECK(refused(host, send_data(host, BOB_SECOND_SEAT, BOB_TO_ALICE, "ab"),
+                  BANAVOGE_REFUSAL_NOT_SEATED));
+    CHECK(refused(host, send_data(host, BOB_THIRD_SEAT, BOB_TO_ALICE, "ab"),
+                  BANAVOGE_REFUSAL_NO_SUCH_ROUTE));
+
+    add_response(&connected, BOB_THIRD_SEAT, BOB_TO_ALICE, &alice);
+    add_connected(&connected, BOB_THIRD_SEAT, BOB_TO_ALICE);
+    add_connected(&connected, ALICE_SEAT, ALICE_TO_BOB);
+    CHECK(sent(host, request(host, BOB_THIRD_SEAT, &alice), &connected));
 }
 
 /* The peer of a dropped number is told; the dropper hears nothing and has the number no more. */
@@ -604,17 +647,16 @@ static void dead_laptop(struct host *host)
     struct output none = nothing();
     struct output disconnected = nothing();
 
-    for (uint8_t seat = ALICE_SEAT; seat <= BOB_SECOND_SEAT; seat++) {
-        add_ping(&pings, seat, 71);
-    }
+    add_ping(&pings, ALICE_SEAT, 71);
+    add_ping(&pings, BOB_THIRD_SEAT, 71);
+    add_ping(&pings, CAROL_SEAT, 71);
     CHECK(sent(host, tick(host, 30, 71), &pings));
     CHECK(sent(host, pong(host, ALICE_SEAT, 71), &none));
-    CHECK(sent(host, pong(host, DAVE_SEAT, 71), &none));
     CHECK(sent(host, pong(host, CAROL_SEAT, 71), &none));
 
     add_disconnected(&disconnected, ALICE_SEAT, ALICE_TO_BOB);
     CHECK(sent(host, tick(host, 40, 72), &disconnected));
-    CHECK(host->seated[BOB_SECOND_SEAT] == NULL);
+    CHECK(host->seated[BOB_THIRD_SEAT] == NULL);
     CHECK(banavoge_seat_of(host->room, host->room_length, bob.key) == -BANAVOGE_REFUSAL_NOT_SEATED);
     CHECK(banavoge_seat_of(host->room, host->room_length, carol.key) == CAROL_SEAT);
 
@@ -625,9 +667,16 @@ static void dead_laptop(struct host *host)
    and then the whole room. */
 static void errors_of_the_host(struct host *host)
 {
+    uint8_t seat = OLD_BYTE;
     int32_t answer;
 
     fill_output(host);
+    answer = banavoge_arrive(host->room, host->room_length, bob.key, host->out,
+                             BANAVOGE_LEAST_OUTPUT - 1, &seat);
+    printf("an arrival with 2,047 bytes of output: ");
+    print_outcome(host, answer);
+    CHECK(refused(host, answer, BANAVOGE_REFUSAL_OUTPUT_TOO_SHORT) && seat == OLD_BYTE);
+
     answer = banavoge_leave(host->room, host->room_length, CAROL_SEAT, host->out,
                             BANAVOGE_LEAST_OUTPUT - 1);
     printf("a leave with 2,047 bytes of output: ");
@@ -755,6 +804,7 @@ int main(void)
     ping_and_pong(&host);
     guest_in_the_seat(&host);
     back_in_another_seat(&host);
+    back_without_leaving(&host);
     dropped(&host);
     dead_laptop(&host);
     errors_of_the_host(&host);

@@ -4,8 +4,9 @@
  * The host owns sockets, sealing and opening. It hands over what comes in on a socket, is shown the
  * frames to open, hands over the opened packets, and tells the time. Document 01 (scope and exact
  * rules) says what each function does, document 02 (changes after the base) what the frame reader
- * does, how a client that asks for itself is answered and what a tick does, and each is proved to
- * do so on every input. Refusal numbers and sizes are theirs.
+ * does, how a client that asks for itself is answered, what a tick does and how a key that is
+ * seated arrives again, and each is proved to do so on every input. Refusal numbers and sizes are
+ * theirs.
  *
  * Answers
  *   0 or more is what the function's comment says. Below 0 it is minus a refusal number (enum
@@ -62,16 +63,18 @@ extern "C" {
 #define BANAVOGE_SEATS 40               /* of a room: 0 to 39 */
 #define BANAVOGE_FIRST_NUMBER 16        /* of the connection numbers of a seat: 16 to 47 */
 #define BANAVOGE_NUMBERS 32
-#define BANAVOGE_LEAST_OUTPUT 2048      /* to be lent to a leave or a packet; neither writes more */
+#define BANAVOGE_LEAST_OUTPUT 2048      /* to be lent to arrive, leave, packet; none writes more */
 #define BANAVOGE_LEAST_TICK_OUTPUT 5120 /* to be lent to a tick, which never writes more */
 #define BANAVOGE_RECORD_HEAD 3          /* seat and length, before the packet of a record */
 
-/* Why a call is refused, in document 01's words; of 18, 19, a keep and a tick's output, in document
-   02's. The ping number of 7 stands in a packet, or is a tick's. */
+/* Why a call is refused, in document 01's words; 18, 19, a keep, a tick's output and a key not
+   seated in document 02's. An arrival's output is worded as a tick's. 2 is retired. The ping number
+   of 7 stands in a packet, or is a tick's. */
 enum banavoge_refusal {
-    /* arrival with all 40 seats taken */
+    /* arrival with all 40 seats taken, of a key not seated */
     BANAVOGE_REFUSAL_ROOM_FULL = 1,
-    /* arrival of a key already seated */
+    /* retired: never given; the number stays reserved
+       (arrival of a key already seated, in document 01) */
     BANAVOGE_REFUSAL_ALREADY_SEATED = 2,
     /* seat above 39, or empty; of banavoge_seat_of, a key that sits nowhere */
     BANAVOGE_REFUSAL_NOT_SEATED = 3,
@@ -90,7 +93,7 @@ enum banavoge_refusal {
     BANAVOGE_REFUSAL_NOT_CONNECTED = 9,
     /* lent output too short: under 2,048 for packet and leave,
        under the exact length for a writer; a keep that is too short;
-       tick output under 5,120 */
+       tick output under 5,120; arrival output under 2,048 */
     BANAVOGE_REFUSAL_OUTPUT_TOO_SHORT = 10,
     /* room not whole */
     BANAVOGE_REFUSAL_ROOM_NOT_WHOLE = 11,
@@ -422,7 +425,8 @@ int32_t banavoge_seat_of(const uint8_t *room, size_t room_length,
 /*
  * ---- Relay calls ----
  *
- * What a leave, a packet or a tick sends stands in the output, one record behind the other:
+ * What an arrival, a leave, a packet or a tick sends stands in the output, one record behind the
+ * other:
  *
  *     | seat (1 byte) | length (2 bytes, the higher first) | the packet: that many bytes |
  *
@@ -431,8 +435,29 @@ int32_t banavoge_seat_of(const uint8_t *room, size_t room_length,
  * the client that sat there before the call.
  */
 
-/* A client arrives. Answers its seat, the lowest empty one; nothing is sent. Refusals: 11, 2, 1. */
-int32_t banavoge_arrive(uint8_t *room, size_t room_length, const uint8_t key[BANAVOGE_KEY_BYTES]);
+/*
+ * A client arrives: its key takes the lowest empty seat, which is set in seat, and has no routes
+ * there. For a key that is not seated nothing is sent.
+ *
+ * A key that is seated already leaves first, as by banavoge_leave, and its peers are told. Then it
+ * takes the lowest empty seat, which may be another than its old one. It is never refused with 1,
+ * since its own seat is empty by then. Its old routes are gone, and so is a ping not yet answered.
+ * The records are for the clients in their seats, as those of a leave; none is for the key that
+ * arrives.
+ *
+ * A reconnect tells the old seat nothing; close the socket that you hold for that key. The key's
+ * old seat is told by banavoge_seat_of before the call: afterwards it is empty, or the key's again.
+ * Make no banavoge_leave and no banavoge_packet for the old socket any more, not even for bytes
+ * that came in before: they would be taken for those of the client that has come back, or of
+ * another that has taken the old seat since. The new socket has a keep of its own, with held 0,
+ * also where the seat is the same.
+ *
+ * Answers the byte count. Refusals: 10 (output under BANAVOGE_LEAST_OUTPUT, whatever would be
+ * sent), 11, 1 (all 40 seats are taken, none by this key). A refusal sets nothing: seat, output and
+ * room are as before.
+ */
+int32_t banavoge_arrive(uint8_t *room, size_t room_length, const uint8_t key[BANAVOGE_KEY_BYTES],
+                        uint8_t *out, size_t out_length, uint8_t *seat);
 
 /*
  * The client in a seat leaves: each peer that it was connected to is told disconnected under the
@@ -499,7 +524,8 @@ int32_t banavoge_tick(uint8_t *room, size_t room_length, uint64_t time, uint64_t
  *     | refusal (1 byte) | seat (1 byte) | length (2 bytes, the higher first) | its records |
  *
  * The refusal is 0 where there is none. The seat is that of the call, of an arrival the one that it
- * was given, of a refused call 0.
+ * was given, of a refused call 0. The records of an arrival tell the peers of a key that was seated
+ * already, as by banavoge_arrive.
  */
 #define BANAVOGE_PLAYED_HEAD 4 /* refusal, seat and length, before the records of a played call */
 

@@ -32,19 +32,17 @@ impl Call {
     /// Makes this call on a room.
     pub fn make(&self, room: &mut Room, output_len: usize) -> Result<Accepted, Refusal> {
         match self {
-            Call::Arrive { key } => room.arrive(key),
+            Call::Arrive { key } => room.arrive(key, output_len),
             Call::Leave { seat } => room.leave(usize::from(*seat), output_len),
             Call::Packet { seat, bytes } => room.packet(usize::from(*seat), bytes, output_len),
             Call::Tick { time, ping } => room.tick(*time, *ping, output_len),
         }
     }
 
-    /// The output with which this call does not get refusal 10. An arrival writes
-    /// nothing and is lent none.
+    /// The output with which this call does not get refusal 10.
     pub fn least_output(&self) -> usize {
         match self {
-            Call::Arrive { .. } => 0,
-            Call::Leave { .. } | Call::Packet { .. } => LEAST_OUTPUT,
+            Call::Arrive { .. } | Call::Leave { .. } | Call::Packet { .. } => LEAST_OUTPUT,
             Call::Tick { .. } => LEAST_TICK_OUTPUT,
         }
     }
@@ -170,8 +168,13 @@ mod tests {
     fn a_call_is_made_on_a_room() {
         let mut room = Room::empty(BASE);
         let arrive = Call::Arrive { key: KA };
-        assert_eq!(arrive.make(&mut room, 0).map(|answer| answer.seat), Ok(0));
-        assert_eq!(arrive.make(&mut room, 0), Err(2));
+        assert_eq!(arrive.make(&mut room, 2_047), Err(10));
+        // The second is of a seated key.
+        for _ in 0..2 {
+            let answer = arrive.make(&mut room, 2_048);
+            assert_eq!(answer.map(|answer| answer.seat), Ok(0));
+        }
+        assert_eq!(arrive.make(&mut room, 2_047), Err(10));
         let (seat, bytes) = (0, vec![0x10]);
         let packet = Call::Packet { seat, bytes };
         assert_eq!(packet.make(&mut room, 2_048), Err(6));
@@ -192,7 +195,7 @@ mod tests {
     #[test]
     fn each_call_has_its_least_output() {
         let (seat, bytes) = (0, Vec::new());
-        assert_eq!(Call::Arrive { key: KA }.least_output(), 0);
+        assert_eq!(Call::Arrive { key: KA }.least_output(), 2_048);
         assert_eq!(Call::Leave { seat }.least_output(), 2_048);
         assert_eq!(Call::Packet { seat, bytes }.least_output(), 2_048);
         assert_eq!(Call::Tick { time: 0, ping: 0 }.least_output(), 5_120);

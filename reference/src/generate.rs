@@ -50,6 +50,8 @@ pub struct Generator {
     favourite: usize,
     /// The seat of the last client that was made to ask for its own key.
     asked_itself: usize,
+    /// The key of the last call, where that was an arrival of a seated key.
+    reconnected: Option<Key>,
     /// The time, in a history with ticks.
     ticking: Option<Ticking>,
 }
@@ -77,16 +79,18 @@ const MOODS: [Mood; 5] = [
 ];
 
 impl Mood {
-    /// Of a hundred calls, how many are arrivals, leaves, requests, drops,
-    /// data, out-of-band, pings and pongs, bad packets, calls of wrong seats.
-    fn shares(self) -> [usize; 9] {
+    /// Of a hundred calls, how many are arrivals, reconnects, leaves, requests,
+    /// drops, data, out-of-band, pings and pongs, bad packets, calls of wrong
+    /// seats. A reconnect frees all the numbers of its client, so there are few
+    /// where tables are to get full.
+    fn shares(self) -> [usize; 10] {
         match self {
-            Mood::Arriving => [55, 3, 20, 3, 6, 3, 2, 5, 3],
-            Mood::Leaving => [12, 40, 14, 6, 14, 3, 2, 5, 4],
-            Mood::Asking => [4, 1, 65, 4, 10, 4, 2, 6, 4],
-            Mood::Talking => [4, 3, 30, 14, 30, 8, 4, 4, 3],
-            Mood::Garbling => [4, 2, 12, 8, 12, 8, 8, 38, 8],
-            Mood::Meeting => [9, 0, 85, 1, 3, 1, 0, 1, 0],
+            Mood::Arriving => [50, 5, 3, 20, 3, 6, 3, 2, 5, 3],
+            Mood::Leaving => [10, 6, 40, 13, 5, 12, 3, 2, 5, 4],
+            Mood::Asking => [4, 1, 1, 65, 4, 9, 4, 2, 6, 4],
+            Mood::Talking => [4, 2, 3, 30, 13, 29, 8, 4, 4, 3],
+            Mood::Garbling => [4, 1, 2, 12, 8, 12, 8, 8, 37, 8],
+            Mood::Meeting => [8, 0, 0, 86, 1, 3, 1, 0, 1, 0],
         }
     }
 }
@@ -126,6 +130,7 @@ impl Generator {
             lasts: 60,
             favourite: 0,
             asked_itself: 0,
+            reconnected: None,
             ticking: None,
         }
     }
@@ -181,15 +186,21 @@ impl Generator {
         if self.taken().len() < 2 && self.random.percent(60) {
             return self.arrival();
         }
+        if let Some(key) = self.reconnected {
+            if self.random.percent(10) {
+                return Call::Arrive { key };
+            }
+        }
         match self.kind_of_call() {
             0 => self.arrival(),
-            1 => self.departure(),
-            2 => self.request(),
-            3 => self.drop_route(),
-            4 => self.data(),
-            5 => self.out_of_band(),
-            6 => self.ping_or_pong(),
-            7 => self.bad_packet(),
+            1 => self.reconnect(),
+            2 => self.departure(),
+            3 => self.request(),
+            4 => self.drop_route(),
+            5 => self.data(),
+            6 => self.out_of_band(),
+            7 => self.ping_or_pong(),
+            8 => self.bad_packet(),
             _ => self.wrong_seat(),
         }
     }
@@ -206,18 +217,19 @@ impl Generator {
         unreachable!("the shares are a hundred in all")
     }
 
-    /// Makes the call on the own room, and remembers who left and who is pinged.
+    /// Makes the call on the own room, and remembers who left, who came back and
+    /// who is pinged.
     fn make(&mut self, call: &Call) {
-        let seated: Vec<Option<Key>> = (0..self.room.seats.len())
-            .map(|seat| self.own_key(seat))
-            .collect();
+        let clients = self.room.seats.iter().flatten();
+        let seated: Vec<Key> = clients.map(|client| client.key).collect();
         // What is refused changes nothing, and is part of the history.
         let answer = call.make(&mut self.room, call.least_output());
-        for (seat, key) in seated.into_iter().enumerate() {
-            if self.room.client(seat).is_none() {
-                self.left.extend(key);
-            }
-        }
+        self.reconnected = match call {
+            Call::Arrive { key } if seated.contains(key) => Some(*key),
+            _ => None,
+        };
+        let gone = |key: &Key| self.room.seat_of(key).is_none();
+        self.left.extend(seated.into_iter().filter(gone));
         while self.left.len() > 8 {
             self.left.remove(0);
         }
@@ -295,13 +307,30 @@ impl Generator {
 
 /// The calls.
 impl Generator {
-    /// Often one that just left, else any key, and now and then a seated one.
+    /// Often one that just left, else any key that is not seated.
     fn arrival(&mut self) -> Call {
         let key = match self.random.below(10) {
-            0 => self.seated_key(),
-            1..=4 => self.key_that_left(),
-            _ => self.absent_key(),
+            0..=3 => self.key_that_left(),
+            _ => None,
         };
+        let key = key.or_else(|| self.absent_key());
+        Call::Arrive {
+            key: key.unwrap_or_else(|| self.any_key()),
+        }
+    }
+
+    /// An arrival of a seated key: often of one that has peers, who are told so, of
+    /// one that comes to another seat, or of one that has not answered its ping.
+    fn reconnect(&mut self) -> Call {
+        let seat = match self.random.below(10) {
+            0..=2 => self.seat_with_peers(1),
+            3..=4 => self.seat_with_peers(2),
+            5 => self.seat_with_another_empty_below(),
+            6..=7 => self.seat_that_owes_a_pong(),
+            _ => None,
+        };
+        let key = seat.and_then(|seat| self.own_key(seat));
+        let key = key.or_else(|| self.seated_key());
         Call::Arrive {
             key: key.unwrap_or_else(|| self.any_key()),
         }
@@ -504,6 +533,24 @@ impl Generator {
         clients.all(|client| client.lowest_free().is_none())
     }
 
+    /// A seat that is connected with so many others or more.
+    fn seat_with_peers(&mut self, least: usize) -> Option<usize> {
+        let mut seats = self.taken();
+        seats.retain(|seat| self.connected(*seat).len() >= least);
+        self.random.one_of(&seats)
+    }
+
+    /// A taken seat with an empty one below it, and with peers if there is one such.
+    fn seat_with_another_empty_below(&mut self) -> Option<usize> {
+        let empty = self.room.seats.iter().position(Option::is_none)?;
+        let mut above = self.taken();
+        above.retain(|seat| *seat > empty);
+        let mut connected = above.clone();
+        connected.retain(|seat| !self.connected(*seat).is_empty());
+        let seat = self.random.one_of(&connected);
+        seat.or_else(|| self.random.one_of(&above))
+    }
+
     /// A taken seat of which some number names no route.
     fn seat_with_free_number(&mut self) -> Option<usize> {
         let mut seats = self.taken();
@@ -604,11 +651,7 @@ impl Generator {
     fn connected_number(&mut self) -> (usize, u8) {
         for _ in 0..8 {
             let seat = self.any_taken();
-            let connected: Vec<u8> = self
-                .held(seat)
-                .into_iter()
-                .filter(|number| self.room.peer(seat, *number).is_some())
-                .collect();
+            let connected = self.connected(seat);
             if let Some(number) = self.random.one_of(&connected) {
                 return (seat, number);
             }
@@ -636,6 +679,13 @@ impl Generator {
             _ => 16 + self.random.below(self.room.numbers + 1).min(239) as u8,
         };
         (seat, number)
+    }
+
+    /// The numbers of this seat that are connected.
+    fn connected(&self, seat: usize) -> Vec<u8> {
+        let mut numbers = self.held(seat);
+        numbers.retain(|number| self.room.peer(seat, *number).is_some());
+        numbers
     }
 
     /// The numbers of this seat that name a route.
@@ -684,3 +734,7 @@ mod tests;
 #[cfg(test)]
 #[path = "standing_tests.rs"]
 mod standing_tests;
+
+#[cfg(test)]
+#[path = "two_calls_tests.rs"]
+mod two_calls_tests;

@@ -2,7 +2,7 @@
 //!
 //! Lent memory is tested in full before use: 11 comes behind 10 and before the
 //! room's own refusals, so the order is 10, 11, 3 and on for a packet, 10, 11,
-//! 3 for a leave, 11, 2, 1 for an arrival, and 10, 11, 7, 19 for a tick.
+//! 3 for a leave, 10, 11, 1 for an arrival, and 10, 11, 7, 19 for a tick.
 
 use crate::call::Call;
 use crate::memory;
@@ -44,7 +44,7 @@ mod tests {
 
     fn one_client() -> Room {
         let mut room = Room::empty(BASE);
-        room.arrive(&[0x11; 32]).unwrap();
+        room.arrive(&[0x11; 32], 2_048).unwrap();
         room
     }
 
@@ -57,7 +57,7 @@ mod tests {
     #[test]
     fn an_accepted_call_answers_the_room_behind_it() {
         let call = Call::Arrive { key: [0x22; 32] };
-        let (room, accepted) = make(BASE, &lent(), &call, 0).unwrap();
+        let (room, accepted) = make(BASE, &lent(), &call, 2_048).unwrap();
         assert_eq!(accepted.seat, 1);
         assert_eq!(room.seat_of(&[0x11; 32]), Some(0));
         assert_eq!(room.seat_of(&[0x22; 32]), Some(1));
@@ -79,9 +79,32 @@ mod tests {
             assert_eq!(answer(&whole, &call, 2_048), Err(3));
         }
         assert_eq!(answer(&whole, &packet(0), 2_048), Err(6));
-        let again = Call::Arrive { key: [0x11; 32] };
-        assert_eq!(answer(short, &again, 0), Err(11));
-        assert_eq!(answer(&whole, &again, 0), Err(2));
+    }
+
+    /// Request 04 of document 02: "arrival checks 10 (2,048), 11, 1, and 1 is given
+    /// only to a key not seated".
+    #[test]
+    fn an_arrival_is_refused_with_10_11_and_1_in_this_order() {
+        let mut full = Room::empty(BASE);
+        for number in 0..40 {
+            full.arrive(&[number; 32], 2_048).unwrap();
+        }
+        let (full, one) = (memory::encode(&full), lent());
+        let arrive = |key: u8| Call::Arrive { key: [key; 32] };
+        for (whole, key, comes_to) in [
+            (&one, 0x11, Ok(0)),
+            (&one, 0x22, Ok(1)),
+            (&full, 39, Ok(39)),
+            (&full, 40, Err(1)),
+        ] {
+            let short = &whole[..whole.len() - 1];
+            for output_len in [0, 1, 2_047] {
+                assert_eq!(answer(short, &arrive(key), output_len), Err(10));
+                assert_eq!(answer(whole, &arrive(key), output_len), Err(10));
+            }
+            assert_eq!(answer(short, &arrive(key), 2_048), Err(11));
+            assert_eq!(answer(whole, &arrive(key), 2_048), comes_to);
+        }
     }
 
     /// Request 02 of document 02: each call refuses a room where a seat names
@@ -109,16 +132,13 @@ mod tests {
             (packet(1, &[]), Err(3)),
             (Call::Leave { seat: 0 }, Ok(0)),
             (Call::Leave { seat: 1 }, Err(3)),
+            (Call::Arrive { key: [0x11; 32] }, Ok(0)),
+            (Call::Arrive { key: [0x22; 32] }, Ok(1)),
         ];
         for (call, comes_to) in calls {
             assert_eq!(answer(&itself, &call, 2_047), Err(10));
             assert_eq!(answer(&itself, &call, 2_048), Err(11));
             assert_eq!(answer(&another, &call, 2_048), comes_to);
-        }
-        for (key, comes_to) in [(0x11, Err(2)), (0x22, Ok(1))] {
-            let arrive = Call::Arrive { key: [key; 32] };
-            assert_eq!(answer(&itself, &arrive, 0), Err(11));
-            assert_eq!(answer(&another, &arrive, 0), comes_to);
         }
     }
 
@@ -198,7 +218,7 @@ mod tests {
             (packet(1, &[]), Err(3)),
             (Call::Leave { seat: 0 }, Ok(0)),
             (Call::Leave { seat: 1 }, Err(3)),
-            (Call::Arrive { key: [0x11; 32] }, Err(2)),
+            (Call::Arrive { key: [0x11; 32] }, Ok(0)),
             (Call::Arrive { key: [0x22; 32] }, Ok(1)),
             (Call::Tick { time: 61, ping: 1 }, Ok(0)),
             (Call::Tick { time: 59, ping: 1 }, Err(19)),
@@ -206,9 +226,7 @@ mod tests {
         ];
         for (call, comes_to) in calls {
             let least = call.least_output();
-            if least > 0 {
-                assert_eq!(answer(&at(61), &call, least - 1), Err(10));
-            }
+            assert_eq!(answer(&at(61), &call, least - 1), Err(10));
             assert_eq!(answer(&at(61), &call, least), Err(11));
             assert_eq!(answer(&at(u64::MAX), &call, least), Err(11));
             assert_eq!(answer(&at(60), &call, least), comes_to);

@@ -7,9 +7,9 @@
 //! The relay itself is `room`, with `seat` and `record`; `call` and `play` are
 //! histories of calls as bytes; `memory`, with `table`, and `lent` are the room
 //! in lent memory. `generate`, with `random`, `bad_packet` and `ticking`, makes
-//! histories up, and `met`, with `met_ticks`, counts what they meet. `frames` is
-//! the reader of a stream that comes in pieces, and `streams` makes such streams
-//! up and cuts them.
+//! histories up, and `met`, with `met_ticks` and `met_reconnects`, counts what they
+//! meet. `frames` is the reader of a stream that comes in pieces, and `streams`
+//! makes such streams up and cuts them.
 
 pub mod bad_packet;
 pub mod call;
@@ -19,6 +19,7 @@ pub mod key;
 pub mod lent;
 pub mod memory;
 pub mod met;
+pub mod met_reconnects;
 pub mod met_ticks;
 pub mod nearest;
 pub mod node;

@@ -45,7 +45,7 @@ const PING: u64 = 0x1112_1314_1516_1718;
 fn room() -> Room {
     let mut room = Room::empty(BASE);
     for number in 0..6 {
-        room.arrive(&key(number)).unwrap();
+        room.arrive(&key(number), LEAST_OUTPUT).unwrap();
     }
     for (seat, other) in [(1, 3), (3, 1)] {
         for number in [9, other, 5, 8, 2] {
@@ -68,7 +68,7 @@ fn room() -> Room {
 fn full_room() -> Room {
     let mut room = Room::empty(BASE);
     for number in 0..40 {
-        room.arrive(&key(number)).unwrap();
+        room.arrive(&key(number), LEAST_OUTPUT).unwrap();
     }
     for seat in 0..40 {
         for number in 100..132 {

@@ -3,23 +3,24 @@
 //! A comparison over made-up histories says little unless it is known that they
 //! meet every case. The counter makes each call on a room of its own, which
 //! begins empty, and tells the cases apart by that room and by the answer. The
-//! cases that ticks bring are apart, in `met_ticks`.
+//! cases that ticks bring are apart, in `met_ticks`, and those of reconnects in
+//! `met_reconnects`.
 
 use std::collections::{BTreeMap, HashMap, HashSet};
 
 use crate::call::Call;
 use crate::key::Key;
+use crate::met_reconnects::{Reconnect, RECONNECT_CASES};
 use crate::met_ticks::{self, MetTicks};
 use crate::packet::{relay_read, FromClient};
 use crate::refusal::Refusal;
 use crate::room::{Accepted, Room, Sizes};
 use crate::seat::Seat;
 
-/// Every case that is counted for any history, in no order. What a tick comes
-/// to is in none of them.
-pub const CASES: [&str; 46] = [
+/// The cases that are counted for any history, in no order, but for those of
+/// reconnects. What a tick comes to is in none of them.
+pub const CASES: [&str; 45] = [
     "refusal 1",
-    "refusal 2",
     "refusal 3",
     "refusal 4",
     "refusal 5",
@@ -27,7 +28,6 @@ pub const CASES: [&str; 46] = [
     "refusal 7",
     "refusal 8",
     "refusal 9",
-    "arrival refused with 2 in a full room",
     "full room",
     "arrival in another seat",
     "arrival of a key that is asked for",
@@ -37,6 +37,7 @@ pub const CASES: [&str; 46] = [
     "connect to a client in another seat than before",
     "disconnect by drop",
     "disconnect by leave",
+    "disconnect by reconnect",
     "leave that tells two peers or more",
     "leave that tells nobody",
     "request answered 0",
@@ -80,6 +81,8 @@ pub struct Met {
     /// The seated clients that asked for their own key, each with the case that
     /// the table of its seat made of it.
     asked_itself: HashSet<(Key, &'static str)>,
+    /// The key of the last call, where that was a reconnect.
+    reconnected: Option<Key>,
     /// The cases that ticks bring.
     ticks: MetTicks,
 }
@@ -88,11 +91,12 @@ impl Met {
     pub fn new(sizes: Sizes) -> Met {
         Met {
             room: Room::empty(sizes),
-            counts: CASES.into_iter().map(|case| (case, 0)).collect(),
+            counts: cases().map(|case| (case, 0)).collect(),
             last_seat: HashMap::new(),
             met_in: HashMap::new(),
             parted: HashSet::new(),
             asked_itself: HashSet::new(),
+            reconnected: None,
             ticks: MetTicks::default(),
         }
     }
@@ -114,7 +118,7 @@ impl Met {
         &self.room
     }
 
-    /// How often each case of `CASES` was met.
+    /// How often each case of `CASES` and `met_reconnects::RECONNECT_CASES` was met.
     pub fn counts(&self) -> &BTreeMap<&'static str, usize> {
         &self.counts
     }
@@ -131,17 +135,50 @@ impl Met {
 
     /// Makes a call, answers what it comes to, and counts its cases.
     pub fn make(&mut self, call: &Call) -> Result<Accepted, Refusal> {
-        if let Call::Tick { time, .. } = call {
-            return self.make_tick(call, *time);
+        let last_reconnected = self.reconnected.take();
+        match call {
+            Call::Tick { time, .. } => return self.make_tick(call, *time),
+            Call::Arrive { key } if self.room.seat_of(key).is_some() => {
+                return self.make_reconnect(*key, last_reconnected == Some(*key));
+            }
+            _ => {}
         }
         self.count_before(call);
         let keys = self.seated_keys();
         let answer = call.make(&mut self.room, call.least_output());
         match &answer {
             Ok(accepted) => self.count_accepted(call, accepted, &keys),
-            Err(number) => self.count_refused(call, *number),
+            Err(number) => self.count(&format!("refusal {number}")),
         }
         answer
+    }
+
+    /// Makes an arrival of this seated key: its departure is noted as that of a
+    /// leave, and its arrival counted as any. `repeated` where the last call was a
+    /// reconnect of this key too.
+    fn make_reconnect(&mut self, key: Key, repeated: bool) -> Result<Accepted, Refusal> {
+        let call = Call::Arrive { key };
+        let keys = self.seated_keys();
+        let before = self.room.clone();
+        let accepted = call.make(&mut self.room, call.least_output())?;
+        let reconnect = Reconnect {
+            key,
+            before: &before,
+            after: &self.room,
+            repeated,
+        };
+        let (cases, peers) = (reconnect.cases(), reconnect.peers());
+        let (left, taken) = reconnect.seats();
+        let (was, is) = reconnect.clients();
+        self.ticks.count_reconnect(was, is);
+        self.note_gone(key, left);
+        self.count_disconnects("disconnect by reconnect", key, &peers, &keys);
+        self.count_arrival(taken, &key);
+        for case in cases {
+            self.count(case);
+        }
+        self.reconnected = Some(key);
+        Ok(accepted)
     }
 
     /// Makes a tick of this time. It adds to no case of `CASES`, but those that it
@@ -290,15 +327,6 @@ impl Met {
         });
     }
 
-    fn count_refused(&mut self, call: &Call, number: Refusal) {
-        self.count(&format!("refusal {number}"));
-        let arrival = matches!(call, Call::Arrive { .. });
-        self.count_if(
-            arrival && number == 2 && self.full(),
-            "arrival refused with 2 in a full room",
-        );
-    }
-
     /// The cases that the answer tells. `keys` are those seated before it.
     fn count_accepted(&mut self, call: &Call, accepted: &Accepted, keys: &[Option<Key>]) {
         let seat = accepted.seat;
@@ -391,6 +419,11 @@ impl Met {
             || before[1].is_some_and(|before| before != seat);
         self.count_if(moved, "connect to a client in another seat than before");
     }
+}
+
+/// Every case that is counted for any history.
+fn cases() -> impl Iterator<Item = &'static str> {
+    CASES.into_iter().chain(RECONNECT_CASES)
 }
 
 /// The case of a request for the own key by the table of the asker: empty, thin

@@ -13,7 +13,7 @@ use crate::room::{Accepted, Room};
 use crate::seat::Seat;
 
 /// Every case that is counted for histories with ticks, in no order.
-pub const TICK_CASES: [&str; 38] = [
+pub const TICK_CASES: [&str; 40] = [
     "put out with peers",
     "put out without peers",
     "put out at 10 seconds",
@@ -45,6 +45,8 @@ pub const TICK_CASES: [&str; 38] = [
     "arrival between two ticks",
     "arrival in a seat that a tick emptied",
     "leave with a ping outstanding",
+    "reconnect with a ping outstanding",
+    "reconnect with a ping time before the clock",
     "tick refused with 7",
     "tick refused with 7, of a time before the clock",
     "tick refused with 19",
@@ -129,6 +131,15 @@ impl MetTicks {
     /// An accepted leave of this client.
     pub fn count_leave(&mut self, leaver: &Seat) {
         self.count_if(leaver.owes_pong(), "leave with a ping outstanding");
+    }
+
+    /// A reconnect of this client, which owes no pong then and starts with the
+    /// clock as its ping time.
+    pub fn count_reconnect(&mut self, was: &Seat, is: &Seat) {
+        let cleared = was.owes_pong() && !is.owes_pong();
+        self.count_if(cleared, "reconnect with a ping outstanding");
+        let moved = was.ping_time < is.ping_time;
+        self.count_if(moved, "reconnect with a ping time before the clock");
     }
 
     /// An accepted packet of this client; a pong is told by `count_pong` too.

@@ -137,7 +137,7 @@ mod tests {
         vec![
             vec![0, 0, 0, 0],
             vec![0, 1, 0, 0],
-            vec![2, 0, 0, 0],
+            vec![0, 0, 0, 0],
             [&[0, 0, 0, 37, 0x00, 0x00, 0x22, 0x01, 0x10], &KB[..]].concat(),
             [
                 &[0, 1, 0, 47, 0x01, 0x00, 0x22, 0x01, 0x10],
@@ -185,6 +185,35 @@ mod tests {
         expect(&stored, 8, 1 << 16, 8, Why::End);
         expect(&stored, usize::MAX, 1 << 16, 8, Why::End);
         assert_eq!(first(8, Why::End).written(), answers().concat().len());
+    }
+
+    /// Request 04 of document 02: "Arrive now has output and answers its byte count
+    /// too." The entry of an arrival has its seat and its records.
+    #[test]
+    fn the_records_of_an_arrival_stand_in_its_entry() {
+        // KC in seat 0, KA and KB connected behind it; KC leaves, KB comes back.
+        let kc = [0x33; 32];
+        let request = |seat, key: &Key| Call::Packet {
+            seat,
+            bytes: [&[0], &key[..]].concat(),
+        };
+        let calls = [
+            Call::Arrive { key: kc },
+            Call::Arrive { key: KA },
+            Call::Arrive { key: KB },
+            request(1, &KB),
+            request(2, &KA),
+            Call::Leave { seat: 0 },
+            Call::Arrive { key: KB },
+        ];
+        let stored = call::write_all(&calls).unwrap();
+        let mut room = Room::empty(BASE);
+        let played = play(&mut room, &stored, 7, 1 << 16);
+        assert_eq!((played.calls, played.why), (7, Why::End));
+        let last = [0, 0, 0, 5, 0x01, 0x00, 0x02, 0x03, 0x10];
+        assert!(played.output.ends_with(&last));
+        assert_eq!(played.written(), 4 * 7 + 37 + 47 + 5);
+        assert_eq!((room.seat_of(&KB), room.seat_of(&KA)), (Some(0), Some(1)));
     }
 
     #[test]

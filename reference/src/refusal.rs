@@ -3,9 +3,10 @@
 /// A refusal is the number that the rules give it.
 pub type Refusal = u8;
 
-/// An arrival with all seats taken.
+/// An arrival of a key that is not seated, with all seats taken.
 pub const ROOM_FULL: u8 = 1;
-/// An arrival of a key that is already seated.
+/// Retired by request 04 of document 02: no call gives it, and its number stays
+/// reserved. It was for an arrival of a key that is already seated.
 pub const SEATED: u8 = 2;
 /// A seat above the last, or an empty one.
 pub const SEAT: u8 = 3;
@@ -23,9 +24,9 @@ pub const PING_NUMBER: u8 = 7;
 pub const ROUTE_NUMBER: u8 = 8;
 /// Data on a waiting route.
 pub const WAITING: u8 = 9;
-/// For a packet call or a leave: an output of under 2,048 bytes. For a tick: one
-/// of under 5,120 bytes. For a writer: the output is shorter than what would be
-/// written. For the frame reader: a keep of under 2,050 bytes.
+/// For an arrival, a leave or a packet call: an output of under 2,048 bytes. For a
+/// tick: one of under 5,120 bytes. For a writer: the output is shorter than what
+/// would be written. For the frame reader: a keep of under 2,050 bytes.
 pub const OUTPUT: u8 = 10;
 /// The lent memory holds no whole room.
 pub const ROOM: u8 = 11;

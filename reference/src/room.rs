@@ -1,9 +1,10 @@
 //! The room: the relay itself, as a plain value that its calls change.
 //!
-//! The rules are those of document 01 under "The room", changed by two requests
-//! of document 02: 02, "A client that asks for itself", and 03, "Notice dead
-//! laptops". The order of refusals is the one under "Refusal numbers", for a
-//! tick the one of its request. Each function names its rule.
+//! The rules are those of document 01 under "The room", changed by three requests
+//! of document 02: 02, "A client that asks for itself", 03, "Notice dead laptops",
+//! and 04, "One call when a laptop comes back". The order of refusals is the one
+//! under "Refusal numbers", for a tick and an arrival the one of its request. Each
+//! function names its rule.
 //!
 //! Nothing is kept but the seats, their keys, the wanted keys, the pings and the
 //! clock. Whether two clients are connected is looked up each time from just the
@@ -36,8 +37,8 @@ impl Sizes {
     }
 }
 
-/// A packet call and a leave are given at least so much output (refusal 10),
-/// whatever they would write.
+/// An arrival, a leave and a packet call are given at least so much output
+/// (refusal 10), whatever they would write.
 pub const LEAST_OUTPUT: usize = 2_048;
 
 /// A tick is given at least so much output (refusal 10), whatever it would write.
@@ -65,20 +66,20 @@ pub struct Accepted {
 
 /// The calls. Each is accepted, or refused with the room as it was.
 impl Room {
-    /// Rule "Arrive(key)", with refusals 2, 1. Takes the lowest empty seat and
-    /// sends nothing.
-    pub fn arrive(&mut self, key: &Key) -> Result<Accepted, Refusal> {
-        if self.seat_of(key).is_some() {
-            return Err(refusal::SEATED);
-        }
-        let Some(seat) = self.seats.iter().position(Option::is_none) else {
-            return Err(refusal::ROOM_FULL);
+    /// Rule "Arrive(key)", with refusals 10, 1, and request 04 of document 02: "an
+    /// arrival of a seated key has the outcome of the two calls in that order,
+    /// notices and all". So a seated key leaves first, and the lowest empty seat
+    /// is looked for behind that: it may be below the old one, and there always is
+    /// one, so that 1 "is given only to a key not seated".
+    pub fn arrive(&mut self, key: &Key, output_len: usize) -> Result<Accepted, Refusal> {
+        check_output(output_len, LEAST_OUTPUT)?;
+        let records = match self.seat_of(key) {
+            Some(old_seat) => self.go(old_seat),
+            None => Vec::new(),
         };
+        let seat = self.lowest_empty().ok_or(refusal::ROOM_FULL)?;
         self.seats[seat] = Some(Seat::taken_by(key, self.numbers, self.clock));
-        Ok(Accepted {
-            seat,
-            records: Vec::new(),
-        })
+        Ok(Accepted { seat, records })
     }
 
     /// Rule "Leave(seat)", with refusals 10, 3.
@@ -219,7 +220,7 @@ impl Room {
     }
 }
 
-/// What a leave and a tick do.
+/// What a leave, an arrival of a seated key and a tick do.
 impl Room {
     /// The client in this taken seat goes. In rising number of the leaver each
     /// connected peer is told disconnected with the peer's own number; its route
@@ -293,6 +294,10 @@ impl Room {
     pub fn seat_of(&self, key: &Key) -> Option<usize> {
         let holds = |seat: &usize| self.client(*seat).is_some_and(|held| held.key == *key);
         (0..self.seats.len()).find(holds)
+    }
+
+    fn lowest_empty(&self) -> Option<usize> {
+        self.seats.iter().position(Option::is_none)
     }
 
     /// The peer's seat and the peer's number, where this number of this seat
@@ -373,3 +378,7 @@ mod tests;
 #[cfg(test)]
 #[path = "tick_tests.rs"]
 mod tick_tests;
+
+#[cfg(test)]
+#[path = "reconnect_tests.rs"]
+mod reconnect_tests;

@@ -1,6 +1,6 @@
 //! The examples of document 01 on the room, the errors that students make, the
 //! readings of its rules, and request 02 of document 02. Request 03 is in
-//! `tick_tests`.
+//! `tick_tests`, request 04 in `reconnect_tests`.
 
 use super::*;
 use crate::record;
@@ -21,9 +21,10 @@ pub(super) fn seated(keys: &[Key]) -> Room {
     room
 }
 
-/// The seat answered to an arrival, which sends nothing.
+/// The seat answered to an arrival that sends nothing, in an output of the least
+/// length.
 pub(super) fn arrives(room: &mut Room, key: &Key) -> Result<usize, Refusal> {
-    let accepted = room.arrive(key)?;
+    let accepted = room.arrive(key, LEAST_OUTPUT)?;
     assert_eq!(accepted.records, []);
     Ok(accepted.seat)
 }
@@ -117,7 +118,7 @@ fn p1_p2_p3_arrivals() {
     assert_eq!(arrives(&mut room, &KA), Ok(0));
     assert_eq!(arrives(&mut room, &KB), Ok(1));
     let before = room.clone();
-    assert_eq!(arrives(&mut room, &KA), Err(2));
+    assert_eq!(arrives(&mut room, &KA), Ok(0));
     assert_eq!(room, before);
 }
 
@@ -253,8 +254,8 @@ fn the_40th_arrival_is_accepted_and_the_41st_refused() {
         assert_eq!(arrives(&mut room, &other(seat)), Ok(usize::from(seat)));
     }
     assert_eq!(arrives(&mut room, &KA), Err(1));
-    // 2 comes before 1.
-    assert_eq!(arrives(&mut room, &other(7)), Err(2));
+    // A seated key never gets 1.
+    assert_eq!(arrives(&mut room, &other(7)), Ok(7));
     // The lowest empty seat is taken.
     for seat in [30, 12, 39] {
         assert_eq!(leaves(&mut room, seat), run(&[]));
@@ -600,6 +601,9 @@ fn a_seat_above_the_last_or_empty_is_refused_whatever_the_bytes() {
 fn short_output_is_refused_before_all_else_even_where_nothing_is_written() {
     let mut room = after_p5();
     for length in [0, 1, 2_047] {
+        for key in [KA, KC] {
+            assert_eq!(room.arrive(&key, length), Err(10));
+        }
         for seat in [0, 2, 40] {
             assert_eq!(room.leave(seat, length), Err(10));
             for packet in [&[][..], &[5, 0, 0, 0, 0, 0, 0, 0, 1], &[0x10, 0x61]] {

@@ -1,6 +1,7 @@
 //! Which requests stand in the made-up histories, told by the calls and their
 //! answers alone: each from an answer other than 0 until its number is dropped
-//! or its client leaves. None of them is for the own key of its client.
+//! or its client leaves, as it does too where its key arrives anew. None of them
+//! is for the own key of its client.
 //!
 //! So are the clock and the pings told, and with them whom a tick puts out, which
 //! its answer does not tell.
@@ -30,10 +31,7 @@ impl Standing {
     fn follow(&mut self, call: &Call, accepted: &Accepted) {
         let seat = accepted.seat;
         match call {
-            Call::Arrive { key } => {
-                self.seated.insert(seat, *key);
-                self.pings.insert(seat, (self.clock, 0));
-            }
+            Call::Arrive { key } => self.arrived(seat, *key),
             Call::Leave { .. } => self.gone(seat),
             Call::Tick { time, ping } => self.ticked(*time, *ping, &accepted.records),
             Call::Packet { bytes, .. } if bytes[0] == 3 => {
@@ -53,6 +51,18 @@ impl Standing {
             }
             Call::Packet { .. } => {}
         }
+    }
+
+    /// Takes in an accepted arrival. That of a seated key ends its sitting in the
+    /// old seat and all its requests.
+    fn arrived(&mut self, seat: usize, key: Key) {
+        let mut seated = self.seated.iter();
+        let old = seated.find(|(_, held)| **held == key);
+        if let Some(old) = old.map(|(seat, _)| *seat) {
+            self.gone(old);
+        }
+        self.seated.insert(seat, key);
+        self.pings.insert(seat, (self.clock, 0));
     }
 
     fn gone(&mut self, seat: usize) {

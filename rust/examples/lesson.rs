@@ -1,6 +1,7 @@
 //! A lesson on the relay: a teacher, two pupils, and a guest who takes a seat
-//! that was left. At the end one of the pupils closes his lid. It prints what
-//! each asks for and what the relay answers, and what each client was handed.
+//! that was left. One of the pupils comes back without having left, and at the
+//! end closes his lid. It prints what each asks for and what the relay answers,
+//! and what each client was handed.
 //!
 //! `tools/demo` builds the library and runs it.
 
@@ -51,14 +52,22 @@ impl Lesson {
         }
     }
 
+    /// Who is seated already has left its old seat: its old connection would be
+    /// closed here, and the new one takes its place.
     fn arrive(&mut self, who: usize) {
+        let mut out = [0; LEAST_OUTPUT];
         let client = &mut self.clients[who];
-        match self.room.arrive(&client.key) {
-            Ok(seat) => {
-                client.seat = Some(seat);
-                say(client.name, "arrives", &format!("seat {}", seat.0));
+        let arrives = match client.seat {
+            Some(_) => "arrives again",
+            None => "arrives",
+        };
+        match self.room.arrive(&client.key, &mut out) {
+            Ok(arrival) => {
+                client.seat = Some(arrival.seat);
+                say(client.name, arrives, &format!("seat {}", arrival.seat));
+                self.hand_over_all(arrival.records);
             }
-            Err(why) => say(client.name, "arrives", &refused(why)),
+            Err(why) => say(client.name, arrives, &refused(why)),
         }
     }
 
@@ -94,9 +103,7 @@ impl Lesson {
         let mut out = [0; LEAST_TICK_OUTPUT];
         let answer = self.room.tick(time, number, &mut out);
         say("The time", &format!("is {time}"), "accepted");
-        for record in answer.expect("the clock moves on") {
-            self.hand_over(record.seat, record.packet);
-        }
+        self.hand_over_all(answer.expect("the clock moves on"));
         for client in &mut self.clients {
             let Some(seat) = client.seat else { continue };
             if self.room.key_in(seat).is_none() {
@@ -123,11 +130,15 @@ impl Lesson {
         match answer {
             Ok(records) => {
                 say(name, what, "accepted");
-                for record in records {
-                    self.hand_over(record.seat, record.packet);
-                }
+                self.hand_over_all(records);
             }
             Err(why) => say(name, what, &refused(why)),
+        }
+    }
+
+    fn hand_over_all(&mut self, records: Records<'_>) {
+        for record in records {
+            self.hand_over(record.seat, record.packet);
         }
     }
 
@@ -205,9 +216,16 @@ fn main() {
     lesson.ask_for(ANA, TEACHER);
     lesson.send_data(TEACHER, 16, "a picture");
 
+    // Ben comes back without having left. The teacher is told as if he had, and he gets the lowest
+    // empty seat, where the guest sat. He has to ask again.
+    lesson.leave(GUEST);
+    lesson.arrive(BEN);
+    lesson.ask_for(BEN, TEACHER);
+    lesson.send_data(TEACHER, 17, "a picture");
+
     // Each is pinged after 30 seconds. Ben's lid is closed: he does not answer, and goes 10 seconds later.
     lesson.tick(30, 71);
-    for who in [TEACHER, GUEST, ANA] {
+    for who in [TEACHER, ANA] {
         lesson.answer_ping(who, 71);
     }
     lesson.tick(40, 72);

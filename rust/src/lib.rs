@@ -1,7 +1,8 @@
 //! A Tox TCP relay for classrooms, as a library in which every function is
 //! proved to do what its papers say, document 01 and, of frames, of a client
-//! that asks for itself and of clients that are dead, document 02's Req 01, Req
-//! 02 and Req 03: the safe interface to the static library `libbanavoge.a`.
+//! that asks for itself, of clients that are dead and of one that comes back,
+//! document 02's Req 01 to Req 04: the safe interface to the static library
+//! `libbanavoge.a`.
 //!
 //! Here are the relay, which is a [`Room`]; the [`Frames`] of a stream; relay
 //! packets of both ends, [`FromClient`] and [`FromRelay`]; packed nodes,
@@ -37,10 +38,12 @@
 //! let mut out = [0; LEAST_OUTPUT];
 //! let mut packet = [0; LONGEST_PACKET];
 //!
-//! // P1, P2, P3: KA arrives, then KB, then KA again.
-//! assert_eq!(room.arrive(&ka), Ok(Seat(0)));
-//! assert_eq!(room.arrive(&kb), Ok(Seat(1)));
-//! assert_eq!(room.arrive(&ka), Err(Refusal::AlreadySeated));
+//! // P1, P2, P3: KA arrives, then KB, then KA again. There is nobody to tell.
+//! for (key, seat) in [(ka, Seat(0)), (kb, Seat(1)), (ka, Seat(0))] {
+//!     let arrival = room.arrive(&key, &mut out)?;
+//!     assert_eq!(arrival.seat, seat);
+//!     assert_eq!(arrival.records.as_bytes(), []);
+//! }
 //!
 //! // P4: KA asks for KB and is given number 16.
 //! let count = FromClient::RoutingRequest { key: kb }.write(&mut packet)?;
@@ -77,8 +80,9 @@
 //!
 //! A host keeps for each seat a connection, and a reader of the frames that come
 //! in on it. It opens each frame, hands the packet to the room, and seals and
-//! sends each record. Each second it tells the room the time, and closes the
-//! connections of those who were put out:
+//! sends each record. When a client comes back whose connection was not closed
+//! yet, it drops the old one. Each second it tells the room the time, and closes
+//! the connections of those who were put out:
 //!
 //! ```
 //! use banavoge::{Frames, Key, Records, Refusal, Room, Seat, LEAST_TICK_OUTPUT};
@@ -106,7 +110,14 @@
 //! impl Host {
 //!     /// A handshake is done, and the client is known by its key.
 //!     fn connected(&mut self, key: &Key, connection: Connection) -> Result<Seat, Refusal> {
-//!         let seat = self.room.arrive(key)?;
+//!         let old = self.room.seat_of(key);
+//!         let arrival = self.room.arrive(key, &mut self.out)?;
+//!         // Who comes back has left its old seat: `closed` is not for that connection.
+//!         if let Some(old) = old {
+//!             self.connections[old.index()] = None;
+//!         }
+//!         send(&mut self.connections, arrival.records);
+//!         let seat = arrival.seat;
 //!         self.connections[seat.index()] = Some(connection);
 //!         self.frames[seat.index()] = Frames::new();
 //!         Ok(seat)
@@ -133,7 +144,7 @@
 //!         Ok(())
 //!     }
 //!
-//!     /// A connection was closed.
+//!     /// The connection of a seat was closed by its client.
 //!     fn closed(&mut self, seat: Seat) -> Result<(), Refusal> {
 //!         let records = self.room.leave(seat, &mut self.out)?;
 //!         self.connections[seat.index()] = None;
@@ -175,6 +186,7 @@
 #![deny(unsafe_code, clippy::undocumented_unsafe_blocks)]
 
 mod answer;
+mod arrival;
 mod call;
 mod connection_number;
 mod frames;
@@ -192,6 +204,7 @@ mod refusal;
 mod room;
 mod seat;
 
+pub use arrival::Arrival;
 pub use call::{Call, TooLong};
 pub use connection_number::ConnectionNumber;
 pub use frames::{Frame, Frames, LONGEST_FRAME};

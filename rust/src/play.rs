@@ -50,7 +50,7 @@ impl Stop {
 pub struct Accepted<'a> {
     /// The seat answered to an arrival, or else the seat that made the call.
     pub seat: Seat,
-    /// What is sent.
+    /// What is sent: by an arrival too, where its key was seated already.
     pub records: Records<'a>,
 }
 

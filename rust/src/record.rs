@@ -21,8 +21,8 @@ pub struct Record<'a> {
 /// use banavoge::{Key, Record, Room, Seat, LEAST_OUTPUT};
 ///
 /// let mut room = Room::empty();
-/// let seat = room.arrive(&Key([1; 32]))?;
 /// let mut out = [0; LEAST_OUTPUT];
+/// let seat = room.arrive(&Key([1; 32]), &mut out)?.seat;
 ///
 /// let ping = [4, 0, 0, 0, 0, 0, 0, 0, 9];
 /// let mut records = room.packet(seat, &ping, &mut out)?;

@@ -22,9 +22,10 @@ use std::fmt;
 #[derive(Debug, Clone, Copy, PartialEq, Eq, Hash)]
 #[repr(u8)]
 pub enum Refusal {
-    /// 1: a key arrives while all 40 seats are taken.
+    /// 1: a key arrives while all 40 seats are taken, none of them by this key.
     RoomFull = 1,
-    /// 2: a key arrives that is seated already.
+    /// 2: retired, and never given. In document 01 it was the arrival of a key
+    /// already seated, which is accepted now; the number stays reserved.
     AlreadySeated = 2,
     /// 3: the seat is above 39, or empty.
     NotSeated = 3,
@@ -42,9 +43,10 @@ pub enum Refusal {
     NoSuchRoute = 8,
     /// 9: data on a route that waits.
     NotConnected = 9,
-    /// 10: an output of under 2,048 bytes for a packet or a leave, of under 5,120
-    /// for a tick, or one that is shorter than what a writer would write; a keep
-    /// of under 2,050 bytes, which [`Frames`](crate::Frames) never lends.
+    /// 10: an output of under 2,048 bytes for an arrival, a packet or a leave, of
+    /// under 5,120 for a tick, or one that is shorter than what a writer would
+    /// write; a keep of under 2,050 bytes, which [`Frames`](crate::Frames) never
+    /// lends.
     OutputTooShort = 10,
     /// 11: bytes that are no whole room, such as those of a room in which a seat
     /// names its own key, or was pinged at a time after the clock.
@@ -106,11 +108,13 @@ impl Refusal {
     }
 
     /// Document 01's words, from the column "Given exactly when"; document 02's
-    /// for 18 and 19, for a keep and for a tick's output.
+    /// for 18 and 19, for a key not seated, a keep and a tick's output. An arrival's
+    /// output is worded as a tick's, and 2, which is never given, has "retired"
+    /// before it.
     const fn words(self) -> &'static str {
         match self {
-            Refusal::RoomFull => "arrival with all 40 seats taken",
-            Refusal::AlreadySeated => "arrival of a key already seated",
+            Refusal::RoomFull => "arrival with all 40 seats taken, of a key not seated",
+            Refusal::AlreadySeated => "retired: arrival of a key already seated",
             Refusal::NotSeated => "seat above 39, or empty",
             Refusal::PacketSize => "packet of 0 or more than 2,032 bytes",
             Refusal::UnexpectedKind => "a kind this end does not take",
@@ -121,7 +125,7 @@ impl Refusal {
             }
             Refusal::NotConnected => "data on a waiting route",
             Refusal::OutputTooShort => {
-                "lent output too short: under 2,048 for packet and leave, under the exact length for a writer; a keep that is too short; tick output under 5,120"
+                "lent output too short: under 2,048 for packet and leave, under the exact length for a writer; a keep that is too short; tick output under 5,120; arrival output under 2,048"
             }
             Refusal::RoomNotWhole => "room not whole",
             Refusal::ListSize => "list size not 1 to 16",

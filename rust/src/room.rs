@@ -2,11 +2,12 @@
 
 use crate::answer::{accepted, found};
 use crate::raw::{self, play::Counts};
-use crate::{Answers, Key, Played, Records, Refusal, Seat, Stop};
+use crate::{Answers, Arrival, Key, Played, Records, Refusal, Seat, Stop};
 use std::fmt;
 
-/// The least output to lend to [`Room::packet`] and [`Room::leave`]: with less
-/// they are refused with 10, whatever they would send. It is enough for both.
+/// The least output to lend to [`Room::arrive`], [`Room::packet`] and
+/// [`Room::leave`]: with less they are refused with 10, whatever they would send.
+/// It is enough for each of them.
 pub const LEAST_OUTPUT: usize = 2_048;
 
 /// The least output to lend to [`Room::tick`]: with less it is refused with 10,
@@ -56,14 +57,15 @@ impl Room {
     /// the library may have another layout, and are not to be given.
     ///
     /// ```
-    /// use banavoge::{Key, Refusal, Room};
+    /// use banavoge::{Key, Refusal, Room, LEAST_OUTPUT};
     ///
     /// let mut room = Room::empty();
-    /// room.arrive(&Key([1; 32]))?;
+    /// let mut out = [0; LEAST_OUTPUT];
+    /// let seat = room.arrive(&Key([1; 32]), &mut out)?.seat;
     /// let mut kept = room.as_bytes().to_vec();
     ///
-    /// let mut room = Room::from_bytes(&kept)?;
-    /// assert_eq!(room.arrive(&Key([1; 32])), Err(Refusal::AlreadySeated));
+    /// let room = Room::from_bytes(&kept)?;
+    /// assert_eq!(room.key_in(seat), Some(Key([1; 32])));
     ///
     /// kept[0] = 41;
     /// assert_eq!(Room::from_bytes(&kept).err(), Some(Refusal::RoomNotWhole));
@@ -82,20 +84,57 @@ impl Room {
         &self.memory
     }
 
-    /// A client arrives: its key takes the lowest empty seat, and nothing is
-    /// sent. Refused with 2 or 1.
+    /// A client arrives: its key takes the lowest empty seat and has no routes
+    /// there. Refused with 10, or with 1 where all 40 seats are taken, none of
+    /// them by this key. For a key that is not seated nothing is sent.
+    ///
+    /// A key that is seated already leaves first, as by [`leave`](Room::leave), and
+    /// each client connected with it is told; their requests go on waiting for that
+    /// key. Then it takes the lowest empty seat, which may be another than its old
+    /// one. It is never refused with 1: its own seat is empty by then. Its old
+    /// routes are gone, and so is a ping not yet answered.
+    ///
+    /// A reconnect tells the old seat nothing: the host closes the connection that
+    /// it holds for that key. The key's old seat is told by
+    /// [`seat_of`](Room::seat_of) before the call; afterwards it is empty, or the
+    /// key's again. No `leave` and no `packet` is to be made for the old connection
+    /// any more, not even for bytes that came in before: they would be taken for
+    /// those of the client that has come back, or of another that has taken the old
+    /// seat since. The new connection has [`Frames`](crate::Frames) of its own, also
+    /// where the seat is the same.
     ///
     /// ```
-    /// use banavoge::{Key, Refusal, Room, Seat};
+    /// use banavoge::{ConnectionNumber, FromRelay, Key, Refusal, Room, Seat, LEAST_OUTPUT};
     ///
+    /// let (ka, kb) = (Key([1; 32]), Key([2; 32]));
     /// let mut room = Room::empty();
-    /// assert_eq!(room.arrive(&Key([1; 32])), Ok(Seat(0)));
-    /// assert_eq!(room.arrive(&Key([2; 32])), Ok(Seat(1)));
-    /// assert_eq!(room.arrive(&Key([1; 32])), Err(Refusal::AlreadySeated));
+    /// let mut out = [0; LEAST_OUTPUT];
+    /// assert_eq!(room.arrive(&ka, &mut out)?.seat, Seat(0));
+    /// assert_eq!(room.arrive(&kb, &mut out)?.seat, Seat(1));
+    /// for (seat, wanted) in [(Seat(0), kb), (Seat(1), ka)] {
+    ///     let request = [&[0], wanted.as_ref()].concat();
+    ///     let _ = room.packet(seat, &request, &mut out)?;
+    /// }
+    ///
+    /// // KB comes back without having left: KA is told, and KB has its seat again.
+    /// let arrival = room.arrive(&kb, &mut out)?;
+    /// assert_eq!(arrival.seat, Seat(1));
+    /// let mut records = arrival.records;
+    /// let record = records.next().expect("KA is told");
+    /// assert_eq!(record.seat, Seat(0));
+    /// let told = FromRelay::DisconnectNotification(ConnectionNumber(16));
+    /// assert_eq!(FromRelay::read(record.packet), Ok(told));
+    /// assert_eq!(records.next(), None);
+    /// # Ok::<(), Refusal>(())
     /// ```
-    pub fn arrive(&mut self, key: &Key) -> Result<Seat, Refusal> {
-        let seat = accepted(raw::relay::arrive(&mut self.memory, &key.0))?;
-        Ok(Seat(u8::try_from(seat).expect("a seat is a byte")))
+    pub fn arrive<'o>(&mut self, key: &Key, out: &'o mut [u8]) -> Result<Arrival<'o>, Refusal> {
+        let mut seat = 0;
+        let room = &mut self.memory;
+        let count = accepted(raw::relay::arrive(room, &key.0, out, &mut seat))?;
+        Ok(Arrival {
+            seat: Seat(seat),
+            records: Records::written(&out[..count]),
+        })
     }
 
     /// The client in a seat leaves: each client connected with it is told, and
@@ -105,8 +144,8 @@ impl Room {
     /// use banavoge::{Key, Refusal, Room, LEAST_OUTPUT};
     ///
     /// let mut room = Room::empty();
-    /// let seat = room.arrive(&Key([1; 32]))?;
     /// let mut out = [0; LEAST_OUTPUT];
+    /// let seat = room.arrive(&Key([1; 32]), &mut out)?.seat;
     /// for record in room.leave(seat, &mut out)? {
     ///     println!("{} bytes for {}", record.packet.len(), record.seat);
     /// }
@@ -128,8 +167,8 @@ impl Room {
     /// use banavoge::{FromRelay, Key, Refusal, Room, LEAST_OUTPUT};
     ///
     /// let mut room = Room::empty();
-    /// let seat = room.arrive(&Key([1; 32]))?;
     /// let mut out = [0; LEAST_OUTPUT];
+    /// let seat = room.arrive(&Key([1; 32]), &mut out)?.seat;
     /// let ping = [4, 0, 0, 0, 0, 0, 0, 0, 9];
     /// for record in room.packet(seat, &ping, &mut out)? {
     ///     assert_eq!(FromRelay::read(record.packet), Ok(FromRelay::Pong(9)));
@@ -168,8 +207,8 @@ impl Room {
     /// use banavoge::{FromRelay, Key, Refusal, Room, LEAST_TICK_OUTPUT};
     ///
     /// let mut room = Room::empty();
-    /// let seat = room.arrive(&Key([1; 32]))?;
     /// let mut out = [0; LEAST_TICK_OUTPUT];
+    /// let seat = room.arrive(&Key([1; 32]), &mut out)?.seat;
     ///
     /// let mut sent = room.tick(30, 7, &mut out)?;
     /// let record = sent.next().expect("a ping is due");
@@ -199,10 +238,11 @@ impl Room {
     /// The key of the client in a seat; none where the seat is empty or above 39.
     ///
     /// ```
-    /// use banavoge::{Key, Room, Seat};
+    /// use banavoge::{Key, Room, Seat, LEAST_OUTPUT};
     ///
     /// let mut room = Room::empty();
-    /// room.arrive(&Key([1; 32]))?;
+    /// let mut out = [0; LEAST_OUTPUT];
+    /// assert_eq!(room.arrive(&Key([1; 32]), &mut out)?.seat, Seat(0));
     /// assert_eq!(room.key_in(Seat(0)), Some(Key([1; 32])));
     /// assert_eq!(room.key_in(Seat(1)), None);
     /// assert_eq!(room.key_in(Seat(40)), None);
@@ -218,13 +258,13 @@ impl Room {
     /// the room.
     ///
     /// ```
-    /// use banavoge::{Key, Room, Seat};
+    /// use banavoge::{Key, Room, LEAST_OUTPUT};
     ///
     /// let mut room = Room::empty();
-    /// room.arrive(&Key([1; 32]))?;
-    /// room.arrive(&Key([2; 32]))?;
-    /// assert_eq!(room.seat_of(&Key([2; 32])), Some(Seat(1)));
-    /// assert_eq!(room.seat_of(&Key([3; 32])), None);
+    /// let mut out = [0; LEAST_OUTPUT];
+    /// let seat = room.arrive(&Key([1; 32]), &mut out)?.seat;
+    /// assert_eq!(room.seat_of(&Key([1; 32])), Some(seat));
+    /// assert_eq!(room.seat_of(&Key([2; 32])), None);
     /// # Ok::<(), banavoge::Refusal>(())
     /// ```
     pub fn seat_of(&self, key: &Key) -> Option<Seat> {
@@ -248,7 +288,7 @@ impl Room {
     /// for call in [
     ///     Call::Arrive { key: ka },
     ///     Call::Arrive { key: kb },
-    ///     Call::Arrive { key: ka },
+    ///     Call::Leave { seat: Seat(2) },
     ///     Call::Packet { seat: Seat(0), packet: &[4, 0, 0, 0, 0, 0, 0, 0, 9] },
     /// ] {
     ///     call.store(&mut calls)?;
@@ -259,7 +299,7 @@ impl Room {
     /// let played = room.play(&calls, 3, &mut out)?;
     /// assert_eq!((played.calls, played.stop), (3, Stop::Allowance));
     /// let seats = played.answers.map(|answer| answer.map(|accepted| accepted.seat));
-    /// assert!(seats.eq([Ok(Seat(0)), Ok(Seat(1)), Err(Refusal::AlreadySeated)]));
+    /// assert!(seats.eq([Ok(Seat(0)), Ok(Seat(1)), Err(Refusal::NotSeated)]));
     ///
     /// let rest = &calls[played.read..];
     /// let played = room.play(rest, 3, &mut out)?;

@@ -1,6 +1,7 @@
 //! Document 01's examples of the relay, made on the library: those marked P,
 //! which are proved too, the bounds, and the errors that students make; and
-//! document 02's client that asks for itself, and its dead laptops.
+//! document 02's client that asks for itself, its dead laptops, and its one call
+//! when a laptop comes back, which changes P3.
 
 use banavoge::{Key, Refusal, Room, Seat, LEAST_OUTPUT, LEAST_TICK_OUTPUT};
 
@@ -23,8 +24,9 @@ impl Host {
         }
     }
 
-    fn arrive(&mut self, key: &Key) -> Result<Seat, Refusal> {
-        self.room.arrive(key)
+    fn arrive(&mut self, key: &Key) -> Result<(Seat, Vec<u8>), Refusal> {
+        let arrival = self.room.arrive(key, &mut self.out)?;
+        Ok((arrival.seat, arrival.records.as_bytes().to_vec()))
     }
 
     fn leave(&mut self, seat: Seat) -> Result<Vec<u8>, Refusal> {
@@ -54,12 +56,17 @@ impl Host {
     /// P5: KA in seat 0 and KB in seat 1, each with number 16 for the other.
     fn connected() -> Self {
         let mut host = Host::new();
-        assert_eq!(host.arrive(&KA), Ok(Seat(0)));
-        assert_eq!(host.arrive(&KB), Ok(Seat(1)));
+        assert_eq!(host.arrive(&KA), in_seat(0));
+        assert_eq!(host.arrive(&KB), in_seat(1));
         host.request(Seat(0), &KB).expect("a request is accepted");
         host.request(Seat(1), &KA).expect("a request is accepted");
         host
     }
+}
+
+/// An arrival in a seat that sends 0 bytes.
+fn in_seat(seat: u8) -> Result<(Seat, Vec<u8>), Refusal> {
+    Ok((Seat(seat), vec![]))
 }
 
 /// The record of an answer to a request.
@@ -81,9 +88,9 @@ fn key_of(number: u8) -> Key {
 #[test]
 fn p1_to_p6_two_clients_connect_and_send() {
     let mut host = Host::new();
-    assert_eq!(host.arrive(&KA), Ok(Seat(0)));
-    assert_eq!(host.arrive(&KB), Ok(Seat(1)));
-    assert_eq!(host.arrive(&KA), Err(Refusal::AlreadySeated));
+    assert_eq!(host.arrive(&KA), in_seat(0));
+    assert_eq!(host.arrive(&KB), in_seat(1));
+    assert_eq!(host.arrive(&KA), in_seat(0));
     assert_eq!(host.request(Seat(0), &KB), Ok(answer(0, 0x10, &KB)));
     let told = [
         &answer(1, 0x10, &KA)[..],
@@ -102,8 +109,8 @@ fn p1_to_p6_two_clients_connect_and_send() {
 #[test]
 fn p7_p8_data_on_a_waiting_number_and_on_none() {
     let mut host = Host::new();
-    assert_eq!(host.arrive(&KA), Ok(Seat(0)));
-    assert_eq!(host.arrive(&KB), Ok(Seat(1)));
+    assert_eq!(host.arrive(&KA), in_seat(0));
+    assert_eq!(host.arrive(&KB), in_seat(1));
     assert_eq!(host.request(Seat(0), &KB), Ok(answer(0, 0x10, &KB)));
     assert_eq!(
         host.packet(Seat(0), &[0x10, 0x61, 0x62]),
@@ -124,7 +131,7 @@ fn p7_p8_data_on_a_waiting_number_and_on_none() {
 fn p9_another_takes_the_seat_that_was_left() {
     let mut host = Host::connected();
     assert_eq!(host.leave(Seat(0)), Ok(vec![1, 0, 2, 3, 0x10]));
-    assert_eq!(host.arrive(&KC), Ok(Seat(0)));
+    assert_eq!(host.arrive(&KC), in_seat(0));
     assert_eq!(
         host.packet(Seat(1), &[0x10, 0x61]),
         Err(Refusal::NotConnected)
@@ -172,7 +179,7 @@ fn bounds_of_out_of_band_packets_and_of_data() {
 #[test]
 fn the_32nd_request_is_numbered_47_and_the_33rd_gets_0() {
     let mut host = Host::new();
-    assert_eq!(host.arrive(&KA), Ok(Seat(0)));
+    assert_eq!(host.arrive(&KA), in_seat(0));
     for place in 0..32 {
         let wanted = key_of(place);
         assert_eq!(
@@ -193,7 +200,7 @@ fn the_32nd_request_is_numbered_47_and_the_33rd_gets_0() {
 #[test]
 fn a_client_that_asks_for_itself_gets_0_and_no_number() {
     let mut host = Host::new();
-    assert_eq!(host.arrive(&KA), Ok(Seat(0)));
+    assert_eq!(host.arrive(&KA), in_seat(0));
     for held in 0..=32 {
         let before = host.room.clone();
         for _ in 0..2 {
@@ -212,17 +219,79 @@ fn a_client_that_asks_for_itself_gets_0_and_no_number() {
 fn the_40th_arrival_is_accepted_and_the_41st_gets_1() {
     let mut host = Host::new();
     for seat in 0..40 {
-        assert_eq!(host.arrive(&key_of(seat)), Ok(Seat(seat)));
+        assert_eq!(host.arrive(&key_of(seat)), in_seat(seat));
     }
     assert_eq!(host.arrive(&key_of(40)), Err(Refusal::RoomFull));
-    assert_eq!(host.arrive(&key_of(39)), Err(Refusal::AlreadySeated));
+}
+
+/// "1 is given only to a key not seated": all who sit there may come back.
+#[test]
+fn in_a_full_room_a_seated_key_arrives_again() {
+    let mut host = Host::new();
+    for seat in 0..40 {
+        assert_eq!(host.arrive(&key_of(seat)), in_seat(seat));
+    }
+    for seat in 0..40 {
+        assert_eq!(host.arrive(&key_of(seat)), in_seat(seat));
+        assert_eq!(host.arrive(&key_of(40)), Err(Refusal::RoomFull));
+    }
+}
+
+/// After P5, KA comes back: KB is told as by P9's leave, and its request stands,
+/// so that they are connected again once KA asks.
+#[test]
+fn who_comes_back_has_left_and_the_peer_is_told() {
+    let mut host = Host::connected();
+    let told = vec![1, 0, 2, 3, 0x10];
+    assert_eq!(host.arrive(&KA), Ok((Seat(0), told)));
+    assert_eq!(
+        host.packet(Seat(0), &[0x10, 0x61]),
+        Err(Refusal::NoSuchRoute)
+    );
+    assert_eq!(
+        host.packet(Seat(1), &[0x10, 0x61]),
+        Err(Refusal::NotConnected)
+    );
+    let told = [
+        &answer(0, 0x10, &KB)[..],
+        &[0, 0, 2, 2, 0x10],
+        &[1, 0, 2, 2, 0x10],
+    ]
+    .concat();
+    assert_eq!(host.request(Seat(0), &KB), Ok(told));
+}
+
+/// The seat is looked for after the leave, and may be below the old one.
+#[test]
+fn who_comes_back_takes_the_lowest_empty_seat() {
+    let mut host = Host::connected();
+    assert_eq!(host.arrive(&KC), in_seat(2));
+    assert_eq!(host.leave(Seat(0)), Ok(vec![1, 0, 2, 3, 0x10]));
+    assert_eq!(host.arrive(&KC), in_seat(0));
+    assert_eq!(host.room.key_in(Seat(2)), None);
+    assert_eq!(host.arrive(&KB), in_seat(1));
+}
+
+/// A ping that was not answered is that of the old seat: who comes back counts as
+/// pinged at the clock.
+#[test]
+fn who_comes_back_has_no_ping_to_answer() {
+    let mut host = Host::connected();
+    assert_eq!(host.tick(30, 2), Ok([ping(0, 2), ping(1, 2)].concat()));
+    assert_eq!(host.tick(35, 3), Ok(vec![]));
+    assert_eq!(host.arrive(&KB), Ok((Seat(1), vec![0, 0, 2, 3, 0x10])));
+    assert_eq!(host.tick(40, 4), Ok(vec![]));
+    assert_eq!(host.room.key_in(Seat(0)), None);
+    assert_eq!(host.room.key_in(Seat(1)), Some(KB));
+    assert_eq!(host.tick(64, 5), Ok(vec![]));
+    assert_eq!(host.tick(65, 6), Ok(ping(1, 6)));
 }
 
 #[test]
 fn data_goes_on_under_the_number_of_the_one_who_gets_it() {
     let mut host = Host::new();
-    assert_eq!(host.arrive(&KA), Ok(Seat(0)));
-    assert_eq!(host.arrive(&KB), Ok(Seat(1)));
+    assert_eq!(host.arrive(&KA), in_seat(0));
+    assert_eq!(host.arrive(&KB), in_seat(1));
     assert_eq!(host.request(Seat(1), &KC), Ok(answer(1, 0x10, &KC)));
     assert_eq!(host.request(Seat(0), &KB), Ok(answer(0, 0x10, &KB)));
     host.request(Seat(1), &KA).expect("a request is accepted");
@@ -277,7 +346,7 @@ fn of_two_that_go_by_one_tick_the_lower_tells_the_higher() {
 fn an_arrival_starts_with_the_last_clock() {
     let mut host = Host::new();
     assert_eq!(host.tick(1_000, 1), Ok(vec![]));
-    assert_eq!(host.arrive(&KA), Ok(Seat(0)));
+    assert_eq!(host.arrive(&KA), in_seat(0));
     assert_eq!(host.tick(1_029, 2), Ok(vec![]));
     assert_eq!(host.tick(1_029, 3), Ok(vec![]));
     assert_eq!(host.tick(1_028, 4), Err(Refusal::ClockBack));

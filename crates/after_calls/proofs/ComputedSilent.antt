@@ -1,6 +1,6 @@
 -- The 40 seconds, in small histories: a room of two seats, where the clock is 5 when KA arrives. It still sits at 44, and at 45 it is gone. The theorem's
--- hypotheses are needed: where the clock moves by 2 once, where a pong came in time, and where the client left and came back, it sits at 45. A pong with another
--- number, any other packet, and another client's pong are no answers. Assumes nothing.
+-- hypotheses are needed: where the clock moves by 2 once, where a pong came in time, and where the client left and came back, or came back without leaving, it
+-- sits at 45. A pong with another number, any other packet, and another client's pong are no answers. Assumes nothing.
 use mathlib.Core.Path.{_≡_, refl, sym, _∙_}
 use mathlib.Core.Bool.{Bool, true, false, not, true≢false}
 use mathlib.Core.List.{List, [], _∷_, _++_}
@@ -13,7 +13,7 @@ use Rattle.rules.specs.History.{Event, event, transcript, happens}
 use Rattle.rules.specs.Transcript.{Past, nobody, clientOf, Start, fromEmpty, clockOf, sitter, isClient}
 use Rattle.rules.specs.After.{roomAfterAll, pastAfter}
 use Rattle.after_calls.specs.Silent.{each, arrivalOf, arrives, slowly, bears, answersBy, answers, NeverAnswers}
-use Rattle.rules.proofs.Computed.{ka, kb, opened}
+use Rattle.rules.proofs.Computed.{ka, kb, kc, opened}
 
 abbrev pub small : Sizes
 small = sizesOf 2 1
@@ -166,13 +166,25 @@ pub another-sits : (sitter begin (now another) 0 ≡ nobody) × (sitter begin (n
 unfolding history another
 another-sits = (refl, refl)
 
--- a refused arrival of its key is none: it sits there
-unfoldable pub again : List Call
-again = ticksFrom 6 10 ++ (arrive ka ∷ ticksFrom 16 30)
+-- it came back at 34 without leaving
+unfoldable pub returned : List Call
+returned = ticksFrom 6 29 ++ (arrive ka ∷ ticksFrom 35 11)
 
-pub again-is : (isLatest again ≡ true) × (sitter begin (now again) 0 ≡ nobody)
-unfolding history again
-again-is = (refl, refl)
+pub returned-sits : SitsAt45 returned
+unfolding history returned
+returned-sits = record { clock = refl; sits = refl }
+
+pub returned-is : (isSlow returned ≡ true) × (isSilent returned ≡ true) × (isLatest returned ≡ false)
+unfolding history returned
+returned-is = (refl, refl, refl)
+
+-- a refused arrival of its key is none: it has left, and both seats are taken
+unfoldable pub turnedAway : List Call
+turnedAway = leave 0 ∷ arrive kb ∷ arrive kc ∷ arrive ka ∷ []
+
+pub turned-away-is : (isLatest turnedAway ≡ true) × (sitter begin (now turnedAway) 0 ≡ clientOf kb) × (sitter begin (now turnedAway) 1 ≡ clientOf kc)
+unfolding history turnedAway
+turned-away-is = (refl, refl, refl)
 
 -- a tick that is refused does not move the clock: one with the number 0, and one that goes back
 unfoldable pub refusedTicks : List Call

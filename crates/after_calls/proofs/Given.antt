@@ -1,16 +1,19 @@
--- What calls are answered, for every history, by what has happened alone. An arrival gets refusal 2 where its key sits; else 1 where every seat is taken;
--- else it takes the lowest empty seat. A leave or a packet of a seat where nobody sits gets 3; a leave of another seat is accepted, and a packet that the
--- relay's reader refuses gets the reader's refusal. A request for the client's own key gets 0; another the number under which one for its key stands; else 0
--- where a request stands under every number; else the lowest under which none stands. A drop gets 8 where no request stands under its number, and else is
--- accepted. The cases of each are all there are, and exclude each other. That a refused call sends nothing is in `rules`, `RefusedOrAccepted.antt`. Assumes
--- nothing.
+-- What calls are answered, for every history, by what has happened alone. An arrival of a seated key is accepted: it takes the lowest seat that is empty once
+-- its own is, and tells what a leave tells. Another gets 1 where every seat is taken, and else takes the lowest empty seat. A leave or a packet of a seat where
+-- nobody sits gets 3; a leave of another seat is accepted, and a packet that the relay's reader refuses gets the reader's refusal. A request for the client's
+-- own key gets 0; another the number under which one for its key stands; else 0 where a request stands under every number; else the lowest under which none
+-- stands. A drop gets 8 where no request stands under its number, and else is accepted. The cases of each are all there are, and exclude each other. That a
+-- refused call sends nothing is in `rules`, `RefusedOrAccepted.antt`. Assumes nothing.
 use mathlib.Core.Path.{_≡_, refl, sym, ap, _∙_, subst}
 use mathlib.Core.Bool.{Bool, true, false, true≢false}
 use mathlib.Core.List.{List, [], _∷_, _++_}
-use mathlib.Core.Logic.{_≢_}
-use Prim.Native.Nat.{ℕ, _-_}
+use mathlib.Core.Logic.{_≢_, _⊎_, inl, inr}
+use Prim.Native.Nat.{ℕ, _-_, _<_}
 use native.Mathlib.Omega.{arith}
-use lib.ListN.{getD}
+use lib.Dec.{eqb}
+use lib.ListN.{getD, set, length, length-set}
+use lib.Seq.{getD-set-other}
+use borrow.Author.Tests.{eqb-true, eqb-false}
 use Rattle.refusal.specs.declared.Refusal.{Refusal}
 use Rattle.refusal.specs.declared.Refusal.the-variants.{NotSeated}
 use Rattle.key.specs.Keys.{sameKey}
@@ -20,13 +23,16 @@ use Rattle.packet_laws.specs.FromClient as client
 use Rattle.packet_laws.specs.FromRelay as relay
 use Rattle.rules.specs.Room.{Sizes, Key, Route, free, wants, Seat, vacant, holds, Room, emptyRoom, Found, none, at, find, seatOf, isVacant, routeTo, isFree, seatAt, routeAt, firstNumber, numberOfPlace, Held, setKey}
 use Rattle.rules.specs.Whole.{Whole}
-use Rattle.rules.specs.Call.{Call, arrive, leave, packetCall, refused, Sent}
-use Rattle.rules.specs.Outcome.{refuse, sentBytes, accept, to, arriveAt, leaveFrom, requestAt, dropAt, act, actOn, packetFrom, outcome}
+use Rattle.rules.specs.Call.{Call, arrive, leave, packetCall, accepted, refused, Sent}
+use Rattle.rules.specs.Outcome.{refuse, sentBytes, accept, to, Outcome, takeSeat, leaveFrom, requestAt, dropAt, act, actOn, packetFrom, outcome}
 use Rattle.rules.specs.History.{Event, event, transcript}
 use Rattle.rules.specs.Transcript.{Past, nobody, clientOf, Start, fromEmpty, isAccepted, sitter, stands}
 use Rattle.rules.specs.After.{pastAfter, clientIn, Tied}
-use Rattle.after_calls.specs.Given.{ArriveAnswered, seated, full, takes, LeaveAnswered, empty, left, Taken, Numbered, ownKey, oldNumber, noneFree, lowestFree, DropAnswered, noRoute, dropped}
-use Rattle.rules.proofs.FindLaws.{clash, find-hit, find-miss, find-within, find-before, find-none, seat-of-holds, route-to-wants, route-at-place, wanted-place, heldOf}
+use Rattle.after_calls.specs.Given.{ArriveAnswered, full, takes, returns, LeaveAnswered, empty, left, Taken, Numbered, ownKey, oldNumber, noneFree, lowestFree, DropAnswered, noRoute, dropped}
+use Rattle.rules.proofs.FindLaws.{set-default, clash, find-hit, find-miss, find-within, find-before, find-none, route-to-wants, route-at-place, wanted-place, heldOf}
+use Rattle.after_calls.specs.Told.{LeaveTells}
+use Rattle.after_calls.proofs.Told.{leave-tells}
+use Rattle.rules.proofs.ComesBack.{arrives-new, new-sends-nothing, sits-there, some-empty, comes-back-to}
 use Rattle.rules.proofs.Tied.{tied-here, seat-holds, sitter-is, wants-stands, free-stands}
 use Rattle.rules.proofs.EachEvent.{from-empty}
 
@@ -54,19 +60,67 @@ module _ (sizes : Sizes) (start : Start) (past : Past) (room : Room) (whole : Wh
     taken : (seat : ℕ) → isVacant (seatAt room seat) ≡ false → sitter start past seat ≢ nobody
     taken seat h q = held-somebody (seatAt room seat) h (sym (tie .sits seat) ∙ q)
 
-    arrive-found : (old lowest : Found) → find (seatOf key) (room .seats) ≡ old → find isVacant (room .seats) ≡ lowest → ArriveAnswered sizes start past key (arriveAt old lowest key .answer)
-    unfolding arriveAt refuse accept sentBytes seatAt clientIn
-    arrive-found (at seat) lowest h l =
-        seated seat (tie .sits seat ∙ ap clientIn (seat-of-holds key (seatAt room seat) (find-hit (seatOf key) vacant (room .seats) seat h))) refl
-    arrive-found none none h l = full (sits-nowhere h) (λ seat within. taken seat (find-none isVacant vacant (room .seats) l seat (let n = whole .seats in omega arith))) refl
-    arrive-found none (at seat) h l =
+    -- of a key that sits nowhere
+    arrive-new : (lowest : Found) → find isVacant (room .seats) ≡ lowest → find (seatOf key) (room .seats) ≡ none → ArriveAnswered sizes start past key (event room (arrive key))
+    unfolding event takeSeat refuse accept sentBytes seatAt
+    arrive-new none l h =
+        full (sits-nowhere h) (λ seat within. taken seat (find-none isVacant vacant (room .seats) l seat (let n = whole .seats in omega arith)))
+        (ap (λ (o : Outcome). o .answer) (arrives-new room key h ∙ ap (λ (f : Found). takeSeat f key) l)) (new-sends-nothing room key h)
+    arrive-new (at seat) l h =
         takes seat (sits-nowhere h) (let n = whole .seats in let w = find-within isVacant (room .seats) seat l in omega arith)
         (tie .sits seat ∙ vacant-nobody (seatAt room seat) (find-hit isVacant vacant (room .seats) seat l))
-        (λ lower less. taken lower (find-before isVacant vacant (room .seats) seat l lower less)) refl
+        (λ lower less. taken lower (find-before isVacant vacant (room .seats) seat l lower less))
+        (ap (λ (o : Outcome). o .answer) (arrives-new room key h ∙ ap (λ (f : Found). takeSeat f key) l)) (new-sends-nothing room key h)
 
-    pub arrive-answered : ArriveAnswered sizes start past key (event room (arrive key) .answer)
-    unfolding event outcome
-    arrive-answered = arrive-found (find (seatOf key) (room .seats)) (find isVacant (room .seats)) refl refl
+    -- of a seated key
+    module _ (old : ℕ) (found : find (seatOf key) (room .seats) ≡ at old) where
+      abbrev low : ℕ
+      low = some-empty room key old found .place
+
+      lowest : find isVacant (set (room .seats) old vacant) ≡ at low
+      lowest = some-empty room key old found .lowest
+
+      -- its own seat, or one that was empty
+      low-empty : (t : Bool) → eqb low old ≡ t → (low ≡ old) ⊎ (sitter start past low ≡ nobody)
+      unfolding seatAt
+      low-empty true e = inl (eqb-true low old e)
+      low-empty false e =
+          inr (tie .sits low
+          ∙ vacant-nobody (seatAt room low) (sym (ap isVacant (getD-set-other (room .seats) old low vacant vacant (eqb-false low old e))) ∙ find-hit isVacant vacant (set (room .seats) old vacant) low lowest))
+
+      -- each lower one is taken by another
+      below : (lower : ℕ) → lower < low → (lower ≢ old) × (sitter start past lower ≢ nobody)
+      unfolding seatAt isVacant
+      below lower less =
+          let h = find-before isVacant vacant (set (room .seats) old vacant) low lowest lower less in
+          let apart : lower ≢ old =
+          λ q. true≢false (sym (ap (λ (i : ℕ). isVacant (getD (set (room .seats) old vacant) i vacant)) q ∙ ap isVacant (set-default (room .seats) old vacant)) ∙ h) in
+          (apart, taken lower (sym (ap isVacant (getD-set-other (room .seats) old lower vacant vacant apart)) ∙ h))
+
+      sent-as-leave : event room (arrive key) .sent ≡ event room (leave old) .sent
+      unfolding event outcome leaveFrom accept
+      sent-as-leave = ap (λ (o : Outcome). o .sent) (comes-back-to room key old found low lowest) ∙ rw (sits-there room key old found)
+
+      counted : event room (arrive key) .answer ≡ accepted low (length (sentBytes (event room (arrive key) .sent)))
+      unfolding event accept
+      counted =
+          let q = comes-back-to room key old found low lowest in
+          ap (λ (o : Outcome). o .answer) q ∙ sym (ap (λ (o : Outcome). accepted low (length (sentBytes (o .sent)))) q)
+
+      arrive-back : ArriveAnswered sizes start past key (event room (arrive key))
+      unfolding event clientIn accept
+      arrive-back =
+          returns old low (tie .sits old ∙ ap clientIn (sits-there room key old found))
+          (let n = whole .seats in let w = find-within isVacant (set (room .seats) old vacant) low lowest in omega (arith, length-set (room .seats) old vacant))
+          (low-empty (eqb low old) refl) below counted
+          (subst (LeaveTells sizes start past old) (sym sent-as-leave) (leave-tells sizes start past room whole tie old))
+
+    pub arrive-answered : ArriveAnswered sizes start past key (event room (arrive key))
+    arrive-answered = go (find (seatOf key) (room .seats)) refl
+      where
+        go : (f : Found) → find (seatOf key) (room .seats) ≡ f → ArriveAnswered sizes start past key (event room (arrive key))
+        go none h = arrive-new (find isVacant (room .seats)) refl h
+        go (at old) h = arrive-back old h
 
   module _ (seat : ℕ) where
     leave-seat : (s : Seat) → seatAt room seat ≡ s → LeaveAnswered start past seat (leaveFrom s room seat .answer)
@@ -183,11 +237,11 @@ module _ (sizes : Sizes) (calls : List Call) (before : List Event) (e : Event) (
   of-each : (P : Past → Event → Type 0) → ((past : Past) (room : Room) → Whole sizes room → Tied (fromEmpty sizes) past room → (call : Call) → P past (event room call)) → P (pastAfter [] before) e
   of-each P each = from-empty sizes P each calls before e later t
 
-  pub arrive-answered-from-empty : (key : Key) → e .call ≡ arrive key → ArriveAnswered sizes (fromEmpty sizes) (pastAfter [] before) key (e .answer)
+  pub arrive-answered-from-empty : (key : Key) → e .call ≡ arrive key → ArriveAnswered sizes (fromEmpty sizes) (pastAfter [] before) key e
   unfolding event
   arrive-answered-from-empty key =
-      of-each (λ past e. e .call ≡ arrive key → ArriveAnswered sizes (fromEmpty sizes) past key (e .answer))
-      (λ past room whole tie call c. subst (λ (x : Call). ArriveAnswered sizes (fromEmpty sizes) past key (event room x .answer)) (sym c) (arrive-answered sizes (fromEmpty sizes) past room whole tie key))
+      of-each (λ past e. e .call ≡ arrive key → ArriveAnswered sizes (fromEmpty sizes) past key e)
+      (λ past room whole tie call c. subst (λ (x : Call). ArriveAnswered sizes (fromEmpty sizes) past key (event room x)) (sym c) (arrive-answered sizes (fromEmpty sizes) past room whole tie key))
 
   module _ (seat : ℕ) where
     pub leave-answered-from-empty : e .call ≡ leave seat → LeaveAnswered (fromEmpty sizes) (pastAfter [] before) seat (e .answer)

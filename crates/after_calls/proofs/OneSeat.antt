@@ -82,7 +82,7 @@ zero-packet (read.refused why) answer sent wanted = refl
 
 zero-own : (call : Call) (answer : Answer) (sent : List Sent) (wanted : Key) → standsAfterOwn call answer sent 0 wanted false ≡ false
 unfolding standsAfterOwn
-zero-own (arrive key) answer sent wanted = refl
+zero-own (arrive key) answer sent wanted = either (isAccepted answer) false
 zero-own (leave seat) answer sent wanted = either (isAccepted answer) false
 zero-own (packetCall seat bytes) answer sent wanted = zero-packet (client.relayRead bytes) answer sent wanted
 zero-own (tick time ping) answer sent wanted = refl

@@ -5,10 +5,10 @@ use mathlib.Core.Path.{_≡_, refl, sym, ap, _∙_, subst}
 use mathlib.Core.Bool.{Bool, true, false, _&&_, not, cond, true≢false, false≢true}
 use mathlib.Core.List.{List, [], _∷_, _++_}
 use mathlib.Core.Logic.{_↔_, _≢_}
-use Prim.Native.Nat.{ℕ, suc, _+_, _-_, _<_, _≤_}
+use Prim.Native.Nat.{ℕ, suc, _+_, _<_, _≤_}
 use native.Mathlib.Omega.{arith}
 use lib.Dec.{eqb, leb}
-use borrow.Author.Tests.{eqb-true, eqb-false, leb-true, leb-false, not-true}
+use borrow.Author.Tests.{eqb-true, leb-true, leb-false, not-true}
 use Rattle.key.specs.Keys.{sameKey}
 use Rattle.key.proofs.Same.{same-refl, same-sound}
 use Rattle.packet_laws.specs.Read.{Read}
@@ -22,14 +22,12 @@ use Rattle.rules.specs.Outcome.{overdue, outcome, roomAfter}
 use Rattle.rules.specs.History.{Event, event, transcript, happens}
 use Rattle.rules.specs.Transcript.{Past, Maker, nobody, clientOf, Start, fromEmpty, isAccepted, clockAfter, clockOf, pingAfterArrival, pingAfterPacket, pingSentTo, pingAfterTick, pingAfter, pingOf, sitsAfterArrival, sitsAfter, sitter, maker, isClient}
 use Rattle.rules.specs.After.{pastAfter, Tied}
-use Rattle.after_calls.specs.Given.{ArriveAnswered, seated, full, takes}
 use Rattle.after_calls.specs.Ticks.{TickAnswered, zeroPing, clockBack, ticks, Due}
 use Rattle.after_calls.specs.Silent.{each, arrivalOf, arrives, slowly, bears, answersBy, answers, NeverAnswers}
 use Rattle.rules.proofs.FindLaws.{clash}
 use Rattle.rules.proofs.Whole.{whole-empty, whole-after}
 use Rattle.rules.proofs.Tied.{tied-empty, tied-after, both-true}
-use Rattle.after_calls.proofs.Given.{arrive-answered}
-use Rattle.after_calls.proofs.Ticks.{overdue-is, is-overdue, tick-answered, accepted-tick, sent-ping}
+use Rattle.after_calls.proofs.Ticks.{is-overdue, tick-answered, accepted-tick, sent-ping}
 
 -- ---- the two stages of a client that arrived at clock `a`
 
@@ -86,12 +84,13 @@ module _ (start : Start) (key : Key) (a : ℕ) where
         → InStage (record { call = arrive k; answer = answer; sent = sent } ∷ past)
     unfolding sitter sitsAfter sitsAfterArrival clockOf clockAfter pingOf pingAfter pingAfterArrival isAccepted
     step-arrive k (refused why) sent h seat w = inv seat w
-    step-arrive k (accepted taken count) sent h seat w = go (eqb taken seat) w
+    step-arrive k (accepted taken count) sent h seat w = go (eqb taken seat) (isClient k (sitter start past seat)) w
       where
-        go : (t : Bool) → cond t (clientOf k) (sitter start past seat) ≡ clientOf key
-            → Stage a (clockOf start past) (cond t (noneSince (clockOf start past)) (pingOf start past seat))
-        go true w = let q : k ≡ key = cc in absurd (true≢false (sym (rw (q, same-refl key) refl) ∙ h))
-        go false w = inv seat w
+        go : (t u : Bool) → cond t (clientOf k) (cond u nobody (sitter start past seat)) ≡ clientOf key
+            → Stage a (clockOf start past) (cond t (noneSince (clockOf start past)) (cond u (noneSince 0) (pingOf start past seat)))
+        go true u w = let q : k ≡ key = cc in absurd (true≢false (sym (rw (q, same-refl key) refl) ∙ h))
+        go false true w = clash (cc)
+        go false false w = inv seat w
 
     step-leave : (left : ℕ) (answer : Answer) (sent : List Sent) → InStage (record { call = leave left; answer = answer; sent = sent } ∷ past)
     unfolding sitter sitsAfter clockOf clockAfter pingOf pingAfter
@@ -168,28 +167,40 @@ module _ (start : Start) (key : Key) (a : ℕ) where
 
 -- ---- its arrival
 
-module _ (sizes : Sizes) (start : Start) (past : Past) (room : Room) (whole : Whole sizes room) (tie : Tied start past room) where
-  -- it takes the seat that it is answered with, and sat in no other: "An arrival starts with the last clock as its ping time."
-  arrived : (k : Key) (answer : Answer) (sent : List Sent) → ArriveAnswered sizes start past k answer → isAccepted answer ≡ true
+-- a client that has left a seat does not sit there
+gone-from : (key : Key) (m : Maker) → cond (isClient key m) nobody m ≡ clientOf key → ⊥
+unfolding isClient
+gone-from key nobody w = clash (cc)
+gone-from key (clientOf k) w = go (sameKey k key) refl w
+  where
+    go : (t : Bool) → sameKey k key ≡ t → cond t nobody (clientOf k) ≡ clientOf key → ⊥
+    go true h w = clash (cc)
+    go false h w = let q : k ≡ key = cc in true≢false (sym (same-refl key) ∙ sym (ap (λ (x : Key). sameKey x key) q) ∙ h)
+
+module _ (start : Start) (past : Past) where
+  -- it takes the seat that it is answered with, and sits in no other: "An arrival starts with the last clock as its ping time."
+  arrived : (k : Key) (answer : Answer) (sent : List Sent) → isAccepted answer ≡ true
       → InStage start k (clockOf start past) (record { call = arrive k; answer = answer; sent = sent } ∷ past)
   unfolding isAccepted sitter sitsAfter sitsAfterArrival clockOf clockAfter pingOf pingAfter pingAfterArrival
-  arrived k answer sent (seated seat w r) h = absurd (false≢true (sym (ap isAccepted r) ∙ h))
-  arrived k answer sent (full w f r) h = absurd (false≢true (sym (ap isAccepted r) ∙ h))
-  arrived k answer sent (takes taken others within empty lower r) h = rw r (λ here. go here (eqb taken here))
+  arrived k (refused why) sent h here w = absurd (false≢true h)
+  arrived k (accepted taken count) sent h here w = go (eqb taken here) w
     where
-      go : (here : ℕ) (t : Bool) → cond t (clientOf k) (sitter start past here) ≡ clientOf k
-          → Stage (clockOf start past) (clockOf start past) (cond t (noneSince (clockOf start past)) (pingOf start past here))
-      go here true w = notPinged refl refl (omega arith) (omega arith)
-      go here false w = absurd (others here w)
+      left : Bool
+      left = isClient k (sitter start past here)
 
-  begins : (key : Key) (call : Call) → arrives key (event room call) ≡ true → InStage start key (clockOf start past) (event room call ∷ past)
+      go : (t : Bool) → cond t (clientOf k) (cond left nobody (sitter start past here)) ≡ clientOf k
+          → Stage (clockOf start past) (clockOf start past) (cond t (noneSince (clockOf start past)) (cond left (noneSince 0) (pingOf start past here)))
+      go true w = notPinged refl refl (omega arith) (omega arith)
+      go false w = absurd (gone-from k (sitter start past here) w)
+
+  begins : (key : Key) (room : Room) (call : Call) → arrives key (event room call) ≡ true → InStage start key (clockOf start past) (event room call ∷ past)
   unfolding event arrives arrivalOf
-  begins key (arrive k) h =
+  begins key room (arrive k) h =
       let b = both-true (sameKey k key) (isAccepted (outcome room (arrive k) .answer)) h in
-      rw (← (same-sound k key (b .0))) (arrived k _ _ (unfold event in arrive-answered sizes start past room whole tie k) (b .1))
-  begins key (leave seat) h = absurd (false≢true h)
-  begins key (packetCall seat bytes) h = absurd (false≢true h)
-  begins key (tick time number) h = absurd (false≢true h)
+      rw (← (same-sound k key (b .0))) (arrived k _ _ (b .1))
+  begins key room (leave seat) h = absurd (false≢true h)
+  begins key room (packetCall seat bytes) h = absurd (false≢true h)
+  begins key room (tick time number) h = absurd (false≢true h)
 
 -- ---- one event after another
 
@@ -206,7 +217,7 @@ AllGo start past (e ∷ events) = Goes start past e × AllGo start (e ∷ past) 
 pub event-goes : (sizes : Sizes) (start : Start) (past : Past) (room : Room) → Whole sizes room → Tied start past room → (call : Call) → Goes start past (event room call)
 event-goes sizes start past room whole tie call =
     record {
-      begins = λ key. begins sizes start past room whole tie key call;
+      begins = λ key. begins start past key room call;
       keeps = λ key a inv. step start key a sizes past room whole tie inv call;
     }
 

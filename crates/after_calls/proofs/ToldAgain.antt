@@ -1,6 +1,7 @@
 -- "Clearing the peer's request at a disconnect: when the other asks again, both must be told connected." In every whole room: where a client asks for one
 -- whose request for it stands, and has none for it itself and a number free, it is answered, and it and then the other are told connected, each with its own
--- number. And so when, of two connected clients, one drops its number and asks again, or leaves, comes back and asks again. Assumes nothing.
+-- number. And so when, of two connected clients, one drops its number and asks again, or leaves, comes back and asks again, or comes back without leaving and
+-- asks again. Assumes nothing.
 use mathlib.Core.Path.{_≡_, refl, sym, ap, _∙_}
 use mathlib.Core.Bool.{Bool, true, false, true≢false}
 use mathlib.Core.List.{List, [], _∷_}
@@ -17,11 +18,13 @@ use Rattle.packet_laws.specs.FromRelay as relay
 use Rattle.rules.specs.Room.{Sizes, Key, free, wants, Seat, vacant, holds, Room, Found, none, at, orLater, find, seatOf, isVacant, routeTo, isFree, seatAt, routeAt, firstNumber, numberOfPlace, Held, newcomer, setRoute, setSeat}
 use Rattle.rules.specs.Whole.{Whole}
 use Rattle.rules.specs.Call.{arrive, leave, packetCall, accepted}
-use Rattle.rules.specs.Outcome.{withRoute, apply, applyAll, refuse, accept, to, roomAfter, arriveAt, leaveFrom, tellBoth, requestAt, dropAt, act, actOn, packetFrom, outcome}
+use Rattle.rules.specs.Outcome.{Outcome, seatEmptied, seatTaken, withRoute, apply, applyAll, refuse, accept, to, roomAfter, tellPeers, takeSeat, leaveFrom, tellBoth, requestAt, dropAt, act, actOn, packetFrom, outcome}
 use Rattle.rules.specs.Transcript.{isAccepted}
 use Rattle.after_calls.specs.Told.{BothTold}
 use Rattle.rules.proofs.FindLaws.{clash, Once, find-hit, find-miss, find-within, find-once, find-clear, find-replicate, seat-set, held-within, wanted-high, wanted-place}
-use Rattle.rules.proofs.Whole.{key-once, wanted-once, seats-keys-differ, whole-after}
+use Rattle.rules.proofs.Whole.{key-once, key-found, wanted-once, seats-keys-differ, whole-after}
+use Rattle.rules.proofs.ComesBack as comes
+use Rattle.rules.proofs.ComesBack.{arrives-new, Lowest, some-empty, comes-back-to}
 use Rattle.rules.proofs.PeerLaws.{has-peer}
 use Rattle.rules.proofs.OtherSeats.{packet-keeps-others, leave-keeps-others, arrive-keeps-others}
 
@@ -60,8 +63,8 @@ first-free (suc n) h = refl
 -- an arrival in the lowest empty seat
 arrived : (sizes : Sizes) (room : Room) (key : Key) (seat : ℕ) → find (seatOf key) (room .seats) ≡ none → find isVacant (room .seats) ≡ at seat
     → seatAt (roomAfter sizes room (outcome room (arrive key))) seat ≡ holds (newcomer sizes (room .clock) key)
-unfolding outcome arriveAt accept roomAfter applyAll apply
-arrived sizes room key seat e e′ = rw (e, e′) (seat-set room seat _ (find-within isVacant (room .seats) seat e′))
+unfolding takeSeat accept roomAfter applyAll apply
+arrived sizes room key seat e e′ = rw (arrives-new room key e, e′) (seat-set room seat _ (find-within isVacant (room .seats) seat e′))
 
 -- two clients are connected: `number` of the one in `seat` names the one in `other`, whose `number′` names it
 module _ (sizes : Sizes) (room : Room) (whole : Whole sizes room) (seat other : ℕ) (ne : seat ≢ other) (held held′ : Held)
@@ -121,20 +124,20 @@ module _ (sizes : Sizes) (room : Room) (whole : Whole sizes room) (seat other : 
         ∙ find-clear (seatOf (held .key)) vacant (room .seats) seat vacant (key-once sizes room whole (held .key)) (ap (seatOf (held .key)) here ∙ same-refl (held .key)) refl
 
     -- its arrival is accepted, since its old seat is empty
-    pub comes-back : isAccepted (outcome left (arrive (held .key)) .answer) ≡ true
-    unfolding outcome arriveAt accept isAccepted isVacant
-    comes-back =
+    pub accepted-after-leave : isAccepted (outcome left (arrive (held .key)) .answer) ≡ true
+    unfolding takeSeat accept isAccepted isVacant
+    accepted-after-leave =
         find-some isVacant (holds held) (left .seats) seat refl
         (ap (λ (r : Room). isVacant (getD (r .seats) seat (holds held))) left-is
         ∙ ap isVacant (getD-set-same (room .seats) seat vacant (holds held) (held-within room seat held here)))
-        (λ j e. rw (not-seated, e))
+        (λ j e. rw (arrives-new left (held .key) not-seated, e))
 
     -- in the seat that it is answered with
     module _ (again count : ℕ) (answered : outcome left (arrive (held .key)) .answer ≡ accepted again count) where
       lowest-is : (f : Found) → find isVacant (left .seats) ≡ f → find isVacant (left .seats) ≡ at again
-      unfolding outcome arriveAt accept refuse
-      lowest-is none e = let h = rw (not-seated, e) at answered in clash (cc)
-      lowest-is (at j) e = let h = rw (not-seated, e) at answered in let q : j ≡ again = cc in e ∙ ap at q
+      unfolding takeSeat accept refuse
+      lowest-is none e = let h = rw (arrives-new left (held .key) not-seated, e) at answered in clash (cc)
+      lowest-is (at j) e = let h = rw (arrives-new left (held .key) not-seated, e) at answered in let q : j ≡ again = cc in e ∙ ap at q
 
       lowest : find isVacant (left .seats) ≡ at again
       lowest = lowest-is (find isVacant (left .seats)) refl
@@ -143,6 +146,11 @@ module _ (sizes : Sizes) (room : Room) (whole : Whole sizes room) (seat other : 
       unfolding isVacant seatAt
       else q = true≢false (sym (find-hit isVacant vacant (left .seats) again lowest) ∙ ap isVacant (ap (seatAt left) q ∙ left-other))
 
+      -- the other client has another key
+      elsewhere : seatOf (held .key) (seatAt left other) ≡ false
+      unfolding seatOf seatAt
+      elsewhere = find-miss (seatOf (held .key)) vacant (left .seats) refl not-seated other
+
       back-here : seatAt back again ≡ holds (newcomer sizes (left .clock) (held .key))
       back-here = arrived sizes left (held .key) again not-seated lowest
 
@@ -150,5 +158,37 @@ module _ (sizes : Sizes) (room : Room) (whole : Whole sizes room) (seat other : 
       unfolding routeTo
       told-again-after-leave =
           both-told sizes back (whole-after sizes left (whole-after sizes room whole (leave seat)) (arrive (held .key))) again other else (newcomer sizes (left .clock) (held .key)) held′ back-here
-          (arrive-keeps-others sizes left again other (λ q. else (sym q)) (held .key) count answered ∙ left-other) number′ named 0
+          (arrive-keeps-others sizes left again other (λ q. else (sym q)) (held .key) count elsewhere answered ∙ left-other) number′ named 0
           (find-replicate (routeTo (held′ .key)) (sizes .numbers) free refl) (first-free (sizes .numbers) some) asks isRequest
+
+    -- it comes back without leaving, and asks again: the room is the same then
+    module _ (again count : ℕ) (answered : outcome room (arrive (held .key)) .answer ≡ accepted again count) where
+      found : find (seatOf (held .key)) (room .seats) ≡ at seat
+      found = key-found sizes room whole seat held here
+
+      low : Lowest room (held .key) seat found
+      low = some-empty room (held .key) seat found
+
+      returns : outcome room (arrive (held .key)) ≡ accept (low .place) (seatEmptied seat ∷ seatTaken (low .place) (held .key) ∷ []) (tellPeers room seat (held .key) (comes.held room (held .key) seat found .routes))
+      returns = comes-back-to room (held .key) seat found (low .place) (low .lowest)
+
+      same-seat : low .place ≡ again
+      unfolding accept
+      same-seat = let h = sym (ap (λ (o : Outcome). o .answer) returns) ∙ answered in let q : low .place ≡ again = cc in q
+
+      takes : outcome left (arrive (held .key)) ≡ takeSeat (at (low .place)) (held .key)
+      takes =
+          arrives-new left (held .key) not-seated
+          ∙ ap (λ (f : Found). takeSeat f (held .key)) (ap (λ (r : Room). find isVacant (r .seats)) left-is ∙ low .lowest)
+
+      same-room : back ≡ roomAfter sizes room (outcome room (arrive (held .key)))
+      unfolding takeSeat accept roomAfter applyAll apply
+      same-room =
+          ap (roomAfter sizes left) takes
+          ∙ ap (λ (r : Room). setSeat r (low .place) (holds (newcomer sizes (r .clock) (held .key)))) left-is
+          ∙ sym (ap (roomAfter sizes room) returns)
+
+      pub told-again-after-return : BothTold (outcome (roomAfter sizes room (outcome room (arrive (held .key)))) (packetCall again asks)) again other number′ (held′ .key)
+      unfolding takeSeat accept
+      told-again-after-return =
+          rw (← same-room, ← same-seat) (told-again-after-leave (low .place) _ (ap (λ (o : Outcome). o .answer) takes))

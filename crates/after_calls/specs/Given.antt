@@ -1,23 +1,31 @@
--- What arrivals, leaves, requests and drops are answered, by what has happened alone: document 01, "The room", and document 02, "A client that asks for itself",
--- with the refusals of "Refusal numbers" exactly where they are given. The cases of each are all there are.
+-- What arrivals, leaves, requests and drops are answered, by what has happened alone: document 01, "The room", and document 02, "A client that asks for itself"
+-- and "One call when a laptop comes back", with the refusals of "Refusal numbers" exactly where they are given. The cases of each are all there are.
 use mathlib.Core.Bool.{true, false}
-use mathlib.Core.Logic.{_≢_}
+use mathlib.Core.List.{[]}
+use mathlib.Core.Logic.{_≢_, _⊎_}
 use mathlib.Core.Path.{_≡_}
 use Prim.Native.Nat.{ℕ, _<_}
-use Rattle.refusal.specs.declared.Refusal.the-variants.{RoomFull, AlreadySeated, NotSeated, NoSuchRoute}
+use lib.ListN.{length}
+use Rattle.refusal.specs.declared.Refusal.the-variants.{RoomFull, NotSeated, NoSuchRoute}
 use Rattle.rules.specs.Room.{Sizes, Key, numberOfPlace}
 use Rattle.rules.specs.Call.{Answer, accepted, refused}
+use Rattle.rules.specs.Outcome.{sentBytes}
+use Rattle.rules.specs.History.{Event}
 use Rattle.rules.specs.Transcript.{Past, nobody, clientOf, Start, isAccepted, sitter, stands}
 use Rattle.after_calls.specs.GoesOn.{Names, NoRequest}
+use Rattle.after_calls.specs.Told.{LeaveTells}
 
--- an arrival of `key`: "takes the lowest empty seat and answers with it", with 2, "arrival of a key already seated", before 1, "arrival with all 40 seats
--- taken"
-pub data ArriveAnswered (sizes : Sizes) (start : Start) (past : Past) (key : Key) (answer : Answer) : Type 0 where
-  seated : (seat : ℕ) → sitter start past seat ≡ clientOf key → answer ≡ refused AlreadySeated → ArriveAnswered sizes start past key answer
+-- an arrival of `key`, which is the event `e`. Of a key that is not seated: 1, "arrival with all 40 seats taken", or it "takes the lowest empty seat and answers
+-- with it", and nothing is sent. Of a seated key, document 02: "an arrival of a seated key has the outcome of the two calls in that order, notices and all": it
+-- is accepted, in the lowest seat that is empty once its own is; what is sent is what a Leave of its own seat tells, and its bytes are counted
+pub data ArriveAnswered (sizes : Sizes) (start : Start) (past : Past) (key : Key) (e : Event) : Type 0 where
   full : ((seat : ℕ) → sitter start past seat ≢ clientOf key) → ((seat : ℕ) → seat < sizes .seats → sitter start past seat ≢ nobody)
-      → answer ≡ refused RoomFull → ArriveAnswered sizes start past key answer
+      → e .answer ≡ refused RoomFull → e .sent ≡ [] → ArriveAnswered sizes start past key e
   takes : (seat : ℕ) → ((other : ℕ) → sitter start past other ≢ clientOf key) → seat < sizes .seats → sitter start past seat ≡ nobody
-      → ((lower : ℕ) → lower < seat → sitter start past lower ≢ nobody) → answer ≡ accepted seat 0 → ArriveAnswered sizes start past key answer
+      → ((lower : ℕ) → lower < seat → sitter start past lower ≢ nobody) → e .answer ≡ accepted seat 0 → e .sent ≡ [] → ArriveAnswered sizes start past key e
+  returns : (old seat : ℕ) → sitter start past old ≡ clientOf key → seat < sizes .seats → (seat ≡ old) ⊎ (sitter start past seat ≡ nobody)
+      → ((lower : ℕ) → lower < seat → (lower ≢ old) × (sitter start past lower ≢ nobody)) → e .answer ≡ accepted seat (length (sentBytes (e .sent)))
+      → LeaveTells sizes start past old (e .sent) → ArriveAnswered sizes start past key e
 
 -- a leave of `seat`: 3, "seat above 39, or empty", or accepted
 pub data LeaveAnswered (start : Start) (past : Past) (seat : ℕ) (answer : Answer) : Type 0 where

@@ -1,26 +1,16 @@
 // The calls of the relay on a room in the host's memory. Document 01's section "The room", and document 02's
-// "Notice dead laptops".
+// "Notice dead laptops" and "One call when a laptop comes back".
 //
 // Every call tests the room in full before it uses it. A refused call leaves every byte of the room and of the output.
 ghost use mathlib.Core.Path.{_≡_};
 ghost use Rattle.relay_laws.specs.Calls.{answerOf, Arrives, Departs, Sends, Ticks};
 ghost use Rattle.banavoge_laws.specs.Answers.{ToldAs};
-ghost use Rattle.banavoge_laws.specs.RelayCalls.{seatCode, countCode, CallCounted};
+ghost use Rattle.banavoge_laws.specs.RelayCalls.{countCode, CallCounted, told, arrivalTold};
 use crate::answer;
 use key::Key;
 use relay::Answer;
 use relay::calls;
 use seat::Seat;
-
-// The seat of an accepted call, or minus the refusal's number.
-fn seat_of(given: Answer) -> i32
-    ensures { λ r. ⌜ r ≡ seatCode (answerOf given) ⌝ }
-{
-    match given {
-        Answer::Accepted(seat, _) => seat.0 as i32,
-        Answer::Refused(why) => answer::refused(why),
-    }
-}
 
 // The byte count of an accepted call, or minus the refusal's number.
 fn count_of(given: Answer) -> i32
@@ -33,13 +23,23 @@ fn count_of(given: Answer) -> i32
     }
 }
 
-// A key arrives: its seat, or minus 11, 2 or 1.
+// A key arrives; one that is seated leaves first: the byte count of what is sent, and its seat is set; or minus 10, 11 or 1, and the seat's place is left.
 #[no_mangle]
-pub extern "C" fn banavoge_arrive(room: &mut [u8], key: &[u8; 32]) -> i32
-    ensures { λ r. ⌜ ToldAs seatCode (Arrives 40 32 (now (key .entry)) (now (room .entry)) (now (room .exit))) r ⌝ }
+pub extern "C" fn banavoge_arrive(
+    room: &mut [u8],
+    key: &[u8; 32],
+    out: &mut [u8],
+    seat: &mut u8,
+) -> i32
+    ensures { λ r. ⌜ ToldAs (arrivalTold (now (seat .entry))) (Arrives 40 32 (now (key .entry)) (now (room .entry)) (now (out .entry)) (now (room .exit)) (now (out .exit))) (told r (now (seat .exit))) ⌝ }
 {
-    let given = calls::arrive(room, Key(*key));
-    seat_of(given)
+    match calls::arrive(room, Key(*key), out) {
+        Answer::Accepted(taken, bytes) => {
+            *seat = taken.0;
+            bytes as i32
+        }
+        Answer::Refused(why) => answer::refused(why),
+    }
 }
 
 // The client in a seat leaves: the byte count of what is sent, or minus 10, 11 or 3.

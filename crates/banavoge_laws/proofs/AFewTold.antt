@@ -5,7 +5,7 @@ use mathlib.Core.List.{[], _∷_}
 use lib.IntN.{pos, negsuc}
 use Rattle.refusal.specs.declared.Refusal.the-variants.{RoomFull, NotSeated, OutputTooShort, RoomNotWhole, BadFrame}
 use Rattle.rules.specs.Room.{vacant, none, at}
-use Rattle.rules.specs.Call.{accepted}
+use Rattle.rules.specs.Call.{accepted, refused}
 use Rattle.room_laws.specs.Layout.{fitsRoom, sizesRight}
 use Rattle.room_laws.specs.Whole.{roomWhole}
 use Rattle.frame.specs.declared.Shown.{Shown}
@@ -15,7 +15,7 @@ use Rattle.relay.specs.declared.play.Stop.the-variants.{End, NoCall, Allowance,
 use Rattle.banavoge_laws.specs.Answers.{refusalCode}
 use Rattle.banavoge_laws.specs.Frames.{framePlaces, shownCode, endAfter, framePlacesAfter}
 use Rattle.banavoge_laws.specs.Rooms.{doneOr}
-use Rattle.banavoge_laws.specs.RelayCalls.{seatCode, countCode}
+use Rattle.banavoge_laws.specs.RelayCalls.{countCode, told, seatAfter, arrivalTold}
 use Rattle.banavoge_laws.specs.Sitting.{turned, sits, sitting, whoSits, sitCode, keyThen, placeCode, seatOfKey}
 use Rattle.banavoge_laws.specs.Runs.{stopNumber}
 
@@ -68,11 +68,15 @@ pub places-of-a-frame : framePlacesAfter (read (InKeep 8)) (framePlaces 5 3 7) �
 unfolding framePlacesAfter endAfter
 places-of-a-frame = refl
 
--- ---- a call on a room, accepted in seat 3 with 9 bytes of records: an arrival tells the seat, and every other call the count
+-- ---- a call on a room, accepted in seat 3 with 9 bytes of records: it tells the count, and an arrival the seat too, whose place a refusal leaves
 
-pub seat-told : seatCode (accepted 3 9) ≡ pos 3
-unfolding seatCode
+pub seat-told : arrivalTold 7 (accepted 3 9) ≡ told (pos 9) 3
+unfolding arrivalTold countCode seatAfter
 seat-told = refl
+
+pub seat-left : arrivalTold 7 (refused RoomFull) ≡ told (negsuc 0) 7
+unfolding arrivalTold countCode seatAfter refusalCode
+seat-left = refl
 
 pub count-told : countCode (accepted 3 9) ≡ pos 9
 unfolding countCode

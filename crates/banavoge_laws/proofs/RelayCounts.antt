@@ -23,7 +23,7 @@ use Rattle.banavoge_laws.specs.RelayCalls.{CallCounted}
 -- an answer counts the bytes sent
 counted : (o : Outcome) → RefusedOrAccepted o → length (sentBytes (o .sent)) ≤ mostNeeded → CallCounted (o .answer)
 unfolding refuse accept CallCounted
-counted o (refusal why e) h = rw e tt
+counted o (refusal why given e) h = rw e tt
 counted o (acceptance seat changes sent e) h = rw e (rw e at h)
 
 module _ (b : List ℕ) (call : Call) where

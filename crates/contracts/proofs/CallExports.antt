@@ -2,7 +2,7 @@
 use denote.Ref.{now}
 use Rattle.relay_laws.specs.Calls.{Arrives, Departs, Sends, Ticks}
 use Rattle.banavoge_laws.specs.Answers.{ToldAs}
-use Rattle.banavoge_laws.specs.RelayCalls.{seatCode, countCode}
+use Rattle.banavoge_laws.specs.RelayCalls.{countCode, told, arrivalTold}
 use Rattle.banavoge.proofs.relay_calls.banavoge_arrive.Kinds as arrive-kinds
 use Rattle.banavoge.proofs.relay_calls.banavoge_arrive.Reads as arrive-reads
 use Rattle.banavoge.proofs.relay_calls.banavoge_leave.Kinds as leave-kinds
@@ -13,9 +13,9 @@ use Rattle.banavoge.proofs.relay_calls.banavoge_tick.Kinds as tick-kinds
 use Rattle.banavoge.proofs.relay_calls.banavoge_tick.Reads as tick-reads
 use Rattle.contracts.specs.Promises.{Promises}
 
-pub banavoge-arrive : Promises 2 arrive-kinds.ps arrive-kinds.r arrive-reads.Asked arrive-reads.Post
-    (λ κs (room, (key, _)) answer (room′, _).
-    ToldAs seatCode (Arrives 40 32 (now key) (now room) (now room′)) answer)
+pub banavoge-arrive : Promises 4 arrive-kinds.ps arrive-kinds.r arrive-reads.Asked arrive-reads.Post
+    (λ κs (room, (key, (out, (seat, _)))) answer (room′, (_, (out′, (seat′, _)))).
+    ToldAs (arrivalTold (now seat)) (Arrives 40 32 (now key) (now room) (now out) (now room′) (now out′)) (told answer (now seat′)))
 banavoge-arrive = record { asks-nothing = λ κs args. tt; gives = λ κs args answer left p. p }
 
 pub banavoge-leave : Promises 2 leave-kinds.ps leave-kinds.r leave-reads.Asked leave-reads.Post

@@ -1,21 +1,18 @@
--- The number that an exported call answers tells its answer: an Arrive's number is its seat, and it counts no bytes; that of a Leave, a packet or a tick is the
--- count, and the seat is the call's own, of a tick 0; a number below 0 is that of one refusal. So what the host sees of a call is its answer. Assumes nothing.
+-- The number that an exported call answers tells its answer: the count, with the seat that stands in an Arrive's place, that of a Leave or a packet, which is its
+-- own, or of a tick 0; a number below 0 is that of one refusal. So what the host sees of a call is its answer. Assumes nothing.
 use mathlib.Core.Path.{_≡_, refl, sym, ap, _∙_}
-use mathlib.Core.List.{List, []}
 use Prim.Native.Nat.{ℕ, zero, suc, _≤_}
 use native.Mathlib.Omega.{arith}
 use lib.IntN.{pos, negsuc, negℤ}
-use lib.ListN.{length}
 use Rattle.refusal.specs.declared.Refusal.{Refusal}
 use Rattle.refusal.specs.Numbers.{refusalNumber, refusalOf}
 use Rattle.refusal.proofs.LookedUp.{looked-up}
-use Rattle.rules.specs.Room.{Key}
-use Rattle.rules.specs.Call.{Call, arrive, accepted, refused, Sent}
-use Rattle.rules.specs.Outcome.{Outcome, refuse, accept, sentBytes}
-use Rattle.rules.specs.Accepted.{RefusedOrAccepted, MadeAt, refusal, acceptance}
+use Rattle.rules.specs.Call.{Answer, accepted, refused}
+use Rattle.rules.specs.Outcome.{Outcome, refuse, accept}
+use Rattle.rules.specs.Accepted.{MadeAt, refusal, acceptance}
 use Rattle.banavoge_laws.specs.Answers.{refusalCode}
-use Rattle.banavoge_laws.specs.RelayCalls.{seatCode, countCode}
-use Rattle.histories.specs.Seen.{acceptedWith, answered}
+use Rattle.banavoge_laws.specs.RelayCalls.{countCode, seatAfter}
+use Rattle.histories.specs.Seen.{answered}
 
 -- the number that a refusal is answered by is below 0: minus its own
 pub record BelowZero (why : Refusal) : Type 0 where
@@ -45,22 +42,19 @@ same-refusal why other e =
     sym (looked-up why .found) ∙ ap refusalOf (a .number ∙ ap suc l ∙ sym (b .number)) ∙ looked-up other .found
 
 -- and tells the refusal
-pub refusal-answered : (call : Call) (why : Refusal) → answered call (refusalCode why) ≡ refused why
+pub refusal-answered : (seat : ℕ) (why : Refusal) → answered seat (refusalCode why) ≡ refused why
 unfolding answered
-refusal-answered call why =
-    let b = below-zero why in ap (answered call) (b .is) ∙ ap (λ (k : ℕ). refused (refusalOf k)) (sym (b .number)) ∙ ap refused (looked-up why .found)
+refusal-answered seat why =
+    let b = below-zero why in ap (answered seat) (b .is) ∙ ap (λ (k : ℕ). refused (refusalOf k)) (sym (b .number)) ∙ ap refused (looked-up why .found)
 
--- an Arrive's number: it wrote nothing
-pub seat-answered : (key : Key) (o : Outcome) → RefusedOrAccepted o → o .sent ≡ [] → answered (arrive key) (seatCode (o .answer)) ≡ o .answer
-unfolding answered acceptedWith seatCode refuse accept sentBytes
-seat-answered key o (refusal why e) quiet = rw e (refusal-answered (arrive key) why)
-seat-answered key o (acceptance seat changes sent e) quiet =
-    let none : sent ≡ [] = sym (ap (λ (x : Outcome). x .sent) e) ∙ quiet in
-    rw e (sym (ap (λ (x : List Sent). accepted seat (length (sentBytes x))) none))
+-- an Arrive's, with what stands in the place for its seat
+pub seat-answered : (before : ℕ) (given : Answer) → answered (seatAfter given before) (countCode given) ≡ given
+unfolding answered countCode seatAfter
+seat-answered before (accepted seat count) = refl
+seat-answered before (refused why) = refusal-answered before why
 
--- the number of a call that is made in a seat
-pub count-answered : (call : Call) (seat : ℕ) → ((count : ℕ) → acceptedWith call count ≡ accepted seat count) → (o : Outcome) → MadeAt seat o
-    → answered call (countCode (o .answer)) ≡ o .answer
+-- that of a call that is made in a seat
+pub count-answered : (seat : ℕ) (o : Outcome) → MadeAt seat o → answered seat (countCode (o .answer)) ≡ o .answer
 unfolding answered countCode refuse accept
-count-answered call seat own o (refusal why e) = rw e (refusal-answered call why)
-count-answered call seat own o (acceptance changes sent e) = rw e (own (length (sentBytes sent)))
+count-answered seat o (refusal why given e) = rw e (refusal-answered seat why)
+count-answered seat o (acceptance changes sent e) = rw e

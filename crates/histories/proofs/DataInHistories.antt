@@ -29,14 +29,14 @@ use Rattle.histories.proofs.Histories.{after-calls, history-event}
 pub data-after-calls : (s n : ℕ) (lents : List Lent) (events : List Event) (b : List ℕ) → AnyCalls s n lents events b
     → (seat number : ℕ) (bytes payload : List ℕ) → client.relayRead bytes ≡ read.packet (client.routedData number payload)
     → (out b′ out′ : List ℕ) (answer : ℤ) → needed (packetCall seat bytes) ≤ length out → ToldAs countCode (Sends s n seat bytes b out b′ out′) answer
-    → DataGoesOn (fromEmpty (sizesOf s n)) (pastAfter [] events) seat number payload (seen (packetCall seat bytes) answer out′)
+    → DataGoesOn (fromEmpty (sizesOf s n)) (pastAfter [] events) seat number payload (seen (packetCall seat bytes) seat answer out′)
 unfolding seen seenAs event
 data-after-calls s n lents events b h seat number bytes payload r out b′ out′ answer long sent =
     after-calls s n (λ past e. e .call ≡ packetCall seat bytes → DataGoesOn (fromEmpty (sizesOf s n)) past seat number payload e)
     (λ past room whole tie call c.
     subst (λ (x : Call). DataGoesOn (fromEmpty (sizesOf s n)) past seat number payload (event room x)) (sym c)
     (data-goes-on (sizesOf s n) (fromEmpty (sizesOf s n)) past room whole tie seat number bytes payload r))
-    lents events b h (lentWith (packetCall seat bytes) out) (seen (packetCall seat bytes) answer out′) b′ (sends seat bytes out out′ answer sent refl refl) long refl
+    lents events b h (lentWith (packetCall seat bytes) out) (seen (packetCall seat bytes) seat answer out′) b′ (sends seat bytes out out′ answer sent refl refl) long refl
 
 pub data-in-histories : (s n : ℕ) (events : List Event) (b′ : List ℕ) → History s n events b′
     → (before : List Event) (e : Event) (later : List Event) → events ≡ before ++ (e ∷ later)

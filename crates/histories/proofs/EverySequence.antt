@@ -2,49 +2,31 @@
 -- of a chain of exported calls from whatever bytes (`every-call-made`), and so of calls from the empty room in whatever memory fits a room (`every-calls`); and every sequence of calls is
 -- that of a history, with whatever output of 5,120 bytes or more, lent to each call anew (`every-sequence`). Assumes nothing.
 use mathlib.Core.Path.{_≡_, refl, sym, ap, ap₂, subst, _∙_}
-use mathlib.Core.Bool.{Bool, true, false, cond}
+use mathlib.Core.Bool.{true}
 use mathlib.Core.List.{List, [], _∷_, _++_}
 use Prim.Native.Nat.{ℕ, _≤_}
 use native.Mathlib.Omega.{arith}
 use lib.ListN.{length, drop}
-use Rattle.refusal.specs.declared.Refusal.the-variants.{RoomNotWhole}
-use Rattle.rules.specs.Room.{Key}
-use Rattle.rules.specs.Call.{Call, arrive, leave, packetCall, tick, Sent, FieldsFit, mostNeeded, needed}
-use Rattle.rules.specs.Outcome.{Outcome, refuse, sentBytes, outcome}
+use Rattle.rules.specs.Call.{Call, arrive, leave, packetCall, tick, FieldsFit, mostNeeded, needed}
+use Rattle.rules.specs.Outcome.{Outcome, sentBytes}
 use Rattle.rules.specs.History.{Event}
-use Rattle.rules.proofs.QuietArrival.{arrive-sends-nothing}
 use Rattle.room_laws.specs.Layout.{fitsRoom}
-use Rattle.room_laws.specs.View.{viewRoom}
-use Rattle.room_laws.specs.Whole.{roomWhole}
 use Rattle.room_laws.specs.Store.{storeAll, emptied}
-use Rattle.relay_laws.specs.Calls.{Leaves, tested, ifLong, withOutput}
+use Rattle.relay_laws.specs.Calls.{Leaves, withOutput}
 use Rattle.banavoge_laws.specs.Rooms.{doneOr}
-use Rattle.banavoge_laws.specs.RelayCalls.{seatCode, countCode}
+use Rattle.banavoge_laws.specs.RelayCalls.{countCode, seatAfter, arrivalTold}
 use Rattle.histories.specs.Seen.{seenAs, seen}
-use Rattle.histories.specs.Lent.{AllLong}
-use Rattle.histories.specs.Sequences.{AllFieldsFit, lentTo, CallMade, lentsTo, callsMade, AnyChainOf, ChainOf, AnyCallsOf, HistoryOf}
+use Rattle.histories.specs.Lent.{lentWith, AllLong}
+use Rattle.histories.specs.Sequences.{AllFieldsFit, CallMade, lentsTo, callsMade, AnyChainOf, ChainOf, AnyCallsOf, HistoryOf}
 use Rattle.histories.specs.History.{Step, arrives, departs, sends, ticks, none, next, BeginsEmpty, callsOf}
 
 -- ---- one call
-
--- an arrival writes nothing, on whatever bytes
-quiet : (s n : ℕ) (b : List ℕ) (key : Key) → withOutput s n b [] (arrive key) .sent ≡ []
-unfolding withOutput ifLong tested
-quiet s n b key = go (roomWhole s n b)
-  where
-    go : (t : Bool) → cond t (outcome (viewRoom s n b) (arrive key)) (refuse RoomNotWhole) .sent ≡ []
-    go true = arrive-sends-nothing (viewRoom s n b) key
-    go false = unfold refuse in refl
-
-none-written : (sent : List Sent) → sent ≡ [] → [] ≡ sentBytes sent ++ drop (length (sentBytes sent)) []
-unfolding sentBytes
-none-written sent e = rw e
 
 -- one call has a step
 record Steps (s n : ℕ) (b : List ℕ) (call : Call) (out : List ℕ) : Type 0 where
   pub seen-as : Event
   pub left : List ℕ
-  pub step : Step s n b (lentTo call out) seen-as left
+  pub step : Step s n b (lentWith call out) seen-as left
   pub is : seen-as .call ≡ call
 
 module _ (s n : ℕ) where
@@ -59,25 +41,20 @@ module _ (s n : ℕ) where
   leaves b out o = record { answers = refl; stores = refl; writes = refl }
 
   every-call : (b : List ℕ) (call : Call) (out : List ℕ) → FieldsFit call → Steps s n b call out
-  unfolding seen seenAs
+  unfolding seen seenAs arrivalTold
   every-call b (arrive key) out k =
-      let o = withOutput s n b [] (arrive key) in
+      let o = withOutput s n b out (arrive key) in
       record {
-        seen-as = seen (arrive key) (seatCode (o .answer)) [];
+        seen-as = seen (arrive key) (seatAfter (o .answer) 0) (countCode (o .answer)) (output out o);
         left = stored b o;
-        step = arrives key (seatCode (o .answer))
-            (record {
-              given = o .answer;
-              relates = record { long = k; leaves = record { answers = refl; stores = refl; writes = none-written (o .sent) (quiet s n b key) } };
-              codes = refl;
-            })
-            refl refl;
+        step = arrives key out (output out o) 0 (seatAfter (o .answer) 0) (countCode (o .answer))
+            (record { given = o .answer; relates = record { long = k; leaves = leaves b out o }; codes = refl }) refl refl;
         is = refl;
       }
   every-call b (leave seat) out k =
       let o = withOutput s n b out (leave seat) in
       record {
-        seen-as = seen (leave seat) (countCode (o .answer)) (output out o);
+        seen-as = seen (leave seat) seat (countCode (o .answer)) (output out o);
         left = stored b o;
         step = departs seat out (output out o) (countCode (o .answer)) (record { given = o .answer; relates = leaves b out o; codes = refl }) refl refl;
         is = refl;
@@ -85,7 +62,7 @@ module _ (s n : ℕ) where
   every-call b (packetCall seat bytes) out k =
       let o = withOutput s n b out (packetCall seat bytes) in
       record {
-        seen-as = seen (packetCall seat bytes) (countCode (o .answer)) (output out o);
+        seen-as = seen (packetCall seat bytes) seat (countCode (o .answer)) (output out o);
         left = stored b o;
         step = sends seat bytes out (output out o) (countCode (o .answer)) (record { given = o .answer; relates = leaves b out o; codes = refl }) refl refl;
         is = refl;
@@ -93,7 +70,7 @@ module _ (s n : ℕ) where
   every-call b (tick time ping) out k =
       let o = withOutput s n b out (tick time ping) in
       record {
-        seen-as = seen (tick time ping) (countCode (o .answer)) (output out o);
+        seen-as = seen (tick time ping) 0 (countCode (o .answer)) (output out o);
         left = stored b o;
         step = ticks time ping out (output out o) (countCode (o .answer))
             (record { given = o .answer; relates = record { fits = k; leaves = leaves b out o }; codes = refl }) refl refl;
@@ -128,7 +105,7 @@ module _ (out : List ℕ) where
   calls-with (call ∷ calls) = ap (λ (l : List Call). call ∷ l) (calls-with calls)
 
   module _ (long : mostNeeded ≤ length out) where
-    long-lent : (call : Call) → needed (lentTo call out .call) ≤ lentTo call out .space
+    long-lent : (call : Call) → needed call ≤ length out
     long-lent (arrive key) = omega arith
     long-lent (leave seat) = omega arith
     long-lent (packetCall seat bytes) = omega arith

@@ -39,7 +39,7 @@ use Rattle.histories.specs.Seen.{seen}
 use Rattle.histories.specs.Lent.{Lent, lentWith}
 use Rattle.histories.specs.History.{Step, arrives, departs, sends, ticks, BeginsEmpty, AnyCalls, History}
 use Rattle.histories.specs.RunSeen.{runSeen}
-use Rattle.histories.specs.ExportedCalls.{hostMemory, noPlaces, Exported}
+use Rattle.histories.specs.ExportedCalls.{hostMemory, noPlaces, withSeat, Exported}
 use Rattle.histories.specs.ExportedCalls as exported
 use Rattle.histories.specs.Runs.{ThenRun}
 use Rattle.histories.proofs.RunHistories.{calls-then-run, history-then-run}
@@ -50,31 +50,31 @@ empty-begins κs args answer left p zero =
     record { memory = now (args .0); empties = subst (ToldAs (doneOr OutputTooShort) (MakesEmpty 40 32 (now (args .0)) (now (left .0)))) zero (banavoge-room-empty .gives κs args answer left p) }
 
 -- `banavoge_arrive`
-pub arrive-step : Gives 2 arrive-kinds.ps arrive-kinds.r arrive-reads.Post
-    (λ κs (room, (key, _)) answer (room′, _).
+pub arrive-step : Gives 4 arrive-kinds.ps arrive-kinds.r arrive-reads.Post
+    (λ κs (room, (key, (out, _))) answer (room′, (_, (out′, (seat′, _)))).
     let call = arrive (now key) in
-    Step 40 32 (now room) (lentWith call []) (seen call answer []) (now room′))
-arrive-step κs args answer left p = arrives _ answer (banavoge-arrive .gives κs args answer left p) refl refl
+    Step 40 32 (now room) (lentWith call (now out)) (seen call (now seat′) answer (now out′)) (now room′))
+arrive-step κs args answer left p = arrives _ _ _ _ _ answer (banavoge-arrive .gives κs args answer left p) refl refl
 
 -- `banavoge_leave`
 pub leave-step : Gives 2 leave-kinds.ps leave-kinds.r leave-reads.Post
     (λ κs (room, (seat, (out, _))) answer (room′, (_, (out′, _))).
     let call = leave seat in
-    Step 40 32 (now room) (lentWith call (now out)) (seen call answer (now out′)) (now room′))
+    Step 40 32 (now room) (lentWith call (now out)) (seen call seat answer (now out′)) (now room′))
 leave-step κs args answer left p = departs _ _ _ answer (banavoge-leave .gives κs args answer left p) refl refl
 
 -- `banavoge_packet`
 pub packet-step : Gives 3 packet-kinds.ps packet-kinds.r packet-reads.Post
     (λ κs (room, (seat, (packet, (out, _)))) answer (room′, (_, (_, (out′, _)))).
     let call = packetCall seat (now packet) in
-    Step 40 32 (now room) (lentWith call (now out)) (seen call answer (now out′)) (now room′))
+    Step 40 32 (now room) (lentWith call (now out)) (seen call seat answer (now out′)) (now room′))
 packet-step κs args answer left p = sends _ _ _ _ answer (banavoge-packet .gives κs args answer left p) refl refl
 
 -- `banavoge_tick`
 pub tick-step : Gives 2 tick-kinds.ps tick-kinds.r tick-reads.Post
     (λ κs (room, (time, (number, (out, _)))) answer (room′, (_, (_, (out′, _)))).
     let call = tick time number in
-    Step 40 32 (now room) (lentWith call (now out)) (seen call answer (now out′)) (now room′))
+    Step 40 32 (now room) (lentWith call (now out)) (seen call 0 answer (now out′)) (now room′))
 tick-step κs args answer left p = ticks _ _ _ _ answer (banavoge-tick .gives κs args answer left p) refl refl
 
 -- `banavoge_play` behind any calls goes on with them, and behind a history with that
@@ -101,8 +101,9 @@ pub room-check-exported : Gives 1 check-kinds.ps check-kinds.r check-reads.Post
 unfolding roomCode
 room-check-exported κs args answer left p = exported.checks (banavoge-room-check .gives κs args answer left p)
 
-pub arrive-exported : Gives 2 arrive-kinds.ps arrive-kinds.r arrive-reads.Post
-    (λ κs (room, (key, _)) answer (room′, _). Exported 40 32 (hostMemory (now room) [] noPlaces) answer (hostMemory (now room′) [] noPlaces))
+pub arrive-exported : Gives 4 arrive-kinds.ps arrive-kinds.r arrive-reads.Post
+    (λ κs (room, (key, (out, (seat, _)))) answer (room′, (_, (out′, (seat′, _)))).
+    Exported 40 32 (withSeat (now room) (now out) (now seat)) answer (withSeat (now room′) (now out′) (now seat′)))
 arrive-exported κs args answer left p = exported.arrives _ (banavoge-arrive .gives κs args answer left p)
 
 pub leave-exported : Gives 2 leave-kinds.ps leave-kinds.r leave-reads.Post

@@ -61,11 +61,11 @@ module _ (start : Start) (past : Past) (c : Key) where
 
 module _ (s n : ℕ) (lents : List Lent) (events : List Event) (b : List ℕ) (h : AnyCalls s n lents events b) (time number : ℕ) (out b′ out′ : List ℕ) (answer : ℤ)
     (long : needed (tick time number) ≤ length out) (told : ToldAs countCode (Ticks s n time number b out b′ out′) answer)
-    (a : isAccepted (seen (tick time number) answer out′ .answer) ≡ true) where
+    (a : isAccepted (seen (tick time number) 0 answer out′ .answer) ≡ true) where
   pub handed-after-calls : (c : Key) → handedByTick c (tick-does-after-calls s n lents events b h time number out b′ out′ answer long told a)
-      ≡ handed (fromEmpty (sizesOf s n)) (pastAfter [] events) c (seen (tick time number) answer out′ .sent)
+      ≡ handed (fromEmpty (sizesOf s n)) (pastAfter [] events) c (seen (tick time number) 0 answer out′ .sent)
   handed-after-calls c =
-      tick-handed-same (fromEmpty (sizesOf s n)) (pastAfter [] events) c (sizesOf s n) time number (seen (tick time number) answer out′)
+      tick-handed-same (fromEmpty (sizesOf s n)) (pastAfter [] events) c (sizesOf s n) time number (seen (tick time number) 0 answer out′)
       (tick-does-after-calls s n lents events b h time number out b′ out′ answer long told a)
 
 -- ---- inside a history

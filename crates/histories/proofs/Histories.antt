@@ -11,17 +11,16 @@ use Prim.Native.Nat.{ℕ, _≤_}
 use native.Mathlib.Omega.{arith}
 use lib.IntN.{ℤ, pos}
 use lib.ListN.{length, drop}
-use Rattle.refusal.specs.declared.Refusal.the-variants.{OutputTooShort}
+use Rattle.refusal.specs.declared.Refusal.the-variants.{OutputTooShort, RoomNotWhole}
 use Rattle.rules.specs.Room.{Sizes, baseSizes, Key, Room, emptyRoom, sizesOf}
 use Rattle.rules.specs.Whole.{Whole}
-use Rattle.rules.specs.Call.{Call, arrive, leave, packetCall, tick, Answer, accepted, FieldsFit, needed}
+use Rattle.rules.specs.Call.{Call, arrive, leave, packetCall, tick, Answer, FieldsFit, needed}
 use Rattle.rules.specs.Outcome.{Outcome, refuse, sentBytes, outcome, roomAfter}
 use Rattle.rules.specs.History.{Event, event, transcript}
 use Rattle.rules.specs.Transcript.{Past, Start, fromEmpty}
 use Rattle.rules.specs.After.{roomAfterAll, pastAfter, Tied}
 use Rattle.rules.specs.Accepted.{MadeAt}
-use Rattle.rules.proofs.RefusedOrAccepted.{outcome-made, leave-made-at, packet-made-at, tick-made-at}
-use Rattle.rules.proofs.QuietArrival.{arrive-sends-nothing}
+use Rattle.rules.proofs.RefusedOrAccepted.{leave-made-at, packet-made-at, tick-made-at}
 use Rattle.rules.proofs.Tied.{tied-empty}
 use Rattle.room_laws.specs.Layout.{fitsRoom}
 use Rattle.room_laws.specs.View.{viewRoom}
@@ -35,8 +34,8 @@ use Rattle.relay_laws.proofs.OutcomeLeaves.{made-written}
 use Rattle.relay_laws.proofs.CallsLaws.{by-call}
 use Rattle.banavoge_laws.specs.Answers.{refusalCode, ToldAs}
 use Rattle.banavoge_laws.specs.Rooms.{doneOr}
-use Rattle.banavoge_laws.specs.RelayCalls.{seatCode, countCode}
-use Rattle.histories.specs.Seen.{recordsRead, seenAs, acceptedWith, answered, seen}
+use Rattle.banavoge_laws.specs.RelayCalls.{countCode, ArrivalTold, told, arrivalTold}
+use Rattle.histories.specs.Seen.{recordsRead, seenAs, answered, seen}
 use Rattle.histories.specs.Lent.{Lent, lentWith, lentOutcome, lentEvent, lentTranscript, lentRoomAfter, AllLong, callsLent}
 use Rattle.histories.specs.History.{Step, arrives, departs, sends, ticks, AnyChain, none, next, Chain, BeginsEmpty, AnyCalls, History, callsOf}
 use Rattle.histories.specs.Steps.{StepRight, EqualsSteps, Right, EqualsRules}
@@ -48,49 +47,41 @@ use Rattle.histories.proofs.LentLaws.{long-outcome, lent-made, lent-wit
 
 module _ (s n : ℕ) (b : List ℕ) where
   -- that of an Arrive tells its answer, and so does that of a call in a seat
-  arrive-tells : (key : Key) (number : ℤ) (given : Answer) → given ≡ withOutput s n b [] (arrive key) .answer → number ≡ seatCode given
-      → answered (arrive key) number ≡ given
-  unfolding refuse seatCode
-  arrive-tells key number given e codes =
-      rw (codes, e)
-      (by-call (λ o. answered (arrive key) (seatCode (o .answer)) ≡ o .answer) s n b [] (arrive key)
-      (seat-answered key (outcome (viewRoom s n b) (arrive key)) (outcome-made (viewRoom s n b) (arrive key)) (arrive-sends-nothing (viewRoom s n b) key))
-      (λ why. refusal-answered (arrive key) why))
+  arrive-tells : (place place′ : ℕ) (number : ℤ) (given : Answer) → told number place′ ≡ arrivalTold place given → answered place′ number ≡ given
+  unfolding arrivalTold
+  arrive-tells place place′ number given codes =
+      ap₂ answered (ap (λ (t : ArrivalTold). t .seat) codes) (ap (λ (t : ArrivalTold). t .answer) codes) ∙ seat-answered place given
 
-  seat-tells : (call : Call) (seat : ℕ) → ((count : ℕ) → acceptedWith call count ≡ accepted seat count) → MadeAt seat (outcome (viewRoom s n b) call)
-      → (out : List ℕ) (number : ℤ) (given : Answer) → given ≡ withOutput s n b out call .answer → number ≡ countCode given → answered call number ≡ given
+  seat-tells : (call : Call) (seat : ℕ) → MadeAt seat (outcome (viewRoom s n b) call) → (out : List ℕ) (number : ℤ) (given : Answer)
+      → given ≡ withOutput s n b out call .answer → number ≡ countCode given → answered seat number ≡ given
   unfolding refuse countCode
-  seat-tells call seat own made out number given e codes =
+  seat-tells call seat made out number given e codes =
       rw (codes, e)
-      (by-call (λ o. answered call (countCode (o .answer)) ≡ o .answer) s n b out call (count-answered call seat own (outcome (viewRoom s n b) call) made)
-      (λ why. refusal-answered call why))
+      (by-call (λ o. answered seat (countCode (o .answer)) ≡ o .answer) s n b out call (count-answered seat (outcome (viewRoom s n b) call) made)
+      (refusal-answered seat RoomNotWhole) (refusal-answered seat OutputTooShort))
 
   -- and the number is that of the answer seen, so equal answers are equal numbers
-  pub arrive-number : (key : Key) (b′ : List ℕ) (number : ℤ) → ToldAs seatCode (Arrives s n key b b′) number → number ≡ seatCode (answered (arrive key) number)
-  arrive-number key b′ number c = c .codes ∙ ap seatCode (sym (arrive-tells key number (c .given) (c .relates .leaves .answers) (c .codes)))
+  pub arrive-number : (key : Key) (out b′ out′ : List ℕ) (place place′ : ℕ) (number : ℤ) → ToldAs (arrivalTold place) (Arrives s n key b out b′ out′) (told number place′)
+      → number ≡ countCode (answered place′ number)
+  unfolding arrivalTold
+  arrive-number key out b′ out′ place place′ number c =
+      ap (λ (t : ArrivalTold). t .answer) (c .codes) ∙ ap countCode (sym (arrive-tells place place′ number (c .given) (c .codes)))
 
   pub leave-number : (seat : ℕ) (out b′ out′ : List ℕ) (number : ℤ) → ToldAs countCode (Departs s n seat b out b′ out′) number
-      → number ≡ countCode (answered (leave seat) number)
-  unfolding acceptedWith
+      → number ≡ countCode (answered seat number)
   leave-number seat out b′ out′ number c =
-      c .codes
-      ∙ ap countCode (sym (seat-tells (leave seat) seat (λ count. refl) (leave-made-at (viewRoom s n b) seat) out number (c .given) (c .relates .answers) (c .codes)))
+      c .codes ∙ ap countCode (sym (seat-tells (leave seat) seat (leave-made-at (viewRoom s n b) seat) out number (c .given) (c .relates .answers) (c .codes)))
 
   pub packet-number : (seat : ℕ) (bytes out b′ out′ : List ℕ) (number : ℤ) → ToldAs countCode (Sends s n seat bytes b out b′ out′) number
-      → number ≡ countCode (answered (packetCall seat bytes) number)
-  unfolding acceptedWith
+      → number ≡ countCode (answered seat number)
   packet-number seat bytes out b′ out′ number c =
       c .codes
-      ∙ ap countCode
-      (sym (seat-tells (packetCall seat bytes) seat (λ count. refl) (packet-made-at (viewRoom s n b) seat bytes) out number (c .given) (c .relates .answers) (c .codes)))
+      ∙ ap countCode (sym (seat-tells (packetCall seat bytes) seat (packet-made-at (viewRoom s n b) seat bytes) out number (c .given) (c .relates .answers) (c .codes)))
 
   pub tick-number : (time ping : ℕ) (out b′ out′ : List ℕ) (number : ℤ) → ToldAs countCode (Ticks s n time ping b out b′ out′) number
-      → number ≡ countCode (answered (tick time ping) number)
-  unfolding acceptedWith
+      → number ≡ countCode (answered 0 number)
   tick-number time ping out b′ out′ number c =
-      c .codes
-      ∙ ap countCode
-      (sym (seat-tells (tick time ping) 0 (λ count. refl) (tick-made-at (viewRoom s n b) time ping) out number (c .given) (c .relates .leaves .answers) (c .codes)))
+      c .codes ∙ ap countCode (sym (seat-tells (tick time ping) 0 (tick-made-at (viewRoom s n b) time ping) out number (c .given) (c .relates .leaves .answers) (c .codes)))
 
 -- ---- one step
 
@@ -113,9 +104,9 @@ module _ (s n : ℕ) (b : List ℕ) (whole : roomWhole s n b ≡ true) where
     seen-right = ap₂ (λ a r. record { call = l .call; answer = a; sent = r }) (left .answers) read-right
 
     -- where the number tells the answer
-    leaves-right : (number : ℤ) → answered (l .call) number ≡ given → (e : Event) → e ≡ seen (l .call) number out′ → StepRight s n b l e b′
+    leaves-right : (seat : ℕ) (number : ℤ) → answered seat number ≡ given → (e : Event) → e ≡ seen (l .call) seat number out′ → StepRight s n b l e b′
     unfolding seen
-    leaves-right number tells e q =
+    leaves-right seat number tells e q =
         let kept = lent-stored s n b whole l key in
         record {
           sees = q ∙ ap (λ (a : Answer). seenAs (l .call) a out′) tells ∙ seen-right;
@@ -125,30 +116,29 @@ module _ (s n : ℕ) (b : List ℕ) (whole : roomWhole s n b ≡ true) where
         }
 
   pub step-right : (l : Lent) (e : Event) (b′ : List ℕ) → Step s n b l e b′ → StepRight s n b l e b′
-  unfolding acceptedWith
-  step-right l e b′ (arrives key number c lends q) =
+  step-right l e b′ (arrives key out out′ place place′ number c lends q) =
       let call = arrive key in
-      let left = subst (λ (o : Outcome). Leaves s n o b [] (c .given) b′ []) (whole-lent call []) (c .relates .leaves) in
+      let left = subst (λ (o : Outcome). Leaves s n o b out (c .given) b′ out′) (whole-lent call out) (c .relates .leaves) in
       subst (λ (x : Lent). StepRight s n b x e b′) (sym lends)
-      (leaves-right (lentWith call []) (c .relates .long) (c .given) [] b′ [] left number (arrive-tells s n b key number (c .given) (c .relates .leaves .answers) (c .codes)) e q)
+      (leaves-right (lentWith call out) (c .relates .long) (c .given) out b′ out′ left place′ number (arrive-tells s n b place place′ number (c .given) (c .codes)) e q)
   step-right l e b′ (departs seat out out′ number c lends q) =
       let call = leave seat in
       let left = subst (λ (o : Outcome). Leaves s n o b out (c .given) b′ out′) (whole-lent call out) (c .relates) in
       subst (λ (x : Lent). StepRight s n b x e b′) (sym lends)
-      (leaves-right (lentWith call out) tt (c .given) out b′ out′ left number
-      (seat-tells s n b call seat (λ count. refl) (leave-made-at (viewRoom s n b) seat) out number (c .given) (c .relates .answers) (c .codes)) e q)
+      (leaves-right (lentWith call out) tt (c .given) out b′ out′ left seat number
+      (seat-tells s n b call seat (leave-made-at (viewRoom s n b) seat) out number (c .given) (c .relates .answers) (c .codes)) e q)
   step-right l e b′ (sends seat bytes out out′ number c lends q) =
       let call = packetCall seat bytes in
       let left = subst (λ (o : Outcome). Leaves s n o b out (c .given) b′ out′) (whole-lent call out) (c .relates) in
       subst (λ (x : Lent). StepRight s n b x e b′) (sym lends)
-      (leaves-right (lentWith call out) tt (c .given) out b′ out′ left number
-      (seat-tells s n b call seat (λ count. refl) (packet-made-at (viewRoom s n b) seat bytes) out number (c .given) (c .relates .answers) (c .codes)) e q)
+      (leaves-right (lentWith call out) tt (c .given) out b′ out′ left seat number
+      (seat-tells s n b call seat (packet-made-at (viewRoom s n b) seat bytes) out number (c .given) (c .relates .answers) (c .codes)) e q)
   step-right l e b′ (ticks time ping out out′ number c lends q) =
       let call = tick time ping in
       let left = subst (λ (o : Outcome). Leaves s n o b out (c .given) b′ out′) (whole-lent call out) (c .relates .leaves) in
       subst (λ (x : Lent). StepRight s n b x e b′) (sym lends)
-      (leaves-right (lentWith call out) (c .relates .fits) (c .given) out b′ out′ left number
-      (seat-tells s n b call 0 (λ count. refl) (tick-made-at (viewRoom s n b) time ping) out number (c .given) (c .relates .leaves .answers) (c .codes)) e q)
+      (leaves-right (lentWith call out) (c .relates .fits) (c .given) out b′ out′ left 0 number
+      (seat-tells s n b call 0 (tick-made-at (viewRoom s n b) time ping) out number (c .given) (c .relates .leaves .answers) (c .codes)) e q)
 
 -- ---- any calls
 

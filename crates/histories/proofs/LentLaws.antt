@@ -39,7 +39,7 @@ long-outcome room l h = ap (λ (t : Bool). cond t (outcome room (l .call)) (refu
 -- ---- one call
 
 pub lent-made : (room : Room) (l : Lent) → RefusedOrAccepted (lentOutcome room l)
-lent-made room l = by-space RefusedOrAccepted room l (outcome-made room (l .call)) (refusal OutputTooShort refl)
+lent-made room l = by-space RefusedOrAccepted room l (outcome-made room (l .call)) (refusal OutputTooShort refl refl)
 
 module _ (s n : ℕ) (b : List ℕ) (whole : roomWhole s n b ≡ true) (l : Lent) where
   pub lent-within : length (sentBytes (lentOutcome (viewRoom s n b) l .sent)) ≤ mostNeeded

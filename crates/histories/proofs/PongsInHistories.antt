@@ -41,24 +41,24 @@ module _ (s n : ℕ) (lents : List Lent) (events : List Event) (b : List ℕ) (h
   of-each : (P : Past → Event → Type 0)
       → ((past : Past) (room : Room) → Whole (sizesOf s n) room → Tied (fromEmpty (sizesOf s n)) past room
       → (held : Held) → seatAt room seat ≡ holds (setKey held key) → P past (event room (packetCall seat bytes)))
-      → P (pastAfter [] events) (seen (packetCall seat bytes) answer out′)
+      → P (pastAfter [] events) (seen (packetCall seat bytes) seat answer out′)
   unfolding seen seenAs event
   of-each P each =
       after-calls s n (λ past e. e .call ≡ packetCall seat bytes → sitter (fromEmpty (sizesOf s n)) past seat ≡ clientOf key → P past e)
       (λ past room whole tie call c sits.
       subst (λ (x : Call). P past (event room x)) (sym c)
       (each past room whole tie (heldOf (seatAt room seat)) (seat-holds (sizesOf s n) (fromEmpty (sizesOf s n)) past room whole tie seat key sits)))
-      lents events b h (lentWith (packetCall seat bytes) out) (seen (packetCall seat bytes) answer out′) b′ (sends seat bytes out out′ answer told refl refl) long
+      lents events b h (lentWith (packetCall seat bytes) out) (seen (packetCall seat bytes) seat answer out′) b′ (sends seat bytes out out′ answer told refl refl) long
       refl by
 
   pub pong-sends-after-calls : (number : ℕ) → client.relayRead bytes ≡ read.packet (client.pong number)
-      → Accepted (λ sent. sent ≡ []) (seen (packetCall seat bytes) answer out′)
+      → Accepted (λ sent. sent ≡ []) (seen (packetCall seat bytes) seat answer out′)
   pong-sends-after-calls number r =
       of-each (λ past e. Accepted (λ sent. sent ≡ []) e)
       (λ past room whole tie held sits. pong-sends (sizesOf s n) (fromEmpty (sizesOf s n)) past room whole tie seat (setKey held key) sits bytes number r)
 
   pub pong-after-calls : (number : ℕ) → client.relayRead bytes ≡ read.packet (client.pong number)
-      → PongDoes (fromEmpty (sizesOf s n)) (pastAfter [] events) seat number (seen (packetCall seat bytes) answer out′)
+      → PongDoes (fromEmpty (sizesOf s n)) (pastAfter [] events) seat number (seen (packetCall seat bytes) seat answer out′)
   pong-after-calls number r =
       of-each (λ past e. PongDoes (fromEmpty (sizesOf s n)) past seat number e)
       (λ past room whole tie held sits. pong-does (sizesOf s n) (fromEmpty (sizesOf s n)) past room whole tie seat (setKey held key) sits bytes number r)

@@ -26,10 +26,10 @@ use Rattle.relay_laws.proofs.CallsLaws.{call-made}
 use Rattle.relay.specs.Play.{run, played, Playing, playing, LeavesRun, Plays}
 use Rattle.banavoge_laws.specs.Answers.{refusalCode}
 use Rattle.banavoge_laws.specs.Rooms.{doneOr}
-use Rattle.banavoge_laws.specs.RelayCalls.{seatCode, countCode}
+use Rattle.banavoge_laws.specs.RelayCalls.{countCode, seatAfter, ArrivalTold, arrivalTold}
 use Rattle.banavoge_laws.specs.Sitting.{Told, turned, sits, whoSits, sitCode, keyThen, TellsSitter, seatOfKey}
 use Rattle.banavoge_laws.specs.Runs.{runCode, Counts, runCounts, Telling, runTold}
-use Rattle.histories.specs.ExportedCalls.{HostMemory, hostMemory, noPlaces, Exported, empties, checks, arrives, departs, sends, ticks, tellsKey, tellsSeat, plays, TestsRoom, Below0}
+use Rattle.histories.specs.ExportedCalls.{HostMemory, hostMemory, noPlaces, withSeat, Exported, empties, checks, arrives, departs, sends, ticks, tellsKey, tellsSeat, plays, TestsRoom, Below0}
 
 -- ---- single calls
 
@@ -37,16 +37,16 @@ use Rattle.histories.specs.ExportedCalls.{HostMemory, hostMemory, noPlac
 module _ (s n : ℕ) (b out b′ out′ : List ℕ) where
   leaves-all : (o : Outcome) → RefusedOrAccepted o → (why : Refusal) → Leaves s n o b out (refused why) b′ out′ → (b′ ≡ b) × (out′ ≡ out)
   unfolding refuse accept storeAll sentBytes
-  leaves-all o (refusal w e) why l = (rw e at (l .stores), rw e at (l .writes))
+  leaves-all o (refusal w given e) why l = (rw e at (l .stores), rw e at (l .writes))
   leaves-all o (acceptance seat changes sent e) why l =
       let q = l .answers ∙ ap (λ (x : Outcome). x .answer) e in
       let z : _≡_ {A = ℕ} 0 1 = cc in absurd (omega arith)
 
-  -- where the number of no acceptance is below 0, an answer whose number is below 0 is a refusal
-  by-number : (code : Answer → ℤ) → ((seat count : ℕ) → Below0 (code (accepted seat count)) → ⊥) → (o : Outcome) → RefusedOrAccepted o
-      → (given : Answer) → Below0 (code given) → Leaves s n o b out given b′ out′ → (b′ ≡ b) × (out′ ≡ out)
-  by-number code above o m (accepted seat count) below l = absurd (above seat count below)
-  by-number code above o m (refused why) below l = leaves-all o m why l
+  -- an answer whose number is below 0 is a refusal
+  by-number : (o : Outcome) → RefusedOrAccepted o → (given : Answer) → Below0 (countCode given) → Leaves s n o b out given b′ out′ → (b′ ≡ b) × (out′ ≡ out)
+  unfolding countCode
+  by-number o m (accepted seat count) below l = absurd below
+  by-number o m (refused why) below l = leaves-all o m why l
 
 -- ---- the empty room
 
@@ -84,6 +84,12 @@ module _ (s n allowance : ℕ) (stored b out b′ out′ : List ℕ) where
 same-memory : (places : Counts) {b out b′ out′ : List ℕ} → (b′ ≡ b) × (out′ ≡ out) → hostMemory b′ out′ places ≡ hostMemory b out places
 same-memory places e = ap₂ (λ (x y : List ℕ). hostMemory x y places) (e .0) (e .1)
 
+-- nor is the place for a seat
+seat-kept : (before : ℕ) (given : Answer) → Below0 (arrivalTold before given .answer) → arrivalTold before given .seat ≡ before
+unfolding arrivalTold countCode seatAfter
+seat-kept before (accepted seat count) below = absurd below
+seat-kept before (refused why) below = refl
+
 -- a key that is not told is not written
 key-kept : (s n : ℕ) (b before : List ℕ) (seat : ℕ) {after : List ℕ} {answer : ℤ} → TellsSitter s n seat b before after answer → Below0 answer
     → hostMemory b after noPlaces ≡ hostMemory b before noPlaces
@@ -95,18 +101,20 @@ key-kept s n b before seat c below = ap (λ (x : List ℕ). hostMemory b x noPla
     go (sits key) h = absurd h
 
 pub refused-leaves : {s n : ℕ} {before after : HostMemory} {answer : ℤ} → Exported s n before answer after → Below0 answer → after ≡ before
-unfolding seatCode countCode runTold
+unfolding countCode arrivalTold runTold
 refused-leaves {s} {n} (empties {b = b} {b′ = b′} c) below =
     ap (λ (x : List ℕ). hostMemory x [] noPlaces) (empty-leaves s n b b′ (c .given) (subst Below0 (c .codes) below) (c .relates))
 refused-leaves (checks e) below = refl
-refused-leaves {s} {n} (arrives {b = b} {b′ = b′} key c) below =
-    same-memory noPlaces (by-number s n b [] b′ [] seatCode (λ seat count below. below) _ (call-made s n b [] _) (c .given) (subst Below0 (c .codes) below) (c .relates .leaves))
+refused-leaves {s} {n} (arrives {b = b} {out = out} {b′ = b′} {out′ = out′} {seat = seat} {seat′ = seat′} key c) below =
+    let refused = subst Below0 (ap (λ (t : ArrivalTold). t .answer) (c .codes)) below in
+    let left = by-number s n b out b′ out′ _ (call-made s n b out _) (c .given) refused (c .relates .leaves) in
+    ap (withSeat b′ out′) (ap (λ (t : ArrivalTold). t .seat) (c .codes) ∙ seat-kept seat (c .given) refused) ∙ ap₂ (λ (x y : List ℕ). withSeat x y seat) (left .0) (left .1)
 refused-leaves {s} {n} (departs {b = b} {out = out} {b′ = b′} {out′ = out′} seat c) below =
-    same-memory noPlaces (by-number s n b out b′ out′ countCode (λ seat count below. below) _ (call-made s n b out _) (c .given) (subst Below0 (c .codes) below) (c .relates))
+    same-memory noPlaces (by-number s n b out b′ out′ _ (call-made s n b out _) (c .given) (subst Below0 (c .codes) below) (c .relates))
 refused-leaves {s} {n} (sends {b = b} {out = out} {b′ = b′} {out′ = out′} seat bytes c) below =
-    same-memory noPlaces (by-number s n b out b′ out′ countCode (λ seat count below. below) _ (call-made s n b out _) (c .given) (subst Below0 (c .codes) below) (c .relates))
+    same-memory noPlaces (by-number s n b out b′ out′ _ (call-made s n b out _) (c .given) (subst Below0 (c .codes) below) (c .relates))
 refused-leaves {s} {n} (ticks {b = b} {out = out} {b′ = b′} {out′ = out′} time number c) below =
-    same-memory noPlaces (by-number s n b out b′ out′ countCode (λ seat count below. below) _ (call-made s n b out _) (c .given) (subst Below0 (c .codes) below) (c .relates .leaves))
+    same-memory noPlaces (by-number s n b out b′ out′ _ (call-made s n b out _) (c .given) (subst Below0 (c .codes) below) (c .relates .leaves))
 refused-leaves {s} {n} (tellsKey {b = b} {before = before} seat c) below = key-kept s n b before seat c below
 refused-leaves (tellsSeat key e) below = refl
 refused-leaves {s} {n} (plays {b = b} {out = out} {b′ = b′} {out′ = out′} {before = before} allowance stored c) below =
@@ -117,17 +125,15 @@ refused-leaves {s} {n} (plays {b = b} {out = out} {b′ = b′} {out′ = out′
 
 -- ---- a room that is not whole: 11
 
--- an arrival is lent no output, and needs none
 module _ (s n : ℕ) (b out : List ℕ) (call : Call) (long : needed call ≤ length out) (bad : roomWhole s n b ≡ false) where
   not-whole-outcome : withOutput s n b out call ≡ refuse RoomNotWhole
   unfolding withOutput ifLong tested
   not-whole-outcome = rw (le-leb (needed call) (length out) long, bad)
 
-  not-whole-code : (code : Answer → ℤ) → code (refused RoomNotWhole) ≡ refusalCode RoomNotWhole → (b′ out′ : List ℕ) (given : Answer) (answer : ℤ)
-      → Leaves s n (withOutput s n b out call) b out given b′ out′ → answer ≡ code given → answer ≡ refusalCode RoomNotWhole
-  unfolding refuse
-  not-whole-code code eleven b′ out′ given answer left codes =
-      codes ∙ ap code (left .answers ∙ ap (λ (o : Outcome). o .answer) not-whole-outcome) ∙ eleven
+  not-whole-code : (b′ out′ : List ℕ) (given : Answer) (answer : ℤ)
+      → Leaves s n (withOutput s n b out call) b out given b′ out′ → answer ≡ countCode given → answer ≡ refusalCode RoomNotWhole
+  unfolding refuse countCode
+  not-whole-code b′ out′ given answer left codes = codes ∙ ap countCode (left .answers ∙ ap (λ (o : Outcome). o .answer) not-whole-outcome)
 
 -- minus 11 is below 0
 eleven-below : (answer : ℤ) → answer ≡ refusalCode RoomNotWhole → Below0 answer
@@ -137,17 +143,17 @@ eleven-below answer e = subst Below0 (sym e) tt
 module _ {s n : ℕ} where
   not-whole-answer : {before after : HostMemory} {answer : ℤ} (c : Exported s n before answer after) → TestsRoom c → roomWhole s n (before .room) ≡ false
       → answer ≡ refusalCode RoomNotWhole
-  unfolding doneOr seatCode countCode runTold runCode playing whoSits sitCode seatOfKey
+  unfolding doneOr countCode arrivalTold runTold runCode playing whoSits sitCode seatOfKey
   not-whole-answer (empties c) tests bad = absurd tests
   not-whole-answer (checks e) tests bad = e ∙ rw bad
-  not-whole-answer (arrives {b = b} {b′ = b′} {answer = answer} key c) tests bad =
-      not-whole-code s n b [] (arrive key) (omega arith) bad seatCode refl b′ [] (c .given) answer (c .relates .leaves) (c .codes)
+  not-whole-answer (arrives {b = b} {out = out} {b′ = b′} {out′ = out′} {answer = answer} key c) tests bad =
+      not-whole-code s n b out (arrive key) tests bad b′ out′ (c .given) answer (c .relates .leaves) (ap (λ (t : ArrivalTold). t .answer) (c .codes))
   not-whole-answer (departs {b = b} {out = out} {b′ = b′} {out′ = out′} {answer = answer} seat c) tests bad =
-      not-whole-code s n b out (leave seat) tests bad countCode refl b′ out′ (c .given) answer (c .relates) (c .codes)
+      not-whole-code s n b out (leave seat) tests bad b′ out′ (c .given) answer (c .relates) (c .codes)
   not-whole-answer (sends {b = b} {out = out} {b′ = b′} {out′ = out′} {answer = answer} seat bytes c) tests bad =
-      not-whole-code s n b out (packetCall seat bytes) tests bad countCode refl b′ out′ (c .given) answer (c .relates) (c .codes)
+      not-whole-code s n b out (packetCall seat bytes) tests bad b′ out′ (c .given) answer (c .relates) (c .codes)
   not-whole-answer (ticks {b = b} {out = out} {b′ = b′} {out′ = out′} {answer = answer} time number c) tests bad =
-      not-whole-code s n b out (tick time number) tests bad countCode refl b′ out′ (c .given) answer (c .relates .leaves) (c .codes)
+      not-whole-code s n b out (tick time number) tests bad b′ out′ (c .given) answer (c .relates .leaves) (c .codes)
   not-whole-answer (tellsKey seat c) tests bad = c .answers ∙ rw bad
   not-whole-answer (tellsSeat key e) tests bad = e ∙ rw bad
   not-whole-answer (plays {before = before} allowance stored c) tests bad =

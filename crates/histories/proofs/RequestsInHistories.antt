@@ -75,7 +75,7 @@ module _ (s n : ℕ) (lents : List Lent) (events : List Event) (b : List ℕ) (h
   lent = lentWith (packetCall seat bytes) out
 
   abbrev asking : Event
-  asking = seen (packetCall seat bytes) answer out′
+  asking = seen (packetCall seat bytes) seat answer out′
 
   step : Step s n b lent asking b′
   step = sends seat bytes out out′ answer sent refl refl

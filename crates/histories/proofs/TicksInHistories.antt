@@ -31,9 +31,9 @@ use Rattle.histories.proofs.Histories.{any-calls-run, any-calls-tied, a
 module _ (s n : ℕ) (lents : List Lent) (events : List Event) (b : List ℕ) (h : AnyCalls s n lents events b) (time number : ℕ) (out b′ out′ : List ℕ) (answer : ℤ)
     (long : needed (tick time number) ≤ length out) (told : ToldAs countCode (Ticks s n time number b out b′ out′) answer) where
   abbrev tickEvent : Event
-  tickEvent = seen (tick time number) answer out′
+  tickEvent = seen (tick time number) 0 answer out′
 
-  pub tick-after-calls : TickAnswered (fromEmpty (sizesOf s n)) (pastAfter [] events) time number (seen (tick time number) answer out′)
+  pub tick-after-calls : TickAnswered (fromEmpty (sizesOf s n)) (pastAfter [] events) time number (seen (tick time number) 0 answer out′)
   unfolding seen seenAs event
   tick-after-calls =
       after-calls s n (λ past e. e .call ≡ tick time number → TickAnswered (fromEmpty (sizesOf s n)) past time number e)
@@ -43,8 +43,8 @@ module _ (s n : ℕ) (lents : List Lent) (events : List Event) (b : List ℕ) (h
       lents events b h (lentWith (tick time number) out) tickEvent b′ (ticks time number out out′ answer told refl refl) long refl
 
   -- a refused one does nothing
-  pub refused-tick-after-calls : isAccepted (seen (tick time number) answer out′ .answer) ≡ false
-      → AsBefore (fromEmpty (sizesOf s n)) (pastAfter [] events) (seen (tick time number) answer out′)
+  pub refused-tick-after-calls : isAccepted (seen (tick time number) 0 answer out′ .answer) ≡ false
+      → AsBefore (fromEmpty (sizesOf s n)) (pastAfter [] events) (seen (tick time number) 0 answer out′)
   unfolding seen seenAs event
   refused-tick-after-calls =
       after-calls s n (λ past e. e .call ≡ tick time number → isAccepted (e .answer) ≡ false → AsBefore (fromEmpty (sizesOf s n)) past e)
@@ -53,8 +53,8 @@ module _ (s n : ℕ) (lents : List Lent) (events : List Event) (b : List ℕ) (h
       (refused-tick (sizesOf s n) (fromEmpty (sizesOf s n)) past room whole tie time number))
       lents events b h (lentWith (tick time number) out) tickEvent b′ (ticks time number out out′ answer told refl refl) long refl
 
-  pub tick-does-after-calls : isAccepted (seen (tick time number) answer out′ .answer) ≡ true
-      → TickDoes (sizesOf s n) (fromEmpty (sizesOf s n)) (pastAfter [] events) time number (seen (tick time number) answer out′)
+  pub tick-does-after-calls : isAccepted (seen (tick time number) 0 answer out′ .answer) ≡ true
+      → TickDoes (sizesOf s n) (fromEmpty (sizesOf s n)) (pastAfter [] events) time number (seen (tick time number) 0 answer out′)
   unfolding seen seenAs event
   tick-does-after-calls =
       after-calls s n (λ past e. e .call ≡ tick time number → isAccepted (e .answer) ≡ true → TickDoes (sizesOf s n) (fromEmpty (sizesOf s n)) past time number e)

@@ -7,36 +7,41 @@ use lib.IntN.{ℤ, pos, negsuc}
 use lib.ListN.{length}
 use Rattle.refusal.specs.declared.Refusal.the-variants.{OutputTooShort, RoomNotWhole}
 use Rattle.rules.specs.Room.{Key}
-use Rattle.rules.specs.Call.{leave, packetCall, tick, needed}
+use Rattle.rules.specs.Call.{arrive, leave, packetCall, tick, needed}
 use Rattle.room_laws.specs.Whole.{roomWhole}
 use Rattle.room_laws.specs.Store.{MakesEmpty}
 use Rattle.relay_laws.specs.Calls.{Arrives, Departs, Sends, Ticks}
 use Rattle.relay.specs.Play.{Plays}
 use Rattle.banavoge_laws.specs.Answers.{ToldAs}
 use Rattle.banavoge_laws.specs.Rooms.{doneOr}
-use Rattle.banavoge_laws.specs.RelayCalls.{seatCode, countCode}
+use Rattle.banavoge_laws.specs.RelayCalls.{countCode, told, arrivalTold}
 use Rattle.banavoge_laws.specs.Sitting.{TellsSitter, seatOfKey}
 use Rattle.banavoge_laws.specs.Runs.{Counts, counts, runTold}
 
--- the memory of a room, the output or the 32 bytes for a key, and the places for counts
+-- the memory of a room, the output or the 32 bytes for a key, the place for a seat, and the places for counts
 pub record HostMemory : Type 0 where
   pub room : List ℕ
   pub out : List ℕ
+  pub seat : ℕ
   pub places : Counts
 
 abbrev pub hostMemory : List ℕ → List ℕ → Counts → HostMemory
-hostMemory room out places = record { room = room; out = out; places = places }
+hostMemory room out places = record { room = room; out = out; seat = 0; places = places }
 
 abbrev pub noPlaces : Counts
 noPlaces = counts 0 0 0
+
+-- with a place for a seat
+abbrev pub withSeat : List ℕ → List ℕ → ℕ → HostMemory
+withSeat room out seat = record { room = room; out = out; seat = seat; places = noPlaces }
 
 -- an export's call: what it was lent, its answer, and what that is afterwards
 pub data Exported (s n : ℕ) : HostMemory → ℤ → HostMemory → Type 0 where
   empties : {b b′ : List ℕ} {answer : ℤ} → ToldAs (doneOr OutputTooShort) (MakesEmpty s n b b′) answer
       → Exported s n (hostMemory b [] noPlaces) answer (hostMemory b′ [] noPlaces)
   checks : {b : List ℕ} {answer : ℤ} → answer ≡ doneOr RoomNotWhole (roomWhole s n b) → Exported s n (hostMemory b [] noPlaces) answer (hostMemory b [] noPlaces)
-  arrives : {b b′ : List ℕ} {answer : ℤ} (key : Key) → ToldAs seatCode (Arrives s n key b b′) answer
-      → Exported s n (hostMemory b [] noPlaces) answer (hostMemory b′ [] noPlaces)
+  arrives : {b out b′ out′ : List ℕ} {seat seat′ : ℕ} {answer : ℤ} (key : Key) → ToldAs (arrivalTold seat) (Arrives s n key b out b′ out′) (told answer seat′)
+      → Exported s n (withSeat b out seat) answer (withSeat b′ out′ seat′)
   departs : {b out b′ out′ : List ℕ} {answer : ℤ} (seat : ℕ) → ToldAs countCode (Departs s n seat b out b′ out′) answer
       → Exported s n (hostMemory b out noPlaces) answer (hostMemory b′ out′ noPlaces)
   sends : {b out b′ out′ : List ℕ} {answer : ℤ} (seat : ℕ) (bytes : List ℕ) → ToldAs countCode (Sends s n seat bytes b out b′ out′) answer
@@ -50,12 +55,12 @@ pub data Exported (s n : ℕ) : HostMemory → ℤ → HostMemory → Type 0 whe
       → ToldAs (runTold before) (Plays s n allowance stored b out b′ out′) (record { answer = answer; counts = after })
       → Exported s n (hostMemory b out before) answer (hostMemory b′ out′ after)
 
--- the calls that are refused where the room is not whole, whatever else is wrong with them: "Every lent state is tested in full before use". Of a Leave, a
--- packet and a tick those with output long enough, since 10 comes before 11; `banavoge_room_empty` makes a room and tests none
+-- the calls that are refused where the room is not whole, whatever else is wrong with them: "Every lent state is tested in full before use". Of an Arrive, a Leave,
+-- a packet and a tick those with output long enough, since 10 comes before 11; `banavoge_room_empty` makes a room and tests none
 abbrev pub TestsRoom : {s n : ℕ} {before after : HostMemory} {answer : ℤ} → Exported s n before answer after → Type 0
 TestsRoom (empties c) = ⊥
 TestsRoom (checks e) = Unit {0}
-TestsRoom (arrives key c) = Unit {0}
+TestsRoom (arrives {out = out} key c) = needed (arrive key) ≤ length out
 TestsRoom (departs {out = out} seat c) = needed (leave seat) ≤ length out
 TestsRoom (sends {out = out} seat bytes c) = needed (packetCall seat bytes) ≤ length out
 TestsRoom (ticks {out = out} time number c) = needed (tick time number) ≤ length out

@@ -2,7 +2,7 @@
 -- refused ones included. The first gets the empty room, each later one the room that the last returned; nothing else writes the room meanwhile. Each lent
 -- output is long enough that 10 is not given." And document 02: "Ticks are calls of a history too". The room is lent bytes, for s seats with n connection numbers
 -- each. A step is the relation that the contract of an exported call states (`banavoge_laws`, `ToldAs`; held in `contracts`), on the bytes given and left, and is seen
--- by the number that the export answers.
+-- by the number that the export answers, an arrival by the seat that is set too.
 use mathlib.Core.List.{List, [], _∷_}
 use mathlib.Core.Path.{_≡_}
 use Prim.Native.Nat.{ℕ}
@@ -15,23 +15,23 @@ use Rattle.room_laws.specs.Store.{MakesEmpty}
 use Rattle.relay_laws.specs.Calls.{Arrives, Departs, Sends, Ticks}
 use Rattle.banavoge_laws.specs.Answers.{ToldAs}
 use Rattle.banavoge_laws.specs.Rooms.{doneOr}
-use Rattle.banavoge_laws.specs.RelayCalls.{seatCode, countCode}
+use Rattle.banavoge_laws.specs.RelayCalls.{countCode, told, arrivalTold}
 use Rattle.histories.specs.Seen.{seen}
 use Rattle.histories.specs.Lent.{Lent, lentWith, AllLong}
 
 -- ---- one call
 
--- `banavoge_arrive`, `banavoge_leave`, `banavoge_packet` or `banavoge_tick`, the call l, on the room's bytes b: it leaves b′ and is seen as e. An Arrive is lent
--- no output; the output lent to the others has any length
+-- `banavoge_arrive`, `banavoge_leave`, `banavoge_packet` or `banavoge_tick`, the call l, on the room's bytes b: it leaves b′ and is seen as e. The output lent has
+-- any length, and the place lent to an Arrive for its seat holds any
 pub data Step (s n : ℕ) (b : List ℕ) (l : Lent) (e : Event) (b′ : List ℕ) : Type 0 where
-  arrives : (key : Key) (number : ℤ) → ToldAs seatCode (Arrives s n key b b′) number
-      → l ≡ lentWith (arrive key) [] → e ≡ seen (arrive key) number [] → Step s n b l e b′
+  arrives : (key : Key) (out out′ : List ℕ) (place place′ : ℕ) (number : ℤ) → ToldAs (arrivalTold place) (Arrives s n key b out b′ out′) (told number place′)
+      → l ≡ lentWith (arrive key) out → e ≡ seen (arrive key) place′ number out′ → Step s n b l e b′
   departs : (seat : ℕ) (out out′ : List ℕ) (number : ℤ) → ToldAs countCode (Departs s n seat b out b′ out′) number
-      → l ≡ lentWith (leave seat) out → e ≡ seen (leave seat) number out′ → Step s n b l e b′
+      → l ≡ lentWith (leave seat) out → e ≡ seen (leave seat) seat number out′ → Step s n b l e b′
   sends : (seat : ℕ) (bytes out out′ : List ℕ) (number : ℤ) → ToldAs countCode (Sends s n seat bytes b out b′ out′) number
-      → l ≡ lentWith (packetCall seat bytes) out → e ≡ seen (packetCall seat bytes) number out′ → Step s n b l e b′
+      → l ≡ lentWith (packetCall seat bytes) out → e ≡ seen (packetCall seat bytes) seat number out′ → Step s n b l e b′
   ticks : (time ping : ℕ) (out out′ : List ℕ) (number : ℤ) → ToldAs countCode (Ticks s n time ping b out b′ out′) number
-      → l ≡ lentWith (tick time ping) out → e ≡ seen (tick time ping) number out′ → Step s n b l e b′
+      → l ≡ lentWith (tick time ping) out → e ≡ seen (tick time ping) 0 number out′ → Step s n b l e b′
 
 -- ---- one after the other
 

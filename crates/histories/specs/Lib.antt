@@ -3,7 +3,8 @@
 -- chains and histories of given calls; `RunSeen`, what the host sees of a run of stored calls; `Runs`, what is said of such runs; `ExportedCalls`, the exports
 -- of a room and what the host lends them; `ListHistory`, nearest lists as the host keeps them; `WrittenAndRead`, a packet or a node written by one export and
 -- read by another; `FrameStream`, a stream of frames as the host reads it; `OtherExports`, the exports that write and are lent no room;
--- `HandedWhenWritten`, what a client is handed by a tick, by who sits in a seat when a record for it is written.
+-- `HandedWhenWritten`, what a client is handed by a tick, by who sits in a seat when a record for it is written; `Returns`, an arrival of a seated key next to
+-- two calls.
 pub mod Seen
 pub mod Lent
 pub mod History
@@ -17,3 +18,4 @@ pub mod WrittenAndRead
 pub mod FrameStream
 pub mod OtherExports
 pub mod HandedWhenWritten
+pub mod Returns

@@ -1,11 +1,12 @@
--- What the host sees of an exported call: the number that it answers, and the records in the output. An event is read off the call, the number and the bytes
--- of the output alone: nothing here can see a room.
+-- What the host sees of an exported call: the number that it answers, the seat, and the records in the output. An event is read off the call, the seat, the number
+-- and the bytes of the output alone: nothing here can see a room. The seat of an Arrive is what stands in the place that the host lent for it, that of a Leave or
+-- a packet is the call's own, and a tick has 0.
 use mathlib.Core.List.{List}
 use Prim.Native.Nat.{ℕ, suc}
 use lib.IntN.{ℤ, pos, negsuc}
 use lib.ListN.{take}
 use Rattle.refusal.specs.Numbers.{refusalOf}
-use Rattle.rules.specs.Call.{Call, arrive, leave, packetCall, tick, Answer, accepted, refused, Sent}
+use Rattle.rules.specs.Call.{Call, Answer, accepted, refused, Sent}
 use Rattle.rules.specs.History.{Event}
 use Rattle.records.specs.Read.{recordsIn}
 use Rattle.relay_laws.specs.Calls.{written}
@@ -22,20 +23,12 @@ seenAs call given out = record { call = call; answer = given; sent = recordsRead
 
 -- ---- the number
 
--- of 0 or more: an Arrive answers its seat, and "writes nothing"; a Leave, a packet or a tick answers how many bytes it wrote, and the seat of the first two is
--- the call's own
-unfoldable pub acceptedWith : Call → ℕ → Answer
-acceptedWith (arrive key) seat = accepted seat 0
-acceptedWith (leave seat) count = accepted seat count
-acceptedWith (packetCall seat bytes) count = accepted seat count
-acceptedWith (tick time ping) count = accepted 0 count
-
--- below 0: minus a refusal's number
-unfoldable pub answered : Call → ℤ → Answer
-answered call (pos number) = acceptedWith call number
-answered call (negsuc less) = refused (refusalOf (suc less))
+-- of 0 or more: how many bytes were written. Below 0: minus a refusal's number
+unfoldable pub answered : ℕ → ℤ → Answer
+answered seat (pos count) = accepted seat count
+answered seat (negsuc less) = refused (refusalOf (suc less))
 
 -- ---- the event
 
-unfoldable pub seen : Call → ℤ → List ℕ → Event
-seen call number out = seenAs call (answered call number) out
+unfoldable pub seen : Call → ℕ → ℤ → List ℕ → Event
+seen call seat number out = seenAs call (answered seat number) out

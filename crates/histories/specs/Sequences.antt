@@ -2,7 +2,7 @@
 use mathlib.Core.List.{List, [], _∷_}
 use mathlib.Core.Path.{_≡_}
 use Prim.Native.Nat.{ℕ}
-use Rattle.rules.specs.Call.{Call, arrive, leave, packetCall, tick, FieldsFit}
+use Rattle.rules.specs.Call.{Call, FieldsFit}
 use Rattle.rules.specs.History.{Event}
 use Rattle.histories.specs.Lent.{Lent, lentWith}
 use Rattle.histories.specs.History.{AnyChain, Chain, AnyCalls, History, callsOf}
@@ -14,13 +14,6 @@ abbrev pub AllFieldsFit : List Call → Type 0
 AllFieldsFit [] = Unit {0}
 AllFieldsFit (call ∷ calls) = FieldsFit call × AllFieldsFit calls
 
--- an Arrive is lent no output
-abbrev pub lentTo : Call → List ℕ → Lent
-lentTo (arrive key) out = lentWith (arrive key) []
-lentTo (leave seat) out = lentWith (leave seat) out
-lentTo (packetCall seat bytes) out = lentWith (packetCall seat bytes) out
-lentTo (tick time ping) out = lentWith (tick time ping) out
-
 -- a call, and the output that the host has for it
 pub record CallMade : Type 0 where
   pub call : Call
@@ -28,7 +21,7 @@ pub record CallMade : Type 0 where
 
 unfoldable pub lentsTo : List CallMade → List Lent
 lentsTo [] = []
-lentsTo (m ∷ made) = lentTo (m .call) (m .out) ∷ lentsTo made
+lentsTo (m ∷ made) = lentWith (m .call) (m .out) ∷ lentsTo made
 
 unfoldable pub callsMade : List CallMade → List Call
 callsMade [] = []

@@ -6,7 +6,8 @@ use mathlib.Core.Path.{_≡_, refl}
 use mathlib.Core.Bool.{true, false}
 use mathlib.Core.List.{List, [], _∷_, _++_, map}
 use Prim.Native.Nat.{ℕ}
-use Rattle.refusal.specs.declared.Refusal.the-variants.{AlreadySeated, PacketSize, NoSuchRoute}
+use Rattle.refusal.specs.declared.Refusal.the-variants.{RoomFull, PacketSize, NoSuchRoute}
+use lib.ListN.{replicate}
 use Rattle.wire.specs.Numbers.{bytesOf}
 use Rattle.rules.specs.Room.{sizesOf, baseSizes, Key}
 use Rattle.rules.specs.Call.{Call, arrive, leave, packetCall, tick, accepted, refused}
@@ -32,6 +33,10 @@ added : List Row → List Entry
 added [] = []
 added (r ∷ rows) = r .adds ++ added rows
 
+-- a fourth client
+kd : Key
+kd = replicate 32 0x44
+
 -- the calls of a client in a seat
 ask : ℕ → Key → Call
 ask seat key = packetCall seat (0 ∷ key)
@@ -54,11 +59,11 @@ pong seat = packetCall seat (5 ∷ bytesOf 8 7)
 -- C sits in seat 0, KA in seat 1, KB in seat 2; each has one number, 16 (10 hex)
 rows : List Row
 rows =
-    -- "every accepted arrival and every departure, by key"; another client's refused arrival, and C's own refused one
+    -- "every accepted arrival and every departure, by key"; "The departure and arrival both stand in the record for C.", of C, which comes back, the call too
     row (arrive kc) (arrived kc ∷ own (arrive kc) ∷ [])
     ∷ row (arrive ka) (arrived ka ∷ [])
-    ∷ row (arrive ka) []
-    ∷ row (arrive kc) (own (arrive kc) ∷ [])
+    ∷ row (arrive ka) (departed ka ∷ arrived ka ∷ [])
+    ∷ row (arrive kc) (departed kc ∷ arrived kc ∷ own (arrive kc) ∷ [])
     -- a request for C, and data on it that is refused while C has none for KA
     ∷ row (ask 1 kc) (toC ka (ask 1 kc) ∷ [])
     ∷ row (ask 1 kc) (toC ka (ask 1 kc) ∷ [])
@@ -97,10 +102,19 @@ rows =
     ∷ row (arrive ka) (arrived ka ∷ [])
     ∷ row (ask 1 kb) []
     ∷ row (dropping 1 0x10) []
+    -- the room is full: another client's refused arrival. It names C once more, KA comes back without leaving, and has it for KB
+    ∷ row (arrive kd) []
+    ∷ row (ask 1 kc) (toC ka (ask 1 kc) ∷ [])
+    ∷ row (arrive ka) (departed ka ∷ arrived ka ∷ [])
+    ∷ row (ask 1 kb) []
+    ∷ row (dropping 1 0x10) []
     -- C leaves; what its seat is then asked for is nobody's
     ∷ row (leave 0) (departed kc ∷ own (leave 0) ∷ [])
     ∷ row (ping 0) []
     ∷ row (leave 0) []
+    -- another client takes it, and C's arrival is refused
+    ∷ row (arrive kd) (arrived kd ∷ [])
+    ∷ row (arrive kc) (own (arrive kc) ∷ [])
     ∷ []
 
 -- its events
@@ -108,12 +122,12 @@ seen : List Event
 seen = happens (sizesOf 3 1) (callsIn rows)
 
 the-record : recordFor (fromEmpty (sizesOf 3 1)) [] kc seen ≡ added rows
-unfolding opened recorded seen callsIn added rows row ask dropping sending outOfBand ping pong
+unfolding opened recorded seen callsIn added rows row ask dropping sending outOfBand ping pong kd
 the-record = refl
 
 -- "neither history answers another client's request for C with 0": those for another key, and C's own, do not count
 no-zero-for-c : zeroForC (fromEmpty (sizesOf 3 1)) [] kc seen ≡ false
-unfolding opened recorded seen callsIn rows row ask dropping sending outOfBand ping pong
+unfolding opened recorded seen callsIn rows row ask dropping sending outOfBand ping pong kd
 no-zero-for-c = refl
 
 -- this one does: KA has used its number for KB
@@ -124,15 +138,15 @@ zero-for-c = refl
 -- the answer and the connect notification; data; out-of-band bytes; the answer 0; a pong; then disconnect, connect and disconnect notifications
 handed-to-c : packetsFor (fromEmpty (sizesOf 3 1)) [] kc seen
     ≡ (1 ∷ 0x10 ∷ ka) ∷ (2 ∷ 0x10 ∷ []) ∷ (0x10 ∷ 0x61 ∷ []) ∷ (7 ∷ (ka ++ (0x62 ∷ []))) ∷ (1 ∷ 0 ∷ kc)
-    ∷ (5 ∷ bytesOf 8 7) ∷ (3 ∷ 0x10 ∷ []) ∷ (2 ∷ 0x10 ∷ []) ∷ (3 ∷ 0x10 ∷ []) ∷ []
-unfolding opened recorded seen callsIn rows row ask dropping sending outOfBand ping pong
+    ∷ (5 ∷ bytesOf 8 7) ∷ (3 ∷ 0x10 ∷ []) ∷ (2 ∷ 0x10 ∷ []) ∷ (3 ∷ 0x10 ∷ []) ∷ (2 ∷ 0x10 ∷ []) ∷ (3 ∷ 0x10 ∷ []) ∷ []
+unfolding opened recorded seen callsIn rows row ask dropping sending outOfBand ping pong kd
 handed-to-c = refl
 
 -- C's calls alone, in turn
 answered-to-c : answersFor (fromEmpty (sizesOf 3 1)) [] kc seen
-    ≡ accepted 0 0 ∷ refused AlreadySeated ∷ accepted 0 47 ∷ accepted 0 37 ∷ refused NoSuchRoute ∷ accepted 0 5 ∷ accepted 0 12 ∷ refused PacketSize
-    ∷ accepted 0 0 ∷ []
-unfolding opened recorded seen callsIn rows row ask dropping sending outOfBand ping pong
+    ≡ accepted 0 0 ∷ accepted 0 0 ∷ accepted 0 47 ∷ accepted 0 37 ∷ refused NoSuchRoute ∷ accepted 0 5 ∷ accepted 0 12 ∷ refused PacketSize
+    ∷ accepted 0 0 ∷ refused RoomFull ∷ []
+unfolding opened recorded seen callsIn rows row ask dropping sending outOfBand ping pong kd
 answered-to-c = refl
 
 -- "A request stands from an answer other than 0": the request that was answered with 0 stands under no number

@@ -18,7 +18,7 @@ use Rattle.packet_laws.specs.FromClient as client
 use Rattle.rules.specs.Room.{Sizes, Key, baseSizes, emptyRoom}
 use Rattle.rules.specs.Call.{Call, arrive, leave, packetCall, tick, Answer, accepted, refused}
 use Rattle.rules.specs.History.{Event, transcript, happens}
-use Rattle.rules.specs.Transcript.{Past, nobody, clientOf, Start, fromEmpty, isAccepted, putOut, maker, stands}
+use Rattle.rules.specs.Transcript.{Past, nobody, clientOf, Start, fromEmpty, isAccepted, isSeated, putOut, maker, stands}
 use Rattle.rules.specs.After.{pastAfter}
 use Rattle.isolation.specs.Record.{Entry, arrived, own, toC, dataForC, ticked, entryIf, byKey, otherPacket, otherCall, ifAccepted, madeBy, ofTick, entriesBy, entries, recordFor, packetsFor, answersFor, zeroForC}
 use Rattle.isolation.proofs.Recorded.{recorded}
@@ -187,7 +187,8 @@ module _ (start : Start) (past : Past) (c : Key) (e : Event) where
     unfolding entries entriesBy madeBy byKey entryIf ifAccepted isAccepted
     refused-adds-nothing h = rw (by, else) (go (e .call) (e .answer) h (otherCall c key (e .call) (λ number. stands start past key number c)))
       where
-        go : (call : Call) (answer : Answer) → isAccepted answer ≡ false → (es : List Entry) → (byKey key call answer ++ ifAccepted answer es) ≡ []
+        go : (call : Call) (answer : Answer) → isAccepted answer ≡ false → (es : List Entry)
+            → (byKey (isSeated start past key) key call answer ++ ifAccepted answer es) ≡ []
         go call (accepted seat count) h es = absurd (true≢false h)
         go (arrive k) (refused why) h es = refl
         go (leave seat) (refused why) h es = refl

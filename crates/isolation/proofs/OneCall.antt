@@ -2,7 +2,7 @@
 -- call does: the view of the room after it, the packets it hands to C, and the answer if the call is C's own; unless the call is another client's
 -- request for C that is answered with 0. A list of cases, one for each kind of call, of C and of another client; a tick is nobody's, and its law is in
 -- `OneTick`. Assumes nothing.
-use mathlib.Core.Path.{_≡_, refl, sym, ap, _∙_, subst}
+use mathlib.Core.Path.{_≡_, refl, sym, ap, ap₂, _∙_, subst}
 use mathlib.Core.Bool.{Bool, true, false, _&&_, cond, true≢false}
 use mathlib.Core.List.{List, [], _∷_, append-nil}
 use Prim.Native.Nat.{ℕ, _-_}
@@ -19,17 +19,19 @@ use Rattle.packet_laws.proofs.ReadBounds.{request-key-long}
 use Rattle.rules.specs.Room.{Sizes, Key, Route, free, wants, Seat, vacant, holds, Room, Found, none, at, find, seatOf, isVacant, routeTo, isFree, seatAt, routeAt, firstNumber, numberOfPlace, Peer, alone, joined, newcomer, setSeat, Held, noneSince, setKey, setPing, setRoute}
 use Rattle.rules.specs.Whole.{Whole}
 use Rattle.rules.specs.Call.{Call, arrive, leave, packetCall, tick, Answer, accepted, refused, Sent}
-use Rattle.rules.specs.Outcome.{withRoute, withoutPing, apply, applyAll, Outcome, refuse, sentBytes, accept, answerOnly, to, roomAfter, peer, toPeer, arriveAt, leaveFrom, tellBoth, requestAt, dropAt, oobTo, carryTo, dataAt, pongAt, act, actOn, packetFrom, tickAt, outcome}
+use Rattle.rules.specs.Outcome.{withRoute, withoutPing, apply, applyAll, Outcome, refuse, sentBytes, accept, answerOnly, to, roomAfter, peer, toPeer, tellPeers, takeSeat, leaveFrom, tellBoth, requestAt, dropAt, oobTo, carryTo, dataAt, pongAt, act, actOn, packetFrom, tickAt, outcome}
 use Rattle.rules.specs.History.{Event, event}
-use Rattle.rules.specs.Transcript.{Past, Start, isAccepted, putOut, maker, numberAnswered, stands, isClient}
+use Rattle.rules.specs.Transcript.{Past, Start, isAccepted, isSeated, putOut, maker, numberAnswered, stands, isClient}
 use Rattle.rules.specs.After.{clientIn, Tied}
 use Rattle.isolation.specs.Record.{Entry, arrived, departed, own, toC, droppedC, dataForC, ticked, entryIf, byKey, otherPacket, otherCall, ifAccepted, madeBy, ofTick, entriesBy, entries, handedIf, handed, answerIf, asksFor, turnsAway}
-use Rattle.rules.proofs.FindLaws.{Once, find-hit, find-replicate, find-set-same, find-clear, free-not-to, wanted-place}
+use Rattle.rules.proofs.FindLaws.{heldOf, Once, find-hit, find-replicate, find-set-same, find-clear, free-not-to, wanted-place}
 use Rattle.rules.proofs.Whole.{wanted-once, key-found}
+use Rattle.rules.proofs.ComesBack.{arrives-new, held, sits-there, Lowest, some-empty, comes-back-to}
+use Rattle.rules.proofs.SeatedLaws.{someFound, seated-found}
 use Rattle.rules.proofs.AnswerLaws.{zero-answered}
 use Rattle.rules.proofs.Tied.{tied-here}
 use Rattle.rules.proofs.SentLaws.{count-same}
-use Rattle.isolation.proofs.View.{openSeat, ownSeat, otherSeat, View, isFound, viewSeat, project, namesC, placeOf, Observed, observed, packetAt, only, toOne, toBoth, counted, ownArrival, ownLeave, ownAnswer, ownRequest, ownDrop, ownOob, ownCarry, ownData, ownPong, ownAct, ownPacket, ownCall, otherArrived, otherDeparted, otherDropped, otherAsked, otherToC, arrivedIf, departedIf, observe, observedThen, observeAll, setView, setViews}
+use Rattle.isolation.proofs.View.{isOpen, ownRoutes, noticesByView, SeatView, openSeat, ownSeat, otherSeat, View, isFound, viewSeat, project, namesC, placeOf, Observed, observed, packetAt, only, toOne, toBoth, counted, ownTaken, ownArrival, ownLeave, ownAnswer, ownRequest, ownDrop, ownOob, ownCarry, ownData, ownPong, ownAct, ownPacket, ownCall, otherArrived, otherDeparted, otherDropped, otherAsked, otherToC, arrivedIf, departedIf, observe, observedThen, observeAll, setView, setViews}
 use Rattle.isolation.proofs.ViewLaws.{find-put, held-law, open-law, view-at, held-as, view-own, view-other, project-set, left-open, isJoined, connected-law, handedBy, handed-law, hand-only, else-seat, not-handed, found-held, packet-law, own-held, peer-else, own-not-handed, own-tells, other-lost, observedOf, observed-same, count-told, count-both, count-tells}
 use Rattle.isolation.proofs.OneTick.{tick-law}
 
@@ -60,16 +62,23 @@ observe-departed : (sizes : Sizes) (c : Key) (v : View) (call : Call) → observ
 unfolding observeAll observe departedIf observedThen observed
 observe-departed sizes c v call = rw (same-refl c) (observe-one sizes c v (own call))
 
+observe-returned : (sizes : Sizes) (c : Key) (v : View) (call : Call) → observeAll sizes c v (departed c ∷ arrived c ∷ own call ∷ []) ≡ ownCall sizes c v call
+unfolding observeAll observe departedIf arrivedIf observedThen observed
+observe-returned sizes c v call = rw (same-refl c) (observe-one sizes c v (own call))
+
 -- ---- C's own calls
 
--- its arrival
-own-arrival : (sizes : Sizes) (c : Key) (room : Room) (seated empty : Found) → find (seatOf c) (room .seats) ≡ seated → find isVacant (room .seats) ≡ empty
-    → ownCall sizes c (project c room) (arrive c) ≡ observedOf sizes c room (arriveAt seated empty c) (arriveAt seated empty c .answer ∷ [])
-unfolding ownCall project ownArrival arriveAt refuse accept roomAfter applyAll apply handedBy counted
-own-arrival sizes c room (at seat) empty hf he = rw (held-law c c room, hf)
-own-arrival sizes c room none none hf he = rw (held-law c c room, open-law c room, hf, he)
-own-arrival sizes c room none (at seat) hf he =
-    rw (held-law c c room, open-law c room, hf, he) (observed-same (sym (project-set c room seat _ _ (view-own c (newcomer sizes (room .clock) c) refl))) refl refl)
+-- its arrival, where it is not seated
+own-taken : (sizes : Sizes) (c : Key) (room : Room) (lowest : Found)
+    → ownTaken sizes lowest c (project c room) [] ≡ observedOf sizes c room (takeSeat lowest c) (takeSeat lowest c .answer ∷ [])
+unfolding ownTaken project takeSeat refuse accept roomAfter applyAll apply handedBy counted
+own-taken sizes c room none = refl
+own-taken sizes c room (at seat) = observed-same (sym (project-set c room seat _ _ (view-own c (newcomer sizes (room .clock) c) refl))) refl refl
+
+own-arrival : (sizes : Sizes) (c : Key) (room : Room) → find (seatOf c) (room .seats) ≡ none
+    → ownCall sizes c (project c room) (arrive c) ≡ observedOf sizes c room (outcome room (arrive c)) (outcome room (arrive c) .answer ∷ [])
+unfolding ownCall ownArrival project
+own-arrival sizes c room h = rw (held-law c c room, h, open-law c room, arrives-new room c h) (own-taken sizes c room (find isVacant (room .seats)))
 
 module _ (sizes : Sizes) (room : Room) (whole : Whole sizes room) (c : Key) (seat : ℕ) (held : Held) (sits : seatAt room seat ≡ holds (setKey held c)) where
   -- all that its seat holds
@@ -167,12 +176,36 @@ module _ (sizes : Sizes) (room : Room) (whole : Whole sizes room) (c : Key) (sea
       rw own-view
       (observed-same (sym (left-open c room seat)) (sym (own-tells sizes room whole c seat held sits (held .routes))) (counted-same seat _ _ (count-tells c room seat (held .routes))))
 
+-- its arrival, where it is seated
+own-return : (sizes : Sizes) (c : Key) (room : Room) → Whole sizes room → (seat : ℕ) → find (seatOf c) (room .seats) ≡ at seat
+    → ownCall sizes c (project c room) (arrive c) ≡ observedOf sizes c room (outcome room (arrive c)) (outcome room (arrive c) .answer ∷ [])
+unfolding ownCall ownArrival ownTaken ownRoutes project accept roomAfter applyAll apply
+own-return sizes c room whole seat h =
+    ap (λ (f : Found). ownArrival sizes f c (project c room)) (held-law c c room ∙ h)
+    ∙ ap₂ (λ (v : View) (s : SeatView). ownTaken sizes (find isOpen (v .seats)) c v (noticesByView c (project c room) seat (ownRoutes s))) (sym (left-open c room seat)) (own-view sizes room whole c seat was there)
+    ∙ ap (λ (f : Found). ownTaken sizes f c (project c left) (noticesByView c (project c room) seat (was .routes))) (open-law c left ∙ low .lowest)
+    ∙ observed-same (sym (project-set c left (low .place) _ _ (view-own c (newcomer sizes (room .clock) c) refl)))
+    (sym (own-tells sizes room whole c seat was there (was .routes))) (counted-same (low .place) _ _ (count-tells c room seat (was .routes)))
+    ∙ sym (ap (λ (o : Outcome). observedOf sizes c room o (o .answer ∷ [])) (comes-back-to room c seat h (low .place) (low .lowest)))
+  where
+    was : Held
+    was = heldOf (seatAt room seat)
+
+    there : seatAt room seat ≡ holds (setKey was c)
+    there = sits-there room c seat h
+
+    low : Lowest room c seat h
+    low = some-empty room c seat h
+
+    left : Room
+    left = setSeat room seat vacant
+
 -- ---- another client's calls
 
--- its arrival
+-- its arrival, where it is not seated
 other-arrival : (sizes : Sizes) (c : Key) (room : Room) (key : Key) → sameKey key c ≡ false → (seat : ℕ) → find isVacant (room .seats) ≡ at seat
-    → observe sizes c (project c room) (arrived key) ≡ observedOf sizes c room (arriveAt none (at seat) key) []
-unfolding observe arrivedIf otherArrived project arriveAt accept roomAfter applyAll apply handedBy isFree isFound
+    → observe sizes c (project c room) (arrived key) ≡ observedOf sizes c room (takeSeat (at seat) key) []
+unfolding observe arrivedIf otherArrived project takeSeat accept roomAfter applyAll apply handedBy isFree isFound
 other-arrival sizes c room key hk seat e = rw (hk, open-law c room, e) (observed-same (sym (project-set c room seat _ _ new-other)) refl refl)
   where
     new-other : viewSeat c (holds (newcomer sizes (room .clock) key)) ≡ otherSeat key false
@@ -404,6 +437,19 @@ module _ (sizes : Sizes) (room : Room) (whole : Whole sizes room) (c : Key) (sea
       rw (hk, held-law c (held .key) room, key-found sizes room whole seat held sits)
       (observed-same (sym (left-open c room seat)) (rw names-here (other-lost sizes room whole c seat held sits hk)) refl)
 
+-- its arrival, where it is seated: the departure, and then the arrival in the room that it leaves
+other-return : (sizes : Sizes) (c : Key) (room : Room) → Whole sizes room → (key : Key) → sameKey key c ≡ false → (seat : ℕ) → find (seatOf key) (room .seats) ≡ at seat
+    → observeAll sizes c (project c room) (departed key ∷ arrived key ∷ []) ≡ observedOf sizes c room (outcome room (arrive key)) []
+unfolding observeAll observedThen observed takeSeat leaveFrom accept roomAfter applyAll apply handedBy
+other-return sizes c room whole key hk seat h =
+    let low = some-empty room key seat h in
+    let left = setSeat room seat vacant in
+    let gone = observedOf sizes c room (leaveFrom (holds (held room key seat h)) room seat) [] in
+    ap (λ (s : Observed). observedThen s (observeAll sizes c (s .view) (arrived key ∷ []))) (other-leave sizes room whole c seat (held room key seat h) (sits-there room key seat h) hk)
+    ∙ ap (observedThen gone) (observe-one sizes c (project c left) (arrived key) ∙ other-arrival sizes c left key hk (low .place) (low .lowest))
+    ∙ observed-same refl (append-nil (handedBy c room (tellPeers room seat key (held room key seat h .routes)))) refl
+    ∙ sym (ap (λ (o : Outcome). observedOf sizes c room o []) (comes-back-to room key seat h (low .place) (low .lowest)))
+
 -- ---- all calls
 
 -- a call with its outcome
@@ -412,45 +458,62 @@ made call o = record { call = call; answer = o .answer; sent = o .sent }
 
 module _ (sizes : Sizes) (start : Start) (past : Past) (room : Room) (whole : Whole sizes room) (tie : Tied start past room) (c : Key) where
   -- the law for a call that a client made
-  abbrev Law : Bool → Key → Call → Outcome → Type 0
-  Law t key call o =
-      observeAll sizes c (project c room) (madeBy t c key (made call o) (λ number. stands start past key number c)) ≡ observedOf sizes c room o (answerIf t (o .answer))
+  abbrev Law : Bool → Bool → Key → Call → Outcome → Type 0
+  Law t seated key call o =
+      observeAll sizes c (project c room) (madeBy t seated c key (made call o) (λ number. stands start past key number c)) ≡ observedOf sizes c room o (answerIf t (o .answer))
 
-  arrive-by : (key : Key) (t : Bool) → sameKey key c ≡ t → (seated empty : Found) → find (seatOf key) (room .seats) ≡ seated → find isVacant (room .seats) ≡ empty
-      → Law t key (arrive key) (arriveAt seated empty key)
-  unfolding madeBy byKey entryIf isAccepted answerIf arriveAt refuse accept ifAccepted otherCall observeAll roomAfter applyAll handedBy
-  arrive-by key true h (at seat) empty hf he =
-      let q = same-sound key c h in
-      rw q (observe-own sizes c (project c room) (arrive c) ∙ own-arrival sizes c room (at seat) empty (rw q at hf) he)
-  arrive-by key true h none none hf he =
-      let q = same-sound key c h in
-      rw q (observe-own sizes c (project c room) (arrive c) ∙ own-arrival sizes c room none none (rw q at hf) he)
-  arrive-by key true h none (at seat) hf he =
-      let q = same-sound key c h in
-      rw q (observe-arrived sizes c (project c room) (arrive c) ∙ own-arrival sizes c room none (at seat) (rw q at hf) he)
-  arrive-by key false h (at seat) empty hf he = refl
-  arrive-by key false h none none hf he = refl
-  arrive-by key false h none (at seat) hf he = observe-one sizes c (project c room) (arrived key) ∙ other-arrival sizes c room key h seat he
+  -- an arrival of C and of another, where it is not seated
+  new-by : (key : Key) → find (seatOf key) (room .seats) ≡ none → (t : Bool) → sameKey key c ≡ t → (lowest : Found) → find isVacant (room .seats) ≡ lowest
+      → Law t false key (arrive key) (takeSeat lowest key)
+  unfolding madeBy byKey entryIf answerIf takeSeat refuse accept ifAccepted otherCall observeAll roomAfter applyAll handedBy
+  new-by key h true hk none l =
+      let q = same-sound key c hk in
+      rw q (observe-own sizes c (project c room) (arrive c) ∙ own-arrival sizes c room (rw q at h) ∙ rw (arrives-new room c (rw q at h), l))
+  new-by key h true hk (at seat) l =
+      let q = same-sound key c hk in
+      rw q (observe-arrived sizes c (project c room) (arrive c) ∙ own-arrival sizes c room (rw q at h) ∙ rw (arrives-new room c (rw q at h), l))
+  new-by key h false hk none l = refl
+  new-by key h false hk (at seat) l = observe-one sizes c (project c room) (arrived key) ∙ other-arrival sizes c room key hk seat l
+
+  -- and where it is
+  own-back : (key : Key) (seat : ℕ) → find (seatOf key) (room .seats) ≡ at seat → sameKey key c ≡ true
+      → observeAll sizes c (project c room) (departed key ∷ arrived key ∷ own (arrive key) ∷ []) ≡ observedOf sizes c room (outcome room (arrive key)) (outcome room (arrive key) .answer ∷ [])
+  own-back key seat h hk = let q = same-sound key c hk in rw q (observe-returned sizes c (project c room) (arrive c) ∙ own-return sizes c room whole seat (rw q at h))
+
+  back-by : (key : Key) (seat : ℕ) → find (seatOf key) (room .seats) ≡ at seat → (t : Bool) → sameKey key c ≡ t → Law t true key (arrive key) (outcome room (arrive key))
+  unfolding madeBy byKey entryIf answerIf ifAccepted otherCall accept
+  back-by key seat h true hk =
+      let low = some-empty room key seat h in
+      let q = comes-back-to room key seat h (low .place) (low .lowest) in
+      rw q (rw q at (own-back key seat h hk))
+  back-by key seat h false hk =
+      let low = some-empty room key seat h in
+      let q = comes-back-to room key seat h (low .place) (low .lowest) in
+      rw q (rw q at (other-return sizes c room whole key hk seat h))
+
+  arrive-by : (key : Key) (f : Found) → find (seatOf key) (room .seats) ≡ f → Law (sameKey key c) (someFound f) key (arrive key) (outcome room (arrive key))
+  arrive-by key none h = rw (arrives-new room key h) (new-by key h (sameKey key c) refl (find isVacant (room .seats)) refl)
+  arrive-by key (at seat) h = back-by key seat h (sameKey key c) refl
 
   leave-by : (seat : ℕ) (key : Key) (held : Held) → seatAt room seat ≡ holds (setKey held key) → (t : Bool) → sameKey key c ≡ t
-      → Law t key (leave seat) (leaveFrom (holds (setKey held key)) room seat)
-  unfolding madeBy byKey entryIf isAccepted answerIf leaveFrom accept ifAccepted otherCall
-  leave-by seat key held e true h =
+      → (seated : Bool) → Law t seated key (leave seat) (leaveFrom (holds (setKey held key)) room seat)
+  unfolding madeBy byKey answerIf leaveFrom accept ifAccepted otherCall
+  leave-by seat key held e true h seated =
       let q = same-sound key c h in
       rw q (observe-departed sizes c (project c room) (leave seat) ∙ own-leave sizes room whole c seat held (rw q at e))
-  leave-by seat key held e false h = observe-one sizes c (project c room) (departed key) ∙ other-leave sizes room whole c seat (setKey held key) e h
+  leave-by seat key held e false h seated = observe-one sizes c (project c room) (departed key) ∙ other-leave sizes room whole c seat (setKey held key) e h
 
   packet-by : (seat : ℕ) (bytes : List ℕ) (key : Key) (held : Held) → seatAt room seat ≡ holds (setKey held key) → (t : Bool) → sameKey key c ≡ t
       → cond t false
       ((isAccepted (actOn (client.relayRead bytes) room seat (setKey held key) .answer) && asksFor c (client.relayRead bytes))
       && eqb (numberAnswered (actOn (client.relayRead bytes) room seat (setKey held key) .sent)) 0)
       ≡ false
-      → Law t key (packetCall seat bytes) (actOn (client.relayRead bytes) room seat (setKey held key))
+      → (seated : Bool) → Law t seated key (packetCall seat bytes) (actOn (client.relayRead bytes) room seat (setKey held key))
   unfolding madeBy byKey answerIf otherCall
-  packet-by seat bytes key held e true h z =
+  packet-by seat bytes key held e true h z seated =
       let q = same-sound key c h in
       rw q (observe-own sizes c (project c room) (packetCall seat bytes) ∙ own-packet sizes room whole c seat held (rw q at e) bytes)
-  packet-by seat bytes key held e false h z =
+  packet-by seat bytes key held e false h z seated =
       note-act sizes room whole c seat (setKey held key) e h bytes (λ number. stands start past key number c)
       (λ number. tied-here sizes start past room whole tie seat (setKey held key) e number c) (client.relayRead bytes) refl z
 
@@ -459,7 +522,7 @@ module _ (sizes : Sizes) (start : Start) (past : Past) (room : Room) (whole : Wh
       ≡ observedOf sizes c room (leaveFrom s room seat) (answerIf (isClient c (clientIn s)) (leaveFrom s room seat .answer))
   unfolding entriesBy ofTick clientIn isClient answerIf leaveFrom refuse observeAll roomAfter applyAll handedBy
   leave-from seat vacant e = refl
-  leave-from seat (holds held) e = leave-by seat (held .key) held e (sameKey (held .key) c) refl
+  leave-from seat (holds held) e = leave-by seat (held .key) held e (sameKey (held .key) c) refl (isSeated start past (held .key))
 
   packet-from : (seat : ℕ) (bytes : List ℕ) (s : Seat) → seatAt room seat ≡ s
       → turnsAway c (clientIn s) (made (packetCall seat bytes) (packetFrom s room seat bytes)) (packetCall seat bytes) ≡ false
@@ -467,7 +530,7 @@ module _ (sizes : Sizes) (start : Start) (past : Past) (room : Room) (whole : Wh
       ≡ observedOf sizes c room (packetFrom s room seat bytes) (answerIf (isClient c (clientIn s)) (packetFrom s room seat bytes .answer))
   unfolding entriesBy ofTick clientIn isClient answerIf packetFrom refuse observeAll roomAfter applyAll handedBy turnsAway
   packet-from seat bytes vacant e z = refl
-  packet-from seat bytes (holds held) e z = packet-by seat bytes (held .key) held e (sameKey (held .key) c) refl z
+  packet-from seat bytes (holds held) e z = packet-by seat bytes (held .key) held e (sameKey (held .key) c) refl z (isSeated start past (held .key))
 
   -- a tick, refused or not: its one entry
   tick-by : (time number : ℕ) (zero back : Bool) → eqb number 0 ≡ zero → ltb time (room .clock) ≡ back
@@ -483,8 +546,7 @@ module _ (sizes : Sizes) (start : Start) (past : Past) (room : Room) (whole : Wh
       ≡ observed (project c (roomAfter sizes room (outcome room call))) (handed start past c (event room call .sent)) (answerIf (isClient c (maker start past call)) (event room call .answer))
   unfolding entries entriesBy event outcome maker isClient answerIf
   one-call (arrive key) z =
-      rw (handed-law start past room tie c (arriveAt (find (seatOf key) (room .seats)) (find isVacant (room .seats)) key .sent))
-      (arrive-by key (sameKey key c) refl (find (seatOf key) (room .seats)) (find isVacant (room .seats)) refl refl)
+      rw (handed-law start past room tie c (outcome room (arrive key) .sent), seated-found start past room tie key) (arrive-by key (find (seatOf key) (room .seats)) refl)
   one-call (leave seat) z = rw (handed-law start past room tie c (leaveFrom (seatAt room seat) room seat .sent), tie .sits seat) (leave-from seat (seatAt room seat) refl)
   one-call (packetCall seat bytes) z =
       rw (handed-law start past room tie c (packetFrom (seatAt room seat) room seat bytes .sent), tie .sits seat) (packet-from seat bytes (seatAt room seat) refl (rw (tie .sits seat) at z))

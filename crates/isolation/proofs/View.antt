@@ -6,7 +6,7 @@ use mathlib.Core.List.{List, [], _∷_, _++_, map}
 use Prim.Native.Nat.{ℕ, _-_}
 use lib.Dec.{eqb, ltb}
 use lib.ListN.{getD, set, length}
-use Rattle.refusal.specs.declared.Refusal.the-variants.{RoomFull, AlreadySeated, NoSuchRoute, NotConnected}
+use Rattle.refusal.specs.declared.Refusal.the-variants.{RoomFull, NoSuchRoute, NotConnected}
 use Rattle.key.specs.Keys.{sameKey}
 use Rattle.packet_laws.specs.Read.{Read}
 use Rattle.packet_laws.specs.Read as read
@@ -128,11 +128,6 @@ counted seat sent = accepted seat (length (sentBytes sent)) ∷ []
 
 -- ---- C's own calls
 
-unfoldable pub ownArrival : Sizes → Found → Found → Key → View → Observed
-ownArrival sizes (at seat) empty c v = observed v [] (refused AlreadySeated ∷ [])
-ownArrival sizes none none c v = observed v [] (refused RoomFull ∷ [])
-ownArrival sizes none (at seat) c v = observed (setView v seat (ownSeat (newcomer sizes (v .clock) c))) [] (counted seat [])
-
 unfoldable pub noticeByView : Key → View → ℕ → Route → List Sent
 noticeByView c v seat free = []
 noticeByView c v seat (wants wanted) = toOne relay.disconnectNotice (isConnected c v seat wanted)
@@ -145,6 +140,18 @@ unfoldable pub ownLeave : SeatView → Key → View → ℕ → Observed
 ownLeave openSeat c v seat = observed v [] []
 ownLeave (otherSeat key b) c v seat = observed v [] []
 ownLeave (ownSeat held) c v seat = observed (setView v seat openSeat) [] (counted seat (noticesByView c v seat (held .routes)))
+
+-- it takes the lowest open seat of a view, once notices are sent
+unfoldable pub ownTaken : Sizes → Found → Key → View → List Sent → Observed
+ownTaken sizes none c v sent = observed v [] (refused RoomFull ∷ [])
+ownTaken sizes (at seat) c v sent = observed (setView v seat (ownSeat (newcomer sizes (v .clock) c))) [] (counted seat sent)
+
+-- an arrival; where it is seated, it leaves first
+unfoldable pub ownArrival : Sizes → Found → Key → View → Observed
+ownArrival sizes none c v = ownTaken sizes (find isOpen (v .seats)) c v []
+ownArrival sizes (at seat) c v =
+    let left = setView v seat openSeat in
+    ownTaken sizes (find isOpen (left .seats)) c left (noticesByView c v seat (ownRoutes (getD (v .seats) seat openSeat)))
 
 -- a request of C's that is answered, and nothing else happens
 abbrev pub ownAnswer : View → ℕ → ℕ → Key → Observed
@@ -199,7 +206,7 @@ ownPacket (otherSeat key b) c v seat r = observed v [] []
 ownPacket (ownSeat held) c v seat r = ownAct r c v seat held
 
 unfoldable pub ownCall : Sizes → Key → View → Call → Observed
-ownCall sizes c v (arrive key) = ownArrival sizes (find (isHeldBy c c) (v .seats)) (find isOpen (v .seats)) c v
+ownCall sizes c v (arrive key) = ownArrival sizes (find (isHeldBy c c) (v .seats)) c v
 ownCall sizes c v (leave seat) = ownLeave (getD (v .seats) seat openSeat) c v seat
 ownCall sizes c v (packetCall seat bytes) = ownPacket (getD (v .seats) seat openSeat) c v seat (client.relayRead bytes)
 ownCall sizes c v (tick time number) = observed v [] []

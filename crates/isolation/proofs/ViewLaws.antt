@@ -16,9 +16,10 @@ use Rattle.rules.specs.Room.{Sizes, Key, Route, free, wants, Seat, vacant, hold
 use Rattle.rules.specs.Whole.{Whole}
 use Rattle.rules.specs.Call.{Answer, Sent}
 use Rattle.rules.specs.Outcome.{Outcome, refuse, sentBytes, accept, to, roomAfter, joinedBy, peerAt, peerIn, peer, toPeer, tellBoth, tellPeer, tellPeers, leaveFrom}
-use Rattle.rules.specs.Transcript.{Past, Start, isClient}
-use Rattle.rules.specs.After.{clientIn, Tied}
+use Rattle.rules.specs.Transcript.{Past, Start}
+use Rattle.rules.specs.After.{Tied}
 use Rattle.isolation.specs.Record.{handedIf, handed}
+use Rattle.rules.proofs.SeatedLaws.{client-of}
 use Rattle.rules.proofs.FindLaws.{Once, clash, find-hit, once-tail, once-first}
 use Rattle.rules.proofs.Whole.{key-once, wanted-once}
 use Rattle.rules.proofs.PeerLaws.{peer-has}
@@ -154,16 +155,11 @@ unfoldable pub handedBy : Key → Room → List Sent → List (List ℕ)
 handedBy c room [] = []
 handedBy c room (s ∷ rest) = handedIf (seatOf c (seatAt room (s .seat))) (s .bytes) (handedBy c room rest)
 
-pub client-seat : (c : Key) (s : Seat) → isClient c (clientIn s) ≡ seatOf c s
-unfolding isClient clientIn seatOf
-client-seat c vacant = refl
-client-seat c (holds held) = refl
-
 -- the room says of it what has happened says
 pub handed-law : (start : Start) (past : Past) (room : Room) → Tied start past room → (c : Key) (sent : List Sent) → handed start past c sent ≡ handedBy c room sent
 unfolding handed handedBy
 handed-law start past room tie c [] = refl
-handed-law start past room tie c (s ∷ rest) = rw (tie .sits (s .seat), client-seat c (seatAt room (s .seat)), handed-law start past room tie c rest)
+handed-law start past room tie c (s ∷ rest) = rw (tie .sits (s .seat), client-of c (seatAt room (s .seat)), handed-law start past room tie c rest)
 
 pub handed-append : (c : Key) (room : Room) (a b : List Sent) → handedBy c room (a ++ b) ≡ handedBy c room a ++ handedBy c room b
 unfolding handedBy handedIf

@@ -18,7 +18,7 @@ use Rattle.packet_laws.specs.FromClient as client
 use Rattle.rules.specs.Room.{Key, baseSizes, emptyRoom}
 use Rattle.rules.specs.Call.{Call, arrive, leave, packetCall, tick, Answer, accepted, refused}
 use Rattle.rules.specs.History.{Event, transcript, happens}
-use Rattle.rules.specs.Transcript.{Past, Maker, nobody, clientOf, Start, fromEmpty, isAccepted, putOut, maker, stands, isClient}
+use Rattle.rules.specs.Transcript.{Past, Maker, nobody, clientOf, Start, fromEmpty, isAccepted, isSeated, putOut, maker, stands, isClient}
 use Rattle.isolation.specs.Record.{Entry, arrived, departed, own, toC, droppedC, dataForC, ticked, entryIf, byKey, otherPacket, otherCall, ifAccepted, madeBy, ofTick, entriesBy, entries, recordFor, handed, packetsFor, answerIf, answersFor}
 use Rattle.isolation.specs.Relays.{Relay, TakesSteps, Isolates, answersOf, sentOf, allRefused, firstOnly, silent}
 use Rattle.rules.specs.Accepted.{allCounted}
@@ -43,9 +43,9 @@ two-seats : answersOf (happens baseSizes (arrive ka ∷ arrive kb ∷ [])) ≡ a
 unfolding opened recorded answersOf
 two-seats = refl
 
-once-seated : map isAccepted (answersOf (happens baseSizes (arrive ka ∷ arrive ka ∷ []))) ≡ true ∷ false ∷ []
+leaves-once : map isAccepted (answersOf (happens baseSizes (arrive ka ∷ leave 0 ∷ leave 0 ∷ []))) ≡ true ∷ true ∷ false ∷ []
 unfolding opened recorded answersOf
-once-seated = refl
+leaves-once = refl
 
 pong-sent : length (sentOf (drop 1 (happens baseSizes (arrive ka ∷ pingOf 0 ∷ [])))) ≡ 1
 unfolding opened recorded sentOf pingOf
@@ -73,8 +73,10 @@ module _ (relay : Relay) (steps : TakesSteps relay) where
   pub not-idle : (f : Call → Event) → ((calls : List Call) → relay calls ≡ map f calls) → ⊥
   unfolding answersOf
   not-idle f all =
-      let b = isAccepted (f (arrive ka) .answer) in
-      let e : b ∷ b ∷ [] ≡ true ∷ false ∷ [] = ap (λ (l : List Event). map isAccepted (answersOf l)) (sym (all (arrive ka ∷ arrive ka ∷ [])) ∙ steps (arrive ka ∷ arrive ka ∷ [])) ∙ once-seated in
+      let calls = arrive ka ∷ leave 0 ∷ leave 0 ∷ [] in
+      let a = isAccepted (f (arrive ka) .answer) in
+      let b = isAccepted (f (leave 0) .answer) in
+      let e : a ∷ b ∷ b ∷ [] ≡ true ∷ true ∷ false ∷ [] = ap (λ (l : List Event). map isAccepted (answersOf l)) (sym (all calls) ∙ steps calls) ∙ leaves-once in
       true≢false (let z : true ≡ false = cc in z)
 
   -- one that is idle after the first call
@@ -147,13 +149,6 @@ module _ (a : Answer) where
   entry-none true e h = h
   entry-none false e h = refl
 
-  by-key-none : (key : Key) (call : Call) (answer : Answer) → ownAnswers a (byKey key call answer) ≡ []
-  unfolding byKey ownAnswers
-  by-key-none key (arrive k) answer = entry-none (isAccepted answer) (arrived key) refl
-  by-key-none key (leave seat) answer = entry-none (isAccepted answer) (departed key) refl
-  by-key-none key (packetCall seat bytes) answer = refl
-  by-key-none key (tick time number) answer = refl
-
   packet-none : (c key : Key) (call : Call) (names : ℕ → Bool) (r : Read client.FromClient) → ownAnswers a (otherPacket c key call names r) ≡ []
   unfolding otherPacket ownAnswers
   packet-none c key call names (read.packet (client.routingRequest wanted)) = entry-none (sameKey wanted c) (toC key call) refl
@@ -176,12 +171,20 @@ module _ (a : Answer) where
   accepted-none (accepted seat count) es h = h
   accepted-none (refused why) es h = refl
 
-  made-own : (t : Bool) (c key : Key) (e : Event) (names : ℕ → Bool) → ownAnswers a (madeBy t c key e names) ≡ answerIf t a
+  by-key-none : (seated : Bool) (key : Key) (call : Call) (answer : Answer) → ownAnswers a (byKey seated key call answer) ≡ []
+  unfolding byKey ownAnswers
+  by-key-none seated key (arrive k) answer =
+      accepted-none answer _ (own-append a (entryIf seated (departed key)) (arrived key ∷ []) ∙ rw (entry-none seated (departed key) refl))
+  by-key-none seated key (leave seat) answer = accepted-none answer _ refl
+  by-key-none seated key (packetCall seat bytes) answer = refl
+  by-key-none seated key (tick time number) answer = refl
+
+  made-own : (t seated : Bool) (c key : Key) (e : Event) (names : ℕ → Bool) → ownAnswers a (madeBy t seated c key e names) ≡ answerIf t a
   unfolding madeBy answerIf ownAnswers
-  made-own true c key e names = own-append a (byKey key (e .call) (e .answer)) (own (e .call) ∷ []) ∙ rw (by-key-none key (e .call) (e .answer))
-  made-own false c key e names =
-      own-append a (byKey key (e .call) (e .answer)) (ifAccepted (e .answer) (otherCall c key (e .call) names))
-      ∙ rw (by-key-none key (e .call) (e .answer)) (accepted-none (e .answer) _ (other-none c key (e .call) names))
+  made-own true seated c key e names = own-append a (byKey seated key (e .call) (e .answer)) (own (e .call) ∷ []) ∙ rw (by-key-none seated key (e .call) (e .answer))
+  made-own false seated c key e names =
+      own-append a (byKey seated key (e .call) (e .answer)) (ifAccepted (e .answer) (otherCall c key (e .call) names))
+      ∙ rw (by-key-none seated key (e .call) (e .answer)) (accepted-none (e .answer) _ (other-none c key (e .call) names))
 
   tick-none : (call : Call) (out : List Key) → ownAnswers a (ofTick call out) ≡ []
   unfolding ofTick ownAnswers
@@ -193,7 +196,7 @@ module _ (a : Answer) where
   entries-own : (m : Maker) (start : Start) (past : Past) (c : Key) (e : Event) → ownAnswers a (entriesBy m start past c e) ≡ answerIf (isClient c m) a
   unfolding entriesBy isClient answerIf ownAnswers
   entries-own nobody start past c e = tick-none (e .call) (putOut start past (e .call) (e .answer))
-  entries-own (clientOf key) start past c e = made-own (sameKey key c) c key e (λ number. stands start past key number c)
+  entries-own (clientOf key) start past c e = made-own (sameKey key c) (isSeated start past key) c key e (λ number. stands start past key number c)
 
   answers-by-record : (start : Start) (past : Past) (c : Key) (calls : List Call) → answersFor start past c (silent a calls) ≡ ownAnswers a (recordFor start past c (silent a calls))
   unfolding silent answersFor recordFor entries ownAnswers

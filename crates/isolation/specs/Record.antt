@@ -1,7 +1,8 @@
--- The record for a client, what it is handed and what its calls are answered. Document 01, "The record for a client", and for ticks document 02, "Notice dead
--- laptops".
+-- The record for a client, what it is handed and what its calls are answered. Document 01, "The record for a client"; for ticks document 02, "Notice dead laptops",
+-- and for arrivals of seated keys "One call when a laptop comes back".
 use mathlib.Core.Bool.{Bool, true, false, _&&_, cond}
 use mathlib.Core.List.{List, [], _∷_, _++_}
+use mathlib.Core.Path.{_≡_}
 use Prim.Native.Nat.{ℕ}
 use lib.Dec.{eqb}
 use Rattle.key.specs.Keys.{sameKey}
@@ -11,7 +12,7 @@ use Rattle.packet_laws.specs.FromClient as client
 use Rattle.rules.specs.Room.{Key}
 use Rattle.rules.specs.Call.{Call, arrive, leave, packetCall, tick, Answer, accepted, refused, Sent}
 use Rattle.rules.specs.History.{Event}
-use Rattle.rules.specs.Transcript.{Past, Maker, nobody, clientOf, Start, isAccepted, sitter, putOut, maker, numberAnswered, stands, isClient}
+use Rattle.rules.specs.Transcript.{Past, Maker, nobody, clientOf, Start, isAccepted, sitter, isSeated, putOut, maker, numberAnswered, stands, isClient}
 
 pub data Entry : Type 0 where
   -- "every accepted arrival and every departure, by key"; a departure by a tick stands in that tick's entry
@@ -34,12 +35,16 @@ unfoldable pub entryIf : Bool → Entry → List Entry
 entryIf true e = e ∷ []
 entryIf false e = []
 
--- an accepted arrival or a departure of the client `key`
-unfoldable pub byKey : Key → Call → Answer → List Entry
-byKey key (arrive k) answer = entryIf (isAccepted answer) (arrived key)
-byKey key (leave seat) answer = entryIf (isAccepted answer) (departed key)
-byKey key (packetCall seat bytes) answer = []
-byKey key (tick time number) answer = []
+unfoldable pub ifAccepted : Answer → List Entry → List Entry
+ifAccepted (accepted seat count) entries = entries
+ifAccepted (refused why) entries = []
+
+-- an accepted arrival or a departure of the client `key`. Of a client that is seated, document 02: "The departure and arrival both stand in the record for C."
+unfoldable pub byKey : Bool → Key → Call → Answer → List Entry
+byKey seated key (arrive k) answer = ifAccepted answer (entryIf seated (departed key) ++ (arrived key ∷ []))
+byKey seated key (leave seat) answer = ifAccepted answer (departed key ∷ [])
+byKey seated key (packetCall seat bytes) answer = []
+byKey seated key (tick time number) answer = []
 
 -- an accepted packet of another client, `key`
 unfoldable pub otherPacket : Key → Key → Call → (ℕ → Bool) → Read client.FromClient → List Entry
@@ -57,14 +62,10 @@ otherCall c key (leave seat) namesC = []
 otherCall c key (packetCall seat bytes) namesC = otherPacket c key (packetCall seat bytes) namesC (client.relayRead bytes)
 otherCall c key (tick time number) namesC = []
 
-unfoldable pub ifAccepted : Answer → List Entry → List Entry
-ifAccepted (accepted seat count) entries = entries
-ifAccepted (refused why) entries = []
-
 -- "Other clients' refused calls are in no record for C, nor is what any call answers or sends."
-unfoldable pub madeBy : Bool → Key → Key → Event → (ℕ → Bool) → List Entry
-madeBy true c key e namesC = byKey key (e .call) (e .answer) ++ (own (e .call) ∷ [])
-madeBy false c key e namesC = byKey key (e .call) (e .answer) ++ ifAccepted (e .answer) (otherCall c key (e .call) namesC)
+unfoldable pub madeBy : Bool → Bool → Key → Key → Event → (ℕ → Bool) → List Entry
+madeBy true seated c key e namesC = byKey seated key (e .call) (e .answer) ++ (own (e .call) ∷ [])
+madeBy false seated c key e namesC = byKey seated key (e .call) (e .answer) ++ ifAccepted (e .answer) (otherCall c key (e .call) namesC)
 
 -- "each joins every record for C in full": accepted or refused, one entry for each tick, with those whom it puts out; a refused one puts out nobody
 unfoldable pub ofTick : Call → List Key → List Entry
@@ -76,7 +77,7 @@ ofTick (tick time number) out = ticked time number out ∷ []
 -- a tick is nobody's, and so is a call in an empty seat, which adds nothing
 unfoldable pub entriesBy : Maker → Start → Past → Key → Event → List Entry
 entriesBy nobody start past c e = ofTick (e .call) (putOut start past (e .call) (e .answer))
-entriesBy (clientOf key) start past c e = madeBy (sameKey key c) c key e (λ number. stands start past key number c)
+entriesBy (clientOf key) start past c e = madeBy (sameKey key c) (isSeated start past key) c key e (λ number. stands start past key number c)
 
 -- what an event adds to the record for C
 unfoldable pub entries : Start → Past → Key → Event → List Entry
@@ -112,7 +113,7 @@ unfoldable pub handedIf : Bool → List ℕ → List (List ℕ) → List (List �
 handedIf true bytes rest = bytes ∷ rest
 handedIf false bytes rest = rest
 
--- by who sits there before the call. An Arrive sends nothing, so no seat is taken in a call that sends. A Leave empties its seat last. In a tick a record may go
+-- by who sits there before the call. A Leave empties its seat last, and so does an Arrive of a seated key, which takes a seat after that. In a tick a record may go
 -- to a seat that the same tick empties: it is written before that, while who sat there before the tick still does
 unfoldable pub handed : Start → Past → Key → List Sent → List (List ℕ)
 handed start past c [] = []
@@ -131,6 +132,13 @@ answerIf false answer = []
 unfoldable pub answersFor : Start → Past → Key → List Event → List Answer
 answersFor start past c [] = []
 answersFor start past c (e ∷ events) = answerIf (isClient c (maker start past (e .call))) (e .answer) ++ answersFor start (e ∷ past) c events
+
+-- ---- two courses of events, each after its own past, that are the same for C: its record, what it is handed and what its calls are answered
+
+pub record SameFor (c : Key) (start₁ : Start) (past₁ : Past) (events₁ : List Event) (start₂ : Start) (past₂ : Past) (events₂ : List Event) : Type 0 where
+  pub records : recordFor start₁ past₁ c events₁ ≡ recordFor start₂ past₂ c events₂
+  pub packets : packetsFor start₁ past₁ c events₁ ≡ packetsFor start₂ past₂ c events₂
+  pub answers : answersFor start₁ past₁ c events₁ ≡ answersFor start₂ past₂ c events₂
 
 -- ---- the condition on 0, which is demand 3's and not document 01's. Demand 3: "Suppose their records for C, listed in document 01, are equal, and neither
 -- history answers another client's request for C with 0."

@@ -6,6 +6,7 @@ use Prim.Native.Nat.{ℕ}
 use native.Mathlib.Omega.{arith}
 use lib.ListN.{length}
 use Rattle.refusal.specs.declared.Refusal.{Refusal}
+use Rattle.refusal.specs.Numbers.{isRetired}
 use Rattle.refusal.specs.declared.Refusal.the-variants.{PacketSize, UnexpectedKind, WrongLength, ZeroPing}
 use Rattle.packet_laws.specs.Read.{Read, packet, refused, check}
 use Rattle.packet_laws.specs.Table.{kindOf, bodyOf, sizeRight, lengthRight, pingRight, checked}
@@ -76,3 +77,20 @@ pub check-taken : {A : Type 0} (t : Bool) (why : Refusal) (after : Read A) (p : 
 unfolding check
 check-taken true why after p e = (refl, e)
 check-taken false why after p e = absurd (never-both (refused why) p why e refl)
+
+-- document 02: "2 is retired": no check gives it
+pub checked-given : {A : Type 0} (takes : ℕ → Bool) (bytes : List ℕ) (p : A) (why : Refusal) → checked takes bytes (packet p) ≡ refused why → isRetired why ≡ false
+unfolding checked check
+checked-given {A = A} takes bytes p why =
+    go (sizeRight (length bytes)) (takes (kindOf bytes)) (lengthRight (kindOf bytes) (length bytes)) (pingRight (kindOf bytes) (bodyOf bytes))
+  where
+    named : (w : Refusal) → isRetired w ≡ false → _≡_ {A = Read A} (refused w) (refused why) → isRetired why ≡ false
+    named w h e = let q : w ≡ why = cc in rw (← q) h
+
+    go : (size kind long ping : Bool)
+        → check size PacketSize (check kind UnexpectedKind (check long WrongLength (check ping ZeroPing (packet p)))) ≡ refused why → isRetired why ≡ false
+    go false kind long ping e = named PacketSize refl e
+    go true false long ping e = named UnexpectedKind refl e
+    go true true false ping e = named WrongLength refl e
+    go true true true false e = named ZeroPing refl e
+    go true true true true e = absurd (let z : _≡_ {A = ℕ} 0 1 = cc in omega arith)

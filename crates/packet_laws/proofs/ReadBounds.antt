@@ -10,11 +10,13 @@ use lib.ListN.{length, take, length-drop}
 use lib.Seq.{length-take-le}
 use borrow.Author.Tests.{eqb-false}
 use Rattle.wire.specs.Numbers.{numberOf}
-use Rattle.packet_laws.specs.Read.{packet}
+use Rattle.refusal.specs.declared.Refusal.{Refusal}
+use Rattle.refusal.specs.Numbers.{isRetired}
+use Rattle.packet_laws.specs.Read.{packet, refused}
 use Rattle.packet_laws.specs.Table.{kindOf, bodyOf, relayTakes, pingRight}
 use Rattle.packet_laws.specs.FromClient.{FromClient, routingRequest, fromClient, relayRead, Within}
 use Rattle.packet_laws.proofs.KindLaws.{from-client-data, size-bounds, length-request, length-oob-send, length-two}
-use Rattle.packet_laws.proofs.CheckLaws.{Passes, Checks, pass, fail, checks, never-both}
+use Rattle.packet_laws.proofs.CheckLaws.{Passes, Checks, pass, fail, checks, never-both, checked-given}
 use Rattle.packet_laws.proofs.ByteLaws.{length-body}
 use Rattle.packet_laws.proofs.RelayKinds.{RelayKind, is-request, is-drop, is-ping, is-pong, is-oob, is-data, relay-kind, relay-takes}
 
@@ -60,3 +62,8 @@ read-within bytes p e = go (checks relayTakes bytes (packet (fromClient (kindOf 
 pub request-key-long : (bytes key : List ℕ) → relayRead bytes ≡ packet (routingRequest key) → length key ≡ 32
 unfolding Within
 request-key-long bytes key e = read-within bytes (routingRequest key) e
+
+-- and what it refuses is never refused with 2
+pub read-given : (bytes : List ℕ) (why : Refusal) → relayRead bytes ≡ refused why → isRetired why ≡ false
+unfolding relayRead
+read-given bytes why e = checked-given relayTakes bytes (fromClient (kindOf bytes) (bodyOf bytes)) why e

@@ -1,5 +1,5 @@
 -- Document 01, "Refusal numbers": the table, row by row, with the rows of document 02 behind it, and the table looked up by number.
-use mathlib.Core.Bool.{cond}
+use mathlib.Core.Bool.{Bool, cond}
 use mathlib.Core.List.{List, [], _∷_}
 use mathlib.Core.Path.{_≡_}
 use Prim.Native.Nat.{ℕ, _≤_}
@@ -8,9 +8,9 @@ use Rattle.refusal.specs.declared.Refusal.{Refusal}
 use Rattle.refusal.specs.declared.Refusal.the-variants.{RoomFull, AlreadySeated, NotSeated, PacketSize, UnexpectedKind, WrongLength, ZeroPing, NoSuchRoute, NotConnected, OutputTooShort, RoomNotWhole, ListSize, KeyNotHeld, ListNotWhole, UnknownFamily, NodeCutShort, BytesAfterNodes, BadFrame, ClockBack}
 
 abbrev pub refusalNumber : Refusal → ℕ
--- "arrival with all 40 seats taken"
+-- "arrival with all 40 seats taken"; document 02: "1 is given only to a key not seated"
 refusalNumber RoomFull = 1
--- "arrival of a key already seated"
+-- "arrival of a key already seated"; document 02: "2 is retired": no call gives it any more, and its number stays reserved
 refusalNumber AlreadySeated = 2
 -- "seat above 39, or empty"; where a key sits is asked for, also a key that sits nowhere
 refusalNumber NotSeated = 3
@@ -27,7 +27,7 @@ refusalNumber NoSuchRoute = 8
 -- "data on a waiting route"
 refusalNumber NotConnected = 9
 -- "lent output too short: under 2,048 for packet and leave, under the exact length for a writer"; document 02: "10 for a keep that is too short",
--- "10 (tick output under 5,120)"
+-- "10 (tick output under 5,120)", "arrival checks 10 (2,048)"
 refusalNumber OutputTooShort = 10
 -- "room not whole"
 refusalNumber RoomNotWhole = 11
@@ -48,6 +48,10 @@ refusalNumber BytesAfterNodes = 17
 refusalNumber BadFrame = 18
 -- document 02: "19 for a clock that goes back"
 refusalNumber ClockBack = 19
+
+-- "2 is retired"
+abbrev pub isRetired : Refusal → Bool
+isRetired why = eqb (refusalNumber why) 2
 
 -- every refusal
 unfoldable pub refusals : List Refusal

@@ -6,6 +6,7 @@ ghost use Rattle.refusal.specs.Numbers.{refusalNumber};
 
 pub enum Refusal {
     RoomFull,
+    // Retired: never given. Its number stays reserved.
     AlreadySeated,
     NotSeated,
     PacketSize,

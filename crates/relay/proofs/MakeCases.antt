@@ -1,17 +1,15 @@
 -- A stored call, made: what was read at the front of stored calls tells the call, and its step is the call's. Assumes nothing.
 use mathlib.Core.Path.{_≡_, refl, sym, ap, subst, _∙_}
 use mathlib.Core.Bool.{false≢true}
-use mathlib.Core.List.{List, [], _++_}
+use mathlib.Core.List.{List}
 use Prim.Native.Nat.{ℕ, _+_, _-_, _≤_}
 use native.Mathlib.Omega.{arith}
 use lib.ListN.{length, getD, take, drop}
 use lib.Seq.{take-all}
 use borrow.Author.Tests.{le-leb}
 use Rattle.key.specs.Keys.{keyOf}
-use Rattle.rules.specs.Room.{Key, Room}
-use Rattle.rules.specs.Call.{Call, arrive, leave, packetCall, tick, Answer, Sent}
-use Rattle.rules.specs.Outcome.{outcome, sentBytes}
-use Rattle.rules.proofs.QuietArrival.{arrive-sends-nothing}
+use Rattle.rules.specs.Call.{Call, arrive, leave, packetCall, tick, Answer}
+use Rattle.rules.specs.Outcome.{outcome}
 use Rattle.seat.specs.declared.Seat.{Seat}
 use Rattle.room_laws.specs.View.{viewRoom}
 use Rattle.stored.specs.declared.StoredCall.{StoredCall}
@@ -122,12 +120,6 @@ module _ (stored : List ℕ) where
 module _ (s n : ℕ) (stored b out : List ℕ) (given : Answer) (b′ out′ : List ℕ) where
   pub makes : (c : Call) → firstCall stored ≡ call c → Leaves s n (outcome (viewRoom s n b) c) b out given b′ out′ → Makes s n stored b out given b′ out′
   makes c q l d e = subst (λ (x : Call). Leaves s n (outcome (viewRoom s n b) x) b out given b′ out′) (same-call c d (sym q ∙ e)) l
-
--- an arrival is lent no output, and leaves any other as it was
-pub quiet-arrival : (s n : ℕ) (room : Room) (key : Key) (b out : List ℕ) (given : Answer) (b′ : List ℕ)
-    → Leaves s n (outcome room (arrive key)) b [] given b′ [] → Leaves s n (outcome room (arrive key)) b out given b′ out
-quiet-arrival s n room key b out given b′ l =
-    record { answers = l .answers; stores = l .stores; writes = sym (ap (λ (x : List Sent). sentBytes x ++ drop (length (sentBytes x)) out) (arrive-sends-nothing room key) ∙ unfold sentBytes in refl) }
 
 -- the key that is read in the part lent
 pub key-read : (stored key : List ℕ) → length (take 32 (drop 4 stored)) ≡ 32 → key ≡ keyOf (take (36 - 4) (drop 4 stored)) → key ≡ take 32 (drop 4 stored)

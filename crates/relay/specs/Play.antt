@@ -38,9 +38,9 @@ pub data Next : Type 0 where
   stops : Stop → Next
   plays : Call → Next
 
--- a call is played with output for its head and for what it needs; before an arrival, which writes nothing, as much is asked as before a packet
+-- a call is played with output for its head and for what it needs
 abbrev pub leastSpace : Call → ℕ
-leastSpace (arrive key) = 4 + 2048
+leastSpace (arrive key) = 4 + needed (arrive key)
 leastSpace (leave seat) = 4 + needed (leave seat)
 leastSpace (packetCall seat bytes) = 4 + needed (packetCall seat bytes)
 -- a tick has no stored form: this number is never used

@@ -12,20 +12,23 @@ use room::Room;
 use room::whole;
 use seat::Seat;
 
-// "lent output too short: under 2,048 for packet and leave".
+// "lent output too short: under 2,048 for packet and leave"; document 02: "arrival checks 10 (2,048)".
 pub const LEAST_OUTPUT: usize = 2048;
 
 // Document 02: "10 (tick output under 5,120)".
 pub const LEAST_TICK_OUTPUT: usize = 5120;
 
-// A key arrives: 11, 2, 1.
-pub fn arrive(memory: &mut [u8], key: Key) -> Answer
-    ensures { λ r. ⌜ Arrives 40 32 (key .0) (now (memory .entry)) (now (memory .exit)) (answerOf r) ⌝ }
+// A key arrives; one that is seated leaves first: 10, 11, 1.
+pub fn arrive(memory: &mut [u8], key: Key, out: &mut [u8]) -> Answer
+    ensures { λ r. ⌜ Arrives 40 32 (key .0) (now (memory .entry)) (now (out .entry)) (now (memory .exit)) (now (out .exit)) (answerOf r) ⌝ }
 {
+    if out.len() < LEAST_OUTPUT {
+        return Answer::Refused(Refusal::OutputTooShort);
+    }
     if !whole::is_whole(memory, Room::SEATS, Room::NUMBERS) {
         return Answer::Refused(Refusal::RoomNotWhole);
     }
-    arrive::step(memory, Room::SEATS, Room::NUMBERS, key)
+    arrive::step(memory, Room::SEATS, Room::NUMBERS, key, out)
 }
 
 // The client in a seat leaves: 10, 11, 3.

@@ -73,6 +73,7 @@ fn make(
             seats,
             numbers,
             Key::read(&calls[stored::HEAD..KEY_END]),
+            out,
         ),
         StoredCall::Leave(seat) => leave::step(memory, seats, numbers, seat, out),
         StoredCall::Packet(seat, size) => {

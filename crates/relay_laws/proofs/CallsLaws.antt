@@ -6,7 +6,6 @@ use Prim.Native.Nat.{ℕ, _≤_, _<_}
 use lib.Dec.{leb}
 use lib.ListN.{length}
 use borrow.Author.Tests.{le-leb, lt-leb}
-use Rattle.refusal.specs.declared.Refusal.{Refusal}
 use Rattle.refusal.specs.declared.Refusal.the-variants.{OutputTooShort, RoomNotWhole}
 use Rattle.rules.specs.Call.{Call, Answer, refused, needed}
 use Rattle.rules.specs.Outcome.{Outcome, refuse, outcome}
@@ -43,16 +42,16 @@ by-length P space call o long short = go (leb (needed call) space)
     go true = long
     go false = short
 
--- what holds of the step and of every refusal holds of the call on lent memory
-pub by-call : (P : Outcome → Type 0) (s n : ℕ) (b out : List ℕ) (call : Call) → P (outcome (viewRoom s n b) call) → ((why : Refusal) → P (refuse why))
+-- what holds of the step and of the two refusals before it holds of the call on lent memory
+pub by-call : (P : Outcome → Type 0) (s n : ℕ) (b out : List ℕ) (call : Call) → P (outcome (viewRoom s n b) call) → P (refuse RoomNotWhole) → P (refuse OutputTooShort)
     → P (withOutput s n b out call)
 unfolding withOutput tested
-by-call P s n b out call step refusals = by-length P (length out) call (tested s n b call) (go (roomWhole s n b)) (refusals OutputTooShort)
+by-call P s n b out call step broken short = by-length P (length out) call (tested s n b call) (go (roomWhole s n b)) short
   where
     go : (t : Bool) → P (cond t (outcome (viewRoom s n b) call) (refuse RoomNotWhole))
     go true = step
-    go false = refusals RoomNotWhole
+    go false = broken
 
 -- so it is refused or accepted
 pub call-made : (s n : ℕ) (b out : List ℕ) (call : Call) → RefusedOrAccepted (withOutput s n b out call)
-call-made s n b out call = by-call RefusedOrAccepted s n b out call (outcome-made (viewRoom s n b) call) (λ why. refusal why refl)
+call-made s n b out call = by-call RefusedOrAccepted s n b out call (outcome-made (viewRoom s n b) call) (refusal RoomNotWhole refl refl) (refusal OutputTooShort refl refl)

@@ -30,5 +30,5 @@ module _ (s n : ℕ) (b out : List ℕ) where
 -- an answer counts the bytes sent
 pub made-written : (o : Outcome) → RefusedOrAccepted o → written (o .answer) ≡ length (sentBytes (o .sent))
 unfolding written refuse accept sentBytes
-made-written o (refusal why e) = rw e
+made-written o (refusal why given e) = rw e
 made-written o (acceptance seat changes sent e) = rw e

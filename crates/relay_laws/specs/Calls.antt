@@ -1,8 +1,9 @@
 -- What each public call does: one relation between what it is given (the call, the bytes of the room, the output) and what it leaves (the bytes of the room,
 -- the output, its answer). The relation is named here once. It is the contract of the function in `relay`; the contract of the export is the same relation with
--- the answer as one number (`banavoge_laws`, `Answers.antt`); and a step of a history is made of that (`histories`, `History.antt`).
+-- the answer as a number, and of an Arrive a number and a seat (`banavoge_laws`, `Answers.antt`, `RelayCalls.antt`); and a step of a history is made of that
+-- (`histories`, `History.antt`).
 use mathlib.Core.Bool.{cond}
-use mathlib.Core.List.{List, [], _++_}
+use mathlib.Core.List.{List, _++_}
 use mathlib.Core.Path.{_≡_}
 use Prim.Native.Nat.{ℕ}
 use lib.Dec.{leb}
@@ -26,8 +27,8 @@ pub record Leaves (s n : ℕ) (o : Outcome) (b out : List ℕ) (given : rules.An
 unfoldable pub tested : ℕ → ℕ → List ℕ → rules.Call → Outcome
 tested s n b call = cond (roomWhole s n b) (outcome (viewRoom s n b) call) (refuse RoomNotWhole)
 
--- "Order for a packet call: 10, 11, 3, ..", "Leave: 10, 11, 3", and of a tick, document 02: "10 (tick output under 5,120), 11, 7, 19 for a clock that goes
--- back": 10 comes first
+-- "Order for a packet call: 10, 11, 3, ..", "Leave: 10, 11, 3", and document 02: of a tick "10 (tick output under 5,120), 11, 7, 19 for a clock that goes back",
+-- and "arrival checks 10 (2,048), 11, 1": 10 comes first
 unfoldable pub ifLong : ℕ → rules.Call → Outcome → Outcome
 ifLong space call o = cond (leb (rules.needed call) space) o (refuse OutputTooShort)
 
@@ -37,10 +38,10 @@ withOutput s n b out call = ifLong (length out) call (tested s n b call)
 
 -- ---- the public calls, on the bytes b of a room, with the output `out`: they leave b′ and out′, and answer `given`
 
--- Arrive(key). "A key is 32 bytes." It is lent no output
-pub record Arrives (s n : ℕ) (key : Key) (b b′ : List ℕ) (given : rules.Answer) : Type 0 where
+-- Arrive(key). "A key is 32 bytes."
+pub record Arrives (s n : ℕ) (key : Key) (b out b′ out′ : List ℕ) (given : rules.Answer) : Type 0 where
   pub long : length key ≡ 32
-  pub leaves : Leaves s n (withOutput s n b [] (rules.arrive key)) b [] given b′ []
+  pub leaves : Leaves s n (withOutput s n b out (rules.arrive key)) b out given b′ out′
 
 -- Leave(seat)
 abbrev pub Departs : (s n seat : ℕ) (b out b′ out′ : List ℕ) (given : rules.Answer) → Type 0

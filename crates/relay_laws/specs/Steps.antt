@@ -1,12 +1,14 @@
--- Steps that make a part of a call at a place of the output: a departure, the departures and the pings of a tick. Only private functions cite them.
+-- Steps that make a part of a call at a place of the output: a departure, a seat taken, the departures and the pings of a tick. Only private functions cite them.
 use mathlib.Core.Bool.{Bool, false, cond}
 use mathlib.Core.List.{List, [], _∷_}
 use mathlib.Core.Path.{_≡_}
 use Prim.Native.Nat.{ℕ, _+_, _-_, _≤_}
 use lib.Dec.{leb, ltb}
 use lib.ListN.{length}
-use Rattle.rules.specs.Room.{Key, seatAt}
-use Rattle.rules.specs.Outcome.{Outcome, sentBytes, accept, tellPeers, leaveFrom, isOverdue, isDue, leaveEach, pingEach, leavers, dueSeats}
+use Rattle.rules.specs.Room.{Key, Found, seatAt, find, seatOf, isVacant}
+use Rattle.rules.specs.Room as rules
+use Rattle.rules.specs.Call.{Answer, accepted, refused}
+use Rattle.rules.specs.Outcome.{Outcome, sentBytes, accept, tellPeers, leaveFrom, takeSeat, isOverdue, isDue, leaveEach, pingEach, leavers, dueSeats}
 use Rattle.room_laws.specs.Layout.{routesTable}
 use Rattle.room_laws.specs.View.{viewRoom, viewRoutes}
 use Rattle.room_laws.specs.Store.{storeAll}
@@ -28,6 +30,26 @@ departure s n b i = leaveFrom (seatAt (viewRoom s n b) i) (viewRoom s n b) i
 
 abbrev pub LeaveFits : ℕ → ℕ → List ℕ → ℕ → List ℕ → ℕ → Type 0
 LeaveFits s n b i out at = at + length (sentBytes (departure s n b i .sent)) + 5 ≤ length out
+
+-- a departure of the client with a key, if it is seated
+unfoldable pub departureFrom : Found → ℕ → ℕ → List ℕ → Outcome
+departureFrom rules.none s n b = accept 0 [] []
+departureFrom (rules.at seat) s n b = departure s n b seat
+
+abbrev pub departureOf : ℕ → ℕ → List ℕ → Key → Outcome
+departureOf s n b key = departureFrom (find (seatOf key) (viewRoom s n b .seats)) s n b
+
+-- a key that sits nowhere takes the lowest empty seat of a room, once the call has written so many bytes: the answer counts them
+unfoldable pub countingAll : ℕ → Answer → Answer
+countingAll written (accepted seat count) = accepted seat written
+countingAll written (refused why) = refused why
+
+abbrev pub seatTakenIn : ℕ → ℕ → List ℕ → Key → Outcome
+seatTakenIn s n b key = takeSeat (find isVacant (viewRoom s n b .seats)) key
+
+pub record TakesSeat (s n : ℕ) (key : Key) (b : List ℕ) (written : ℕ) (given : Answer) (b′ : List ℕ) : Type 0 where
+  pub answers : given ≡ countingAll written (seatTakenIn s n b key .answer)
+  pub stores : b′ ≡ storeAll s n b (seatTakenIn s n b key .changes)
 
 -- a time that is not before the clock
 abbrev pub NotBefore : ℕ → ℕ → List ℕ → ℕ → Type 0

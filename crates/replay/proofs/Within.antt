@@ -1,13 +1,15 @@
 -- What a call's answer counts lies within the output that it was lent, and what a stored call takes lies within the bytes that it was read from. Assumes
 -- nothing.
-use mathlib.Core.Path.{_≡_, refl, ap, _∙_}
+use mathlib.Core.Path.{_≡_, refl, ap, subst, _∙_}
 use mathlib.Core.List.{List}
 use Prim.Native.Nat.{ℕ, _≤_}
 use native.Mathlib.Omega.{arith}
 use lib.ListN.{length, drop, length-append}
 use Rattle.rules.specs.Call.{Call, arrive, leave, packetCall, tick, Answer}
 use Rattle.rules.specs.Outcome.{sentBytes}
-use Rattle.relay_laws.specs.Calls.{Leaves, withOutput, written}
+use Rattle.seat.specs.declared.Seat.{Seat}
+use Rattle.records.specs.declared.Answer as answer
+use Rattle.relay_laws.specs.Calls.{answerOf, Leaves, withOutput, written}
 use Rattle.relay_laws.proofs.CallsLaws.{call-made}
 use Rattle.relay_laws.proofs.OutcomeLeaves.{made-written}
 use Rattle.stored.specs.declared.StoredCall.{StoredCall}
@@ -25,6 +27,13 @@ count-within s n b out c given b′ out′ l =
     let e = ap written (l .answers) ∙ made-written o (call-made s n b out c) in
     let w = ap length (l .writes) ∙ length-append (sentBytes (o .sent)) (drop (length (sentBytes (o .sent))) out) in
     omega arith
+
+-- the same of an accepted answer of the code
+pub accepted-within : (s n : ℕ) (b out : List ℕ) (c : Call) (given : answer.Answer) (b′ out′ : List ℕ) → Leaves s n (withOutput s n b out c) b out (answerOf given) b′ out′
+    → (seat : Seat) (count : ℕ) → given ≡ answer.the-variants.Accepted seat count → count ≤ length out′
+unfolding written answerOf
+accepted-within s n b out c given b′ out′ l seat count e =
+    subst (λ (x : answer.Answer). written (answerOf x) ≤ length out′) e (count-within s n b out c (answerOf given) b′ out′ l)
 
 -- ---- a stored call and the input
 

@@ -22,13 +22,19 @@ fn tell_refused(why: Refusal) {
 
 // The count of bytes written, and the records that they are. Whom these name is looked up in the room after the call: only clients that are seated
 // then are sent anything.
+fn tell_written(memory: &[u8], count: usize, out: &[u8])
+    requires { ⌜ count ≤ length (now out) ⌝ }
+{
+    say::bytes(count);
+    say::words(b"\n");
+    handed::tell_all(memory, &out[0..count]);
+}
+
 fn tell_accepted(memory: &[u8], count: usize, out: &[u8])
     requires { ⌜ count ≤ length (now out) ⌝ }
 {
     say::words(b"  accepted: ");
-    say::bytes(count);
-    say::words(b"\n");
-    handed::tell_all(memory, &out[0..count]);
+    tell_written(memory, count, out);
 }
 
 // The answer to a leave or a packet.
@@ -41,15 +47,17 @@ fn tell_answer(memory: &[u8], answer: Answer, out: &[u8])
     }
 }
 
-// "Arrive(key) takes the lowest empty seat and answers with it. It writes nothing."
+// "Arrive now has output and answers its byte count too.": the seat, and then as of every call.
 fn arrive(memory: &mut [u8], key: Key) {
     say::key(key);
     say::words(b": arrives\n");
-    match calls::arrive(memory, key) {
-        Answer::Accepted(seat, _) => {
+    let mut out = [0u8; calls::LEAST_OUTPUT];
+    match calls::arrive(memory, key, &mut out) {
+        Answer::Accepted(seat, count) => {
             say::words(b"  accepted: ");
             who::tell_seat(seat);
-            say::words(b"\n");
+            say::words(b", ");
+            tell_written(memory, count, &out);
         }
         Answer::Refused(why) => tell_refused(why),
     }

@@ -13,11 +13,12 @@ use Rattle.packet_laws.specs.Read.{Read}
 use Rattle.packet_laws.specs.Read as read
 use Rattle.packet_laws.specs.FromClient as client
 use Rattle.packet_laws.proofs.ReadBounds.{request-key-long}
-use Rattle.rules.specs.Room.{Key, Route, free, wants, Held, Seat, vacant, holds, Room, Found, none, at, find, seatOf, isVacant, routeTo, isFree, seatAt, routeAt, Peer, alone, joined, sizesOf}
+use Rattle.rules.specs.Room.{Key, Route, free, wants, Held, Seat, vacant, holds, Room, Found, none, at, find, seatOf, isVacant, routeTo, isFree, seatAt, routeAt, Peer, alone, joined, setSeat, sizesOf}
 use Rattle.rules.specs.Whole.{Whole, ShortKeys}
 use Rattle.rules.specs.Call.{Call, arrive, leave, packetCall, tick, FieldsFit, needed}
-use Rattle.rules.specs.Outcome.{refuse, accept, sentBytes, roomAfter, peer, arriveAt, leaveFrom, requestAt, dropAt, oobTo, carryTo, dataAt, pongAt, act, actOn, packetFrom, outcome}
+use Rattle.rules.specs.Outcome.{refuse, accept, sentBytes, roomAfter, peer, apply, takeSeat, leaveFrom, requestAt, dropAt, oobTo, carryTo, dataAt, pongAt, act, actOn, packetFrom, outcome}
 use Rattle.rules.proofs.FindLaws.{find-hit, find-within, wanted-place}
+use Rattle.rules.proofs.ComesBack.{arrives-new, sits-there, some-empty, comes-back-to, sits-nowhere, left-whole}
 use Rattle.rules.proofs.WithinOutput.{sent-within}
 use Rattle.table_laws.specs.Table.{recordAt}
 use Rattle.room_laws.specs.Layout.{keyBytes, seatBytes, seatTable}
@@ -41,12 +42,11 @@ is-free free h = refl
 is-free (wants k) h = absurd (false≢true h)
 
 module _ (s n : ℕ) (room : Room) (whole : Whole (sizesOf s n) room) where
-  arrive-fits : (key : Key) → length key ≡ 32 → (seated empty : Found) → find (seatOf key) (room .seats) ≡ seated → find isVacant (room .seats) ≡ empty
-      → FitAll s n room (arriveAt seated empty key .changes)
-  unfolding arriveAt refuse accept
-  arrive-fits key l (at i) empty e d = tt
-  arrive-fits key l none none e d = tt
-  arrive-fits key l none (at seat) e d =
+  take-fits : (key : Key) → length key ≡ 32 → (lowest : Found) → find (seatOf key) (room .seats) ≡ none → find isVacant (room .seats) ≡ lowest
+      → FitAll s n room (takeSeat lowest key .changes)
+  unfolding takeSeat refuse accept
+  take-fits key l none e d = tt
+  take-fits key l (at seat) e d =
       let w = find-within isVacant (room .seats) seat d in
       let q = whole .seats in
       let below : seat < s = omega arith in
@@ -115,12 +115,28 @@ module _ (s n : ℕ) (room : Room) (whole : Whole (sizesOf s n) room) where
   packet-fits seat bytes vacant e = tt
   packet-fits seat bytes (holds held) e = read-fits seat held e bytes (client.relayRead bytes) refl
 
+-- a seated key leaves, and takes a seat of the room that it has left
+module _ (s n : ℕ) (room : Room) (whole : Whole (sizesOf s n) room) where
+  back-fits : (key : Key) → length key ≡ 32 → (seat : ℕ) → find (seatOf key) (room .seats) ≡ at seat → FitAll s n room (outcome room (arrive key) .changes)
+  unfolding takeSeat accept apply
+  back-fits key l seat e =
+      let low = some-empty room key seat e in
+      let there = sits-there room key seat e in
+      rw (comes-back-to room key seat e (low .place) (low .lowest)) (
+        empties there,
+        take-fits s n (setSeat room seat vacant) (left-whole room key seat e (sizesOf s n) whole) key l (at (low .place)) (sits-nowhere room key seat e (sizesOf s n) whole) (low .lowest),
+      )
+
+  arrive-fits : (key : Key) → length key ≡ 32 → (f : Found) → find (seatOf key) (room .seats) ≡ f → FitAll s n room (outcome room (arrive key) .changes)
+  arrive-fits key l none e = rw (arrives-new room key e) (take-fits s n room whole key l (find isVacant (room .seats)) e refl)
+  arrive-fits key l (at seat) e = back-fits key l seat e
+
   -- what a call makes of a whole room fits it
   pub outcome-fits : (call : Call) → FieldsFit call → FitAll s n room (outcome room call .changes)
   unfolding outcome
-  outcome-fits (arrive key) l = arrive-fits key l (find (seatOf key) (room .seats)) (find isVacant (room .seats)) refl refl
-  outcome-fits (leave seat) l = leave-fits seat (seatAt room seat) refl
-  outcome-fits (packetCall seat bytes) l = packet-fits seat bytes (seatAt room seat) refl
+  outcome-fits (arrive key) l = arrive-fits key l (find (seatOf key) (room .seats)) refl
+  outcome-fits (leave seat) l = leave-fits s n room whole seat (seatAt room seat) refl
+  outcome-fits (packetCall seat bytes) l = packet-fits s n room whole seat bytes (seatAt room seat) refl
   outcome-fits (tick time number) l = tick-fits s n room time number (l .0) (l .1) (eqb number 0) (ltb time (room .clock)) refl
 
 -- THE LAW: a call's changes stored in whole bytes are the room that the rules leave, whole, and the memory keeps its length

@@ -42,8 +42,12 @@ pong seat n = packetCall seat (5 ∷ (replicate 7 0 ++ (n ∷ [])))
 unfoldable pub ping : ℕ → ℕ → Call
 ping seat n = packetCall seat (4 ∷ (replicate 7 0 ++ (n ∷ [])))
 
+-- an empty packet shows whether a seat holds a client: 4 from one that does, 3 from an empty one
+unfoldable pub probe : ℕ → Call
+probe seat = packetCall seat []
+
 unfoldable pub computed : Unit {0}
-unfolding opened show showAll took gets ask shows quiet pingTo lost pong ping
+unfolding opened show showAll took gets ask shows quiet pingTo lost pong ping probe
 computed = tt
 
 -- ---- "Refusals: 10 (tick output under 5,120), 11, 7, 19 for a clock that goes back."
@@ -62,7 +66,7 @@ unfolding computed
 refused-keeps-clock = refl
 
 -- and pings nobody, and puts nobody out
-pub refused-does-nothing : drop 1 (shows (arrive ka ∷ tick 30 0 ∷ tick 30 7 ∷ tick 40 0 ∷ arrive ka ∷ [])) ≡ gets 7 ∷ wrote 0 12 (pingTo 0 7) ∷ gets 7 ∷ gets 2 ∷ []
+pub refused-does-nothing : drop 1 (shows (arrive ka ∷ tick 30 0 ∷ tick 30 7 ∷ tick 40 0 ∷ probe 0 ∷ [])) ≡ gets 7 ∷ wrote 0 12 (pingTo 0 7) ∷ gets 7 ∷ gets 4 ∷ []
 unfolding computed
 refused-does-nothing = refl
 
@@ -85,8 +89,8 @@ arrival-time = refl
 
 -- ---- "whose ping has stood unanswered for 10 seconds or more leaves"
 
--- not at 39, and it is not pinged again then: KA is seated, 2. At 40 it is gone: its seat is empty, 3
-pub gone-at-10 : drop 2 (shows (arrive ka ∷ tick 30 7 ∷ tick 39 8 ∷ arrive ka ∷ tick 40 9 ∷ leave 0 ∷ [])) ≡ quiet ∷ gets 2 ∷ quiet ∷ gets 3 ∷ []
+-- not at 39, and it is not pinged again then: KA is seated, 4. At 40 it is gone: its seat is empty, 3
+pub gone-at-10 : drop 2 (shows (arrive ka ∷ tick 30 7 ∷ tick 39 8 ∷ probe 0 ∷ tick 40 9 ∷ leave 0 ∷ [])) ≡ quiet ∷ gets 4 ∷ quiet ∷ gets 3 ∷ []
 unfolding computed
 gone-at-10 = refl
 
@@ -103,8 +107,8 @@ gone-not-pinged = refl
 -- ---- "A pong with the outstanding number clears it; other pongs do nothing."
 
 -- the pong at 35 answers the ping of 30. It does not move the time: the next ping is at 60, and not at 59
-pub answered : drop 2 (shows (arrive ka ∷ tick 30 7 ∷ tick 35 1 ∷ pong 0 7 ∷ tick 45 1 ∷ arrive ka ∷ tick 59 8 ∷ tick 60 9 ∷ []))
-    ≡ quiet ∷ wrote 0 0 [] ∷ quiet ∷ gets 2 ∷ quiet ∷ wrote 0 12 (pingTo 0 9) ∷ []
+pub answered : drop 2 (shows (arrive ka ∷ tick 30 7 ∷ tick 35 1 ∷ pong 0 7 ∷ tick 45 1 ∷ probe 0 ∷ tick 59 8 ∷ tick 60 9 ∷ []))
+    ≡ quiet ∷ wrote 0 0 [] ∷ quiet ∷ gets 4 ∷ quiet ∷ wrote 0 12 (pingTo 0 9) ∷ []
 unfolding computed
 answered = refl
 
@@ -131,7 +135,7 @@ unfolding computed
 other-packets = refl
 
 -- one client's pong does not answer another's ping
-pub anothers-pong : drop 3 (shows (arrive ka ∷ arrive kb ∷ tick 30 7 ∷ pong 1 7 ∷ tick 40 8 ∷ leave 0 ∷ arrive kb ∷ [])) ≡ wrote 1 0 [] ∷ quiet ∷ gets 3 ∷ gets 2 ∷ []
+pub anothers-pong : drop 3 (shows (arrive ka ∷ arrive kb ∷ tick 30 7 ∷ pong 1 7 ∷ tick 40 8 ∷ leave 0 ∷ probe 1 ∷ [])) ≡ wrote 1 0 [] ∷ quiet ∷ gets 3 ∷ gets 4 ∷ []
 unfolding computed
 anothers-pong = refl
 

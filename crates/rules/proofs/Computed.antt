@@ -12,9 +12,9 @@ use Rattle.packet_laws.specs.FromClient as client
 use Rattle.packet_laws.specs.FromRelay as relay
 use Rattle.rules.specs.Room.{Key, emptyRoom, orLater, find, seatOf, isVacant, routeTo, isFree, routesOf, pingIn, seatAt, routeAt, placeWhen, placesFrom}
 use Rattle.rules.specs.Call.{Call, packetCall, Answer, accepted, refused}
-use Rattle.rules.specs.Outcome.{withRoute, withPing, withoutPing, apply, applyAll, refuse, recordBytes, sentBytes, accept, to, roomAfter, joinedBy, peerAt, peerIn, peer, toPeer, arriveAt, tellPeer, tellPeers, leaveFrom, tellBoth, requestAt, dropAt, oobTo, carryTo, dataAt, pongAt, act, actOn, packetFrom, overdue, isOverdue, isDue, leaveEach, pingEach, leavers, dueSeats, tickFrom, tickAt, outcome}
+use Rattle.rules.specs.Outcome.{withRoute, withPing, withoutPing, apply, applyAll, refuse, recordBytes, sentBytes, accept, to, roomAfter, joinOutcomes, joinedBy, peerAt, peerIn, peer, toPeer, tellPeer, tellPeers, leaveFrom, takeSeat, arriveFrom, tellBoth, requestAt, dropAt, oobTo, carryTo, dataAt, pongAt, act, actOn, packetFrom, overdue, isOverdue, isDue, leaveEach, pingEach, leavers, dueSeats, tickFrom, tickAt, outcome}
 use Rattle.rules.specs.History.{Event, event, transcript}
-use Rattle.rules.specs.Transcript.{isAccepted, clockAfter, clockOf, pingAfterArrival, pingAfterPacket, pingSentTo, pingAfterTick, pingAfter, pingOf, sitsAfterArrival, sitsAfter, sitter, keyIf, overdueFrom, putOutIf, putOut, isAmong, maker, numberRead, numberAnswered, standsAfterPacket, standsAfterOwn, standsAfter, stands}
+use Rattle.rules.specs.Transcript.{isClient, isAccepted, clockAfter, clockOf, pingAfterArrival, pingAfterPacket, pingSentTo, pingAfterTick, pingAfter, pingOf, sitsAfterArrival, sitsAfter, sitter, sitsFrom, isSeated, keyIf, overdueFrom, putOutIf, putOut, isAmong, maker, numberRead, numberAnswered, standsAfterPacket, standsAfterOwn, standsAfter, stands}
 use Rattle.rules.specs.After.{pastAfter}
 
 -- "KA is 32 bytes 11, KB 32 bytes 22, KC 32 bytes 33 (hex)"
@@ -53,5 +53,5 @@ unfoldable pub gets : ℕ → Shown
 gets number = refusal number []
 
 unfoldable pub opened : Unit {0}
-unfolding numberOf bytesOf sameKey check kindOf bodyOf sizeRight relayTakes clientTakes numberRight lengthRight pingRight checked client.fromClient client.relayRead relay.relayBytes relay.fromRelay relay.clientRead emptyRoom orLater find seatOf isVacant routeTo isFree routesOf pingIn seatAt routeAt placeWhen placesFrom withRoute withPing withoutPing apply applyAll refuse recordBytes sentBytes accept to roomAfter joinedBy peerAt peerIn peer toPeer arriveAt tellPeer tellPeers leaveFrom tellBoth requestAt dropAt oobTo carryTo dataAt pongAt act actOn packetFrom overdue isOverdue isDue leaveEach pingEach leavers dueSeats tickFrom tickAt outcome event transcript isAccepted clockAfter clockOf pingAfterArrival pingAfterPacket pingSentTo pingAfterTick pingAfter pingOf sitsAfterArrival sitsAfter sitter keyIf overdueFrom putOutIf putOut isAmong maker numberRead numberAnswered standsAfterPacket standsAfterOwn standsAfter stands pastAfter
+unfolding numberOf bytesOf sameKey check kindOf bodyOf sizeRight relayTakes clientTakes numberRight lengthRight pingRight checked client.fromClient client.relayRead relay.relayBytes relay.fromRelay relay.clientRead emptyRoom orLater find seatOf isVacant routeTo isFree routesOf pingIn seatAt routeAt placeWhen placesFrom withRoute withPing withoutPing apply applyAll refuse recordBytes sentBytes accept to roomAfter joinOutcomes joinedBy peerAt peerIn peer toPeer tellPeer tellPeers leaveFrom takeSeat arriveFrom tellBoth requestAt dropAt oobTo carryTo dataAt pongAt act actOn packetFrom overdue isOverdue isDue leaveEach pingEach leavers dueSeats tickFrom tickAt outcome event transcript isClient isAccepted clockAfter clockOf pingAfterArrival pingAfterPacket pingSentTo pingAfterTick pingAfter pingOf sitsAfterArrival sitsAfter sitter sitsFrom isSeated keyIf overdueFrom putOutIf putOut isAmong maker numberRead numberAnswered standsAfterPacket standsAfterOwn standsAfter stands pastAfter
 opened = tt

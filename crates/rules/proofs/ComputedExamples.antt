@@ -2,7 +2,8 @@
 -- computation. P1 to P11; the bounds of requests, arrivals, out-of-band packets and data; data goes on under the receiver's number; nothing goes to who took
 -- the seat of a client that left; a disconnect leaves the peer's request standing. And one history each for sentences of "The room" and "Refusal numbers" that
 -- these do not meet: ping and pong, a request made twice, a client's own key, notifications between clients whose numbers differ, a leave with two
--- peers, and refusals 2 before 1, 3 before 4, 4, 5 and a drop's 8. Assumes nothing.
+-- peers, and refusals 3 before 4, 4, 5 and a drop's 8. With document 02's P3, and a
+-- seated key that arrives in a full room. Assumes nothing.
 use mathlib.Core.Path.{_≡_, refl}
 use mathlib.Core.Bool.{true}
 use mathlib.Core.List.{List, [], _∷_, _++_}
@@ -28,9 +29,9 @@ data10 seat = packetCall seat (0x10 ∷ 0x61 ∷ 0x62 ∷ [])
 data11 : ℕ → Call
 data11 seat = packetCall seat (0x11 ∷ 0x61 ∷ 0x62 ∷ [])
 
--- the calls in this order: P1, P2, P3; P4, P7, P8; P5, P6, P8; P9 in three
+-- "P3 becomes seat 0, 0 bytes." The calls in this order: P1, P2, P3; P4, P7, P8; P5, P6, P8; P9 in three
 p1-to-p9 : shows (arrive ka ∷ arrive kb ∷ arrive ka ∷ ask 0 kb ∷ data10 0 ∷ data11 0 ∷ ask 1 ka ∷ data10 0 ∷ data11 0 ∷ leave 0 ∷ arrive kc ∷ data10 1 ∷ [])
-    ≡ took 0 ∷ took 1 ∷ gets 2
+    ≡ took 0 ∷ took 1 ∷ took 0
     ∷ wrote 0 37 (0 ∷ 0 ∷ 0x22 ∷ 1 ∷ 0x10 ∷ kb) ∷ gets 9 ∷ gets 8
     ∷ wrote 1 47 ((1 ∷ 0 ∷ 0x22 ∷ 1 ∷ 0x10 ∷ ka) ++ (1 ∷ 0 ∷ 2 ∷ 2 ∷ 0x10 ∷ 0 ∷ 0 ∷ 2 ∷ 2 ∷ 0x10 ∷ []))
     ∷ wrote 0 6 (1 ∷ 0 ∷ 3 ∷ 0x10 ∷ 0x61 ∷ 0x62 ∷ []) ∷ gets 8
@@ -146,11 +147,11 @@ leave-in-order : drop 8 (shows (arrive ka ∷ arrive kb ∷ arrive kc ∷ ask 0 
 unfolding opened shows showAll show ask
 leave-in-order = refl
 
--- ---- 2 before 1; 3, and before 4; 4 and 5; 8 for a drop of a number that names no route: 15, one that is free, 48, one that was dropped
+-- ---- "1 is given only to a key not seated"; 3, and before 4; 4 and 5; 8 for a drop of a number that names no route: 15, one that is free, 48, one that was dropped
 
-two-before-one : drop 40 (shows (arriveAll 0 40 ++ (arrive (replicate 32 0) ∷ []))) ≡ gets 2 ∷ []
-unfolding opened shows showAll show gets arriveAll
-two-before-one = refl
+back-in-a-full-room : drop 40 (shows (arriveAll 0 40 ++ (arrive (replicate 32 39) ∷ arrive ka ∷ arrive (replicate 32 40) ∷ []))) ≡ took 39 ∷ took 17 ∷ gets 1 ∷ []
+unfolding opened shows showAll show took gets arriveAll
+back-in-a-full-room = refl
 
 empty-seats : shows (leave 0 ∷ leave 40 ∷ packetCall 0 [] ∷ packetCall 40 (0 ∷ ka) ∷ []) ≡ gets 3 ∷ gets 3 ∷ gets 3 ∷ gets 3 ∷ []
 unfolding opened shows showAll show gets

@@ -25,7 +25,7 @@ module _ (room : Room) where
 
   made-counted : (o : Outcome) → RefusedOrAccepted o → Counted o
   unfolding countIs refuse accept sentBytes
-  made-counted o (refusal why e) = rw e
+  made-counted o (refusal why given e) = rw e
   made-counted o (acceptance seat changes sent e) = rw e (eq-eqb (length (sentBytes sent)) (length (sentBytes sent)) refl)
 
   pub outcome-counted : (call : Call) → countIs (outcome room call .answer) (length (sentBytes (outcome room call .sent))) ≡ true

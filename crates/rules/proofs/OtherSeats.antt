@@ -1,8 +1,9 @@
--- An arrival, a leave or a packet changes at most the seat it is made at: every other seat keeps its key, its routes and its ping. So a disconnect, by a drop or by
--- a leave, leaves the peer's request standing: "its route goes on waiting". Assumes nothing.
-use mathlib.Core.Path.{_≡_, refl, _∙_}
-use mathlib.Core.Bool.{Bool, true, false}
-use mathlib.Core.List.{List}
+-- A leave or a packet changes at most the seat it is made at, and an arrival the seat that it is answered with and the seat where its client sat: every other seat
+-- keeps its key, its routes and its ping. So a disconnect, by a drop, by a leave or by a client that comes back, leaves the peer's request standing: "its route
+-- goes on waiting". Assumes nothing.
+use mathlib.Core.Path.{_≡_, refl, sym, ap, _∙_}
+use mathlib.Core.Bool.{Bool, true, false, true≢false}
+use mathlib.Core.List.{List, [], _∷_}
 use mathlib.Core.Logic.{_≢_}
 use Prim.Native.Nat.{ℕ, _-_}
 use lib.Dec.{eqb}
@@ -10,10 +11,11 @@ use Rattle.key.specs.Keys.{sameKey}
 use Rattle.packet_laws.specs.Read.{Read}
 use Rattle.packet_laws.specs.Read as read
 use Rattle.packet_laws.specs.FromClient as client
-use Rattle.rules.specs.Room.{Sizes, Key, Route, free, wants, Held, Seat, vacant, holds, Room, Found, none, at, find, seatOf, isVacant, routeTo, isFree, seatAt, routeAt, firstNumber, Peer, alone, joined}
+use Rattle.rules.specs.Room.{Sizes, Key, Route, free, wants, Held, Seat, vacant, holds, Room, setSeat, Found, none, at, find, seatOf, isVacant, routeTo, isFree, seatAt, routeAt, firstNumber, Peer, alone, joined}
 use Rattle.rules.specs.Call.{arrive, leave, packetCall, accepted}
-use Rattle.rules.specs.Outcome.{withRoute, withoutPing, apply, applyAll, Outcome, refuse, accept, roomAfter, peer, arriveAt, leaveFrom, requestAt, dropAt, oobTo, carryTo, dataAt, pongAt, act, actOn, packetFrom, outcome}
-use Rattle.rules.proofs.FindLaws.{seat-set-other}
+use Rattle.rules.specs.Outcome.{withRoute, withoutPing, apply, applyAll, Outcome, refuse, accept, roomAfter, peer, tellPeers, seatTaken, seatEmptied, takeSeat, leaveFrom, requestAt, dropAt, oobTo, carryTo, dataAt, pongAt, act, actOn, packetFrom, outcome}
+use Rattle.rules.proofs.FindLaws.{find-hit, seat-set-other}
+use Rattle.rules.proofs.ComesBack.{arrives-new, held, some-empty, comes-back-to}
 
 module _ (sizes : Sizes) (room : Room) (seat other : ℕ) (ne : other ≢ seat) where
   -- the other seat is as it was
@@ -73,11 +75,33 @@ module _ (sizes : Sizes) (room : Room) (seat other : ℕ) (ne : other ≢ seat) 
   leave-from vacant = refl
   leave-from (holds held) = seat-set-other room seat vacant other ne
 
-  arrive-at : (seated empty : Found) (key : Key) (count : ℕ) → arriveAt seated empty key .answer ≡ accepted seat count → Stays (arriveAt seated empty key)
-  unfolding arriveAt accept refuse roomAfter applyAll apply
-  arrive-at (at i) empty key count h = refl
-  arrive-at none none key count h = refl
-  arrive-at none (at i) key count h = seat-set-other room i _ other (λ q. ne (q ∙ (let z : i ≡ seat = cc in z)))
+  -- a key that is not seated takes a seat
+  take-stays : (lowest : Found) (key : Key) (count : ℕ) → takeSeat lowest key .answer ≡ accepted seat count → Stays (takeSeat lowest key)
+  unfolding takeSeat accept refuse roomAfter applyAll apply
+  take-stays none key count h = refl
+  take-stays (at i) key count h = seat-set-other room i _ other (λ q. ne (q ∙ (let z : i ≡ seat = cc in z)))
+
+  -- a seated key leaves its seat and takes one
+  back-stays : (key : Key) (old place count : ℕ) (routes : List Route) → other ≢ old
+      → accept place (seatEmptied old ∷ seatTaken place key ∷ []) (tellPeers room old key routes) .answer ≡ accepted seat count
+      → Stays (accept place (seatEmptied old ∷ seatTaken place key ∷ []) (tellPeers room old key routes))
+  unfolding accept roomAfter applyAll apply
+  back-stays key old place count routes apart h =
+      seat-set-other (setSeat room old vacant) place _ other (λ q. ne (q ∙ (let z : place ≡ seat = cc in z))) ∙ seat-set-other room old vacant other apart
+
+  arrive-at : (key : Key) (count : ℕ) → seatOf key (seatAt room other) ≡ false → (f : Found) → find (seatOf key) (room .seats) ≡ f
+      → outcome room (arrive key) .answer ≡ accepted seat count → Stays (outcome room (arrive key))
+  unfolding seatAt
+  arrive-at key count apart none e h =
+      let q = arrives-new room key e in
+      rw q (take-stays (find isVacant (room .seats)) key count (sym (ap (λ (o : Outcome). o .answer) q) ∙ h))
+  arrive-at key count apart (at old) e h =
+      let l = some-empty room key old e in
+      let q = comes-back-to room key old e (l .place) (l .lowest) in
+      rw q
+      (back-stays key old (l .place) count (held room key old e .routes)
+      (λ z. true≢false (sym (find-hit (seatOf key) vacant (room .seats) old e) ∙ ap (λ (i : ℕ). seatOf key (seatAt room i)) (sym z) ∙ apart))
+      (sym (ap (λ (o : Outcome). o .answer) q) ∙ h))
 
   -- every packet of a client, drops among them
   pub packet-keeps-others : (bytes : List ℕ) → seatAt (roomAfter sizes room (outcome room (packetCall seat bytes))) other ≡ seatAt room other
@@ -88,8 +112,7 @@ module _ (sizes : Sizes) (room : Room) (seat other : ℕ) (ne : other ≢ seat) 
   unfolding outcome
   leave-keeps-others = leave-from (seatAt room seat)
 
-  -- an arrival that is answered with the seat
-  pub arrive-keeps-others : (key : Key) (count : ℕ) → outcome room (arrive key) .answer ≡ accepted seat count
+  -- an arrival that is answered with the seat, of a client that does not sit in the other
+  pub arrive-keeps-others : (key : Key) (count : ℕ) → seatOf key (seatAt room other) ≡ false → outcome room (arrive key) .answer ≡ accepted seat count
       → seatAt (roomAfter sizes room (outcome room (arrive key))) other ≡ seatAt room other
-  unfolding outcome
-  arrive-keeps-others key count h = arrive-at (find (seatOf key) (room .seats)) (find isVacant (room .seats)) key count h
+  arrive-keeps-others key count apart h = arrive-at key count apart (find (seatOf key) (room .seats)) refl h

@@ -2,9 +2,9 @@
 -- it, since it changes the tables just as its answer and what it sent tell. From the empty room, and from any whole room with a start that says what its
 -- tables say. Assumes nothing.
 use mathlib.Core.Path.{_≡_, refl, sym, ap, _∙_}
-use mathlib.Core.Bool.{Bool, true, false, _&&_, not, cond, true≢false, false≢true, and-false}
+use mathlib.Core.Bool.{Bool, true, false, _&&_, not, cond, false≢true, and-false}
 use mathlib.Core.List.{List, [], _∷_}
-use Prim.Native.Nat.{ℕ, zero, suc, _-_, _<_}
+use Prim.Native.Nat.{ℕ, zero, suc, _-_}
 use native.Mathlib.Omega.{arith}
 use lib.Dec.{eqb, ltb}
 use lib.ListN.{getD, set, length, length-set, length-replicate}
@@ -13,20 +13,24 @@ use borrow.Author.Tests.{eqb-true, eqb-false, ne-eqb, not-true}
 use Rattle.key.specs.Keys.{sameKey}
 use Rattle.key.proofs.Same.{same-refl, same-sound}
 use Rattle.refusal.specs.declared.Refusal.{Refusal}
+use Rattle.refusal.specs.declared.Refusal.the-variants.{RoomFull}
 use Rattle.packet_laws.specs.Read.{Read}
 use Rattle.packet_laws.specs.Read as read
 use Rattle.packet_laws.specs.FromClient as client
 use Rattle.packet_laws.specs.FromRelay as relay
 use Rattle.packet_laws.proofs.ReadBounds.{request-key-long}
-use Rattle.rules.specs.Room.{Sizes, Key, Route, free, wants, Ping, Held, Seat, vacant, holds, Room, noneSince, newcomer, setKey, setPing, setRoute, setClock, setSeats, setSeat, emptyRoom, Found, none, at, find, seatOf, isVacant, routeTo, isFree, routesOf, pingIn, seatAt, routeAt, firstNumber, numberOfPlace, Peer, alone, joined}
+use Rattle.rules.specs.Room.{Sizes, Key, Route, free, wants, Ping, Held, Seat, vacant, holds, Room, noneSince, setKey, setPing, setRoute, setSeats, setSeat, emptyRoom, Found, none, at, find, seatOf, isVacant, routeTo, isFree, pingIn, seatAt, routeAt, firstNumber, numberOfPlace, Peer, alone, joined}
 use Rattle.rules.specs.Whole.{Whole}
 use Rattle.rules.specs.Call.{Call, arrive, leave, packetCall, tick, refused}
-use Rattle.rules.specs.Outcome.{withRoute, withPing, withoutPing, apply, applyAll, refuse, accept, to, Outcome, roomAfter, peer, arriveAt, leaveFrom, requestAt, dropAt, oobTo, carryTo, dataAt, pongAt, act, actOn, packetFrom, overdue, isOverdue, isDue, leaveEach, pingEach, leavers, dueSeats, tickFrom, tickAt, outcome}
+use Rattle.rules.specs.Outcome.{withRoute, withoutPing, apply, applyAll, refuse, accept, to, Outcome, roomAfter, peer, leaveFrom, takeSeat, requestAt, dropAt, oobTo, carryTo, dataAt, pongAt, act, actOn, packetFrom, tickAt, outcome}
 use Rattle.rules.specs.History.{event, transcript}
-use Rattle.rules.specs.Transcript.{Past, Maker, nobody, clientOf, Start, fromEmpty, isAccepted, clockAfter, clockOf, pingAfterArrival, pingAfterPacket, pingSentTo, pingAfterTick, pingAfter, pingOf, keyIf, overdueFrom, putOutIf, putOut, isAmong, sitsAfterArrival, sitsAfter, sitter, maker, numberAnswered, standsAfterPacket, standsAfterOwn, standsAfter, stands}
+use Rattle.rules.specs.Transcript.{Past, Maker, nobody, clientOf, Start, fromEmpty, isAccepted, clockAfter, clockOf, pingAfterArrival, pingAfterPacket, pingAfter, pingOf, putOutIf, putOut, isAmong, sitsAfterArrival, sitsAfter, sitter, maker, numberAnswered, standsAfterPacket, standsAfterOwn, standsAfter, stands}
 use Rattle.rules.specs.After.{roomAfterAll, pastAfter, clientIn, routesIn, routesBy, Tied, startOf}
-use Rattle.rules.proofs.FindLaws.{clash, route-to-wants, find-hit, find-within, find-replicate, getD-all, find-set-same, find-clear, vacant-no-key, heldOf, seat-set, seat-set-other, held-within, free-not-to, route-none, route-at-place, wanted-high, route-set-other, route-set, route-freed, route-all-free}
-use Rattle.rules.proofs.Whole.{key-once, key-found, whole-after, whole-empty}
+use Rattle.rules.proofs.FindLaws.{clash, route-to-wants, find-hit, find-within, find-replicate, getD-all, heldOf, seat-set, seat-set-other, held-within, free-not-to, route-none, route-at-place, wanted-high, route-set-other, route-set, route-freed}
+use Rattle.rules.proofs.Whole.{whole-after, whole-empty}
+use Rattle.rules.proofs.ComesBack.{arrives-new}
+use Rattle.rules.proofs.SeatSet.{seat-put, client-set, client-kept, routes-else, routes-mine, routes-put, routes-left}
+use Rattle.rules.proofs.TiedArrival.{tied-new, tied-back}
 use Rattle.rules.proofs.TiedTick.{tied-tick}
 use Rattle.rules.proofs.AnswerLaws.{zero-answered, place-answered}
 
@@ -56,73 +60,81 @@ cond-and true false x y = refl
 cond-and false true x y = refl
 cond-and false false x y = refl
 
--- ---- what is asked of a seat, after one seat is replaced
+-- ---- a refusal
 
-module _ (room : Room) (seat : ℕ) (s : Seat) (within : seat < length (room .seats)) where
-  pub seat-put : {A : Type 0} (f : Seat → A) (here : ℕ) → f (seatAt (setSeat room seat s) here) ≡ cond (eqb seat here) (f s) (f (seatAt room here))
-  seat-put f here = go (eqb seat here) refl
-    where
-      go : (t : Bool) → eqb seat here ≡ t → f (seatAt (setSeat room seat s) here) ≡ cond t (f s) (f (seatAt room here))
-      go true e = ap f (ap (seatAt (setSeat room seat s)) (sym (eqb-true seat here e)) ∙ seat-set room seat s within)
-      go false e = ap f (seat-set-other room seat s here (λ q. eqb-false seat here e (sym q)))
+-- no number is read off a refusal: 0 is none
+none-answered : (number : ℕ) (t : Bool) → ((not (eqb number 0) && eqb 0 number) && t) ≡ false
+none-answered zero t = refl
+none-answered (suc number) t = rw (ne-eqb (suc number) 0 (λ e. omega arith), ne-eqb 0 (suc number) (λ e. omega arith))
 
-  -- who sits where
-  pub client-set : (here : ℕ) → clientIn (seatAt (setSeat room seat s) here) ≡ cond (eqb seat here) (clientIn s) (clientIn (seatAt room here))
-  client-set here = seat-put clientIn here
+module _ (why : Refusal) where
+  -- a refused call that sent nothing leaves who sits where
+  refused-sits : (call : Call) (here : ℕ) (ping : Ping) (before : Maker) → sitsAfter call (refused why) here ping before ≡ before
+  unfolding sitsAfter sitsAfterArrival isAccepted
+  refused-sits (arrive key) here ping before = refl
+  refused-sits (leave seat) here ping before = refl
+  refused-sits (packetCall seat bytes) here ping before = refl
+  refused-sits (tick time number) here ping before = refl
 
--- the same client sits there, whatever else of it is another
-pub client-kept : (room : Room) (seat : ℕ) (held held′ : Held) → held′ .key ≡ held .key → seatAt room seat ≡ holds held
-    → (here : ℕ) → clientIn (seatAt (setSeat room seat (holds held′)) here) ≡ clientIn (seatAt room here)
-unfolding clientIn
-client-kept room seat held held′ same e here = client-set room seat (holds held′) (held-within room seat held e) here ∙ go (eqb seat here) refl
-  where
-    go : (t : Bool) → eqb seat here ≡ t → cond t (clientOf (held′ .key)) (clientIn (seatAt room here)) ≡ clientIn (seatAt room here)
-    go true q = sym (ap clientIn (ap (seatAt room) (sym (eqb-true seat here q)) ∙ e) ∙ ap clientOf (sym same))
-    go false q = refl
+  -- the clock, each ping, and nobody is put out
+  refused-clock : (call : Call) (before : ℕ) → clockAfter call (refused why) before ≡ before
+  unfolding clockAfter isAccepted
+  refused-clock (arrive key) before = refl
+  refused-clock (leave seat) before = refl
+  refused-clock (packetCall seat bytes) before = refl
+  refused-clock (tick time number) before = refl
 
--- ---- a client's routes, after one seat is replaced
+  refused-ping : (call : Call) (clock here : ℕ) (who : Maker) (before : Ping) → pingAfter call (refused why) [] clock here who before ≡ before
+  unfolding pingAfter pingAfterArrival isAccepted
+  refused-ping (arrive key) clock here who before = refl
+  refused-ping (leave seat) clock here who before = refl
+  refused-ping (packetCall seat bytes) clock here who before = refl
+  refused-ping (tick time number) clock here who before = refl
 
--- by one that holds another key where another key was held
-routes-else : (room : Room) (seat : ℕ) (s : Seat) (key : Key) → seatOf key (seatAt room seat) ≡ false → seatOf key s ≡ false → routesBy (setSeat room seat s) key ≡ routesBy room key
-unfolding routesBy routesIn seatAt
-routes-else room seat s key h hs = rw (find-set-same (seatOf key) vacant (room .seats) seat s (hs ∙ sym h)) (go (find (seatOf key) (room .seats)) refl)
-  where
-    go : (f : Found) → find (seatOf key) (room .seats) ≡ f → routesIn f (setSeat room seat s) ≡ routesIn f room
-    go none q = refl
-    go (at other) q = ap routesOf (seat-set-other room seat s other (λ z. true≢false (sym (find-hit (seatOf key) vacant (room .seats) other q) ∙ rw z h)))
+  pub refused-puts-out : (start : Start) (past : Past) (call : Call) → putOut start past call (refused why) ≡ []
+  unfolding putOut putOutIf isAccepted
+  refused-puts-out start past (arrive key) = refl
+  refused-puts-out start past (leave seat) = refl
+  refused-puts-out start past (packetCall seat bytes) = refl
+  refused-puts-out start past (tick time number) = refl
 
-module _ (sizes : Sizes) (room : Room) (whole : Whole sizes room) (seat : ℕ) (held : Held) (sits : seatAt room seat ≡ holds held) where
-  pub routes-mine : routesBy room (held .key) ≡ held .routes
-  unfolding routesBy routesIn routesOf
-  routes-mine = rw (key-found sizes room whole seat held sits, sits)
+  -- and which requests stand
+  refused-packet : (r : Read client.FromClient) (number : ℕ) (wanted : Key) (before : Bool) → standsAfterPacket r (refused why) [] number wanted before ≡ before
+  unfolding standsAfterPacket numberAnswered isAccepted
+  refused-packet (read.packet (client.routingRequest key)) number wanted before = rw (none-answered number (sameKey key wanted))
+  refused-packet (read.packet (client.dropRoute n)) number wanted before = refl
+  refused-packet (read.packet (client.ping n)) number wanted before = refl
+  refused-packet (read.packet (client.pong n)) number wanted before = refl
+  refused-packet (read.packet (client.oobSend key bytes)) number wanted before = refl
+  refused-packet (read.packet (client.routedData n bytes)) number wanted before = refl
+  refused-packet (read.refused other) number wanted before = refl
 
-  routes-put : (held′ : Held) → held′ .key ≡ held .key → routesBy (setSeat room seat (holds held′)) (held .key) ≡ held′ .routes
-  unfolding routesBy routesIn routesOf seatOf seatAt
-  routes-put held′ same =
-      rw (
-        find-set-same (seatOf (held .key)) vacant (room .seats) seat (holds held′) (rw (sits, same)),
-        key-found sizes room whole seat held sits,
-      ) (ap routesOf (seat-set room seat (holds held′) (held-within room seat held sits)))
+  refused-own : (call : Call) (number : ℕ) (wanted : Key) (before : Bool) → standsAfterOwn call (refused why) [] number wanted before ≡ before
+  unfolding standsAfterOwn isAccepted
+  refused-own (arrive key) number wanted before = refl
+  refused-own (leave seat) number wanted before = refl
+  refused-own (packetCall seat bytes) number wanted before = refused-packet (client.relayRead bytes) number wanted before
+  refused-own (tick time ping) number wanted before = refl
 
-  routes-left : routesBy (setSeat room seat vacant) (held .key) ≡ []
-  unfolding routesBy routesIn seatOf seatAt
-  routes-left = rw (find-clear (seatOf (held .key)) vacant (room .seats) seat vacant (key-once sizes room whole (held .key)) (rw sits (same-refl (held .key))) refl)
+  refused-stands : (m : Maker) (call : Call) (key : Key) (number : ℕ) (wanted : Key) (before : Bool)
+      → standsAfter m (record { call = call; answer = refused why; sent = [] }) key number wanted before ≡ before
+  unfolding standsAfter
+  refused-stands nobody call key number wanted before = refl
+  refused-stands (clientOf k) call key number wanted before = rw (refused-own call number wanted before) (either (sameKey k key) before)
 
--- an arrival takes a seat: whoever's routes they are, each number has what it had
-routes-arrived : (sizes : Sizes) (room : Room) (seat : ℕ) (key : Key) → find (seatOf key) (room .seats) ≡ none → find isVacant (room .seats) ≡ at seat
-    → Whole sizes (setSeat room seat (holds (newcomer sizes (room .clock) key)))
-    → (k : Key) (number : ℕ) → routeAt (routesBy room k) number ≡ routeAt (routesBy (setSeat room seat (holds (newcomer sizes (room .clock) key))) k) number
-unfolding seatAt seatOf routesBy routesIn
-routes-arrived sizes room seat key hf he whole k number = go (sameKey key k) refl
-  where
-    s : Seat
-    s = holds (newcomer sizes (room .clock) key)
-
-    go : (t : Bool) → sameKey key k ≡ t → routeAt (routesBy room k) number ≡ routeAt (routesBy (setSeat room seat s) k) number
-    go true q =
-        rw (← (same-sound key k q), hf, routes-mine sizes (setSeat room seat s) whole seat (newcomer sizes (room .clock) key) (seat-set room seat s (find-within isVacant (room .seats) seat he)))
-        (route-none number ∙ sym (route-all-free (sizes .numbers) number))
-    go false q = sym (ap (λ (t : List Route). routeAt t number) (routes-else room seat s k (vacant-no-key k (seatAt room seat) (find-hit isVacant vacant (room .seats) seat he)) q))
+  -- so it keeps the tie, whatever it was refused for
+  pub tied-refused : (start : Start) (past : Past) (room : Room) → Tied start past room → (call : Call)
+      → Tied start (record { call = call; answer = refused why; sent = [] } ∷ past) room
+  unfolding sitter stands clockOf pingOf isAmong
+  tied-refused start past room tie call = record {
+    seats = tie .seats;
+    clock = refused-clock call (clockOf start past) ∙ tie .clock;
+    pings = λ seat. refused-ping call (clockOf start past) seat (sitter start past seat) (pingOf start past seat) ∙ tie .pings seat;
+    sits = λ seat. refused-sits call seat (pingOf start past seat) (sitter start past seat) ∙ tie .sits seat;
+    requests = λ key number wanted.
+        rw (refused-puts-out start past call)
+        (refused-stands (maker start past call) call key number wanted (stands start past key number wanted) ∙ tie .requests key number wanted);
+  }
 
 -- ---- each call
 
@@ -131,35 +143,12 @@ module _ (sizes : Sizes) (start : Start) (past : Past) (room : Room) (whole : Wh
   abbrev Keeps : Call → Outcome → Type 0
   Keeps call o = Tied start (record { call = call; answer = o .answer; sent = o .sent } ∷ past) (roomAfter sizes room o)
 
-  tied-arrive : (key : Key) (seated empty : Found) → find (seatOf key) (room .seats) ≡ seated → find isVacant (room .seats) ≡ empty
-      → Whole sizes (roomAfter sizes room (arriveAt seated empty key)) → Keeps (arrive key) (arriveAt seated empty key)
-  unfolding roomAfter applyAll apply arriveAt refuse accept sitter sitsAfter sitsAfterArrival stands standsAfter standsAfterOwn maker clientIn putOut isAmong clockOf clockAfter pingOf pingAfter pingAfterArrival pingIn
-  tied-arrive key (at i) empty hf he whole′ = record {
-    seats = tie .seats;
-    clock = tie .clock;
-    pings = tie .pings;
-    sits = tie .sits;
-    requests = λ k number wanted. either (sameKey key k) (stands start past k number wanted) ∙ tie .requests k number wanted;
-  }
-  tied-arrive key none none hf he whole′ = record {
-    seats = tie .seats;
-    clock = tie .clock;
-    pings = tie .pings;
-    sits = tie .sits;
-    requests = λ k number wanted. either (sameKey key k) (stands start past k number wanted) ∙ tie .requests k number wanted;
-  }
-  tied-arrive key none (at seat) hf he whole′ = record {
-    seats = tie .seats ∙ sym (length-set (room .seats) seat _);
-    clock = tie .clock;
-    pings = λ here.
-        rw (tie .clock, tie .pings here)
-        (sym (seat-put room seat (holds (newcomer sizes (room .clock) key)) (find-within isVacant (room .seats) seat he) pingIn here));
-    sits = λ here.
-        ap (cond (eqb seat here) (clientOf key)) (tie .sits here)
-        ∙ sym (client-set room seat (holds (newcomer sizes (room .clock) key)) (find-within isVacant (room .seats) seat he) here);
-    requests = λ k number wanted.
-        either (sameKey key k) (stands start past k number wanted) ∙ tie .requests k number wanted ∙ ap (routeTo wanted) (routes-arrived sizes room seat key hf he whole′ k number);
-  }
+  tied-arrive : (key : Key) (seated lowest : Found) → find (seatOf key) (room .seats) ≡ seated → find isVacant (room .seats) ≡ lowest
+      → Keeps (arrive key) (outcome room (arrive key))
+  unfolding takeSeat refuse roomAfter applyAll
+  tied-arrive key none none h l = rw (arrives-new room key h, l) (tied-refused RoomFull start past room tie (arrive key))
+  tied-arrive key none (at place) h l = tied-new sizes start past room whole tie key h place l
+  tied-arrive key (at seat) lowest h l = tied-back sizes start past room whole tie key seat h
 
   -- a Leave or a packet from an empty seat is nobody's
   module _ (seat : ℕ) (empty : seatAt room seat ≡ vacant) where
@@ -362,86 +351,10 @@ module _ (sizes : Sizes) (start : Start) (past : Past) (room : Room) (whole : Wh
   -- every call keeps the tie
   pub tied-after : (call : Call) → Tied start (event room call ∷ past) (roomAfter sizes room (outcome room call))
   unfolding event outcome
-  tied-after (arrive key) = tied-arrive key (find (seatOf key) (room .seats)) (find isVacant (room .seats)) refl refl (whole-after sizes room whole (arrive key))
+  tied-after (arrive key) = tied-arrive key (find (seatOf key) (room .seats)) (find isVacant (room .seats)) refl refl
   tied-after (leave seat) = tied-leave-from seat (seatAt room seat) refl
   tied-after (packetCall seat bytes) = tied-packet seat bytes (seatAt room seat) refl
   tied-after (tick time number) = tied-tick-at (eqb number 0) (ltb time (room .clock)) time number
-
--- ---- a refusal
-
--- no number is read off a refusal: 0 is none
-none-answered : (number : ℕ) (t : Bool) → ((not (eqb number 0) && eqb 0 number) && t) ≡ false
-none-answered zero t = refl
-none-answered (suc number) t = rw (ne-eqb (suc number) 0 (λ e. omega arith), ne-eqb 0 (suc number) (λ e. omega arith))
-
-module _ (why : Refusal) where
-  -- a refused call that sent nothing leaves who sits where
-  refused-sits : (call : Call) (here : ℕ) (ping : Ping) (before : Maker) → sitsAfter call (refused why) here ping before ≡ before
-  unfolding sitsAfter sitsAfterArrival isAccepted
-  refused-sits (arrive key) here ping before = refl
-  refused-sits (leave seat) here ping before = refl
-  refused-sits (packetCall seat bytes) here ping before = refl
-  refused-sits (tick time number) here ping before = refl
-
-  -- the clock, each ping, and nobody is put out
-  refused-clock : (call : Call) (before : ℕ) → clockAfter call (refused why) before ≡ before
-  unfolding clockAfter isAccepted
-  refused-clock (arrive key) before = refl
-  refused-clock (leave seat) before = refl
-  refused-clock (packetCall seat bytes) before = refl
-  refused-clock (tick time number) before = refl
-
-  refused-ping : (call : Call) (clock here : ℕ) (before : Ping) → pingAfter call (refused why) [] clock here before ≡ before
-  unfolding pingAfter pingAfterArrival isAccepted
-  refused-ping (arrive key) clock here before = refl
-  refused-ping (leave seat) clock here before = refl
-  refused-ping (packetCall seat bytes) clock here before = refl
-  refused-ping (tick time number) clock here before = refl
-
-  pub refused-puts-out : (start : Start) (past : Past) (call : Call) → putOut start past call (refused why) ≡ []
-  unfolding putOut putOutIf isAccepted
-  refused-puts-out start past (arrive key) = refl
-  refused-puts-out start past (leave seat) = refl
-  refused-puts-out start past (packetCall seat bytes) = refl
-  refused-puts-out start past (tick time number) = refl
-
-  -- and which requests stand
-  refused-packet : (r : Read client.FromClient) (number : ℕ) (wanted : Key) (before : Bool) → standsAfterPacket r (refused why) [] number wanted before ≡ before
-  unfolding standsAfterPacket numberAnswered isAccepted
-  refused-packet (read.packet (client.routingRequest key)) number wanted before = rw (none-answered number (sameKey key wanted))
-  refused-packet (read.packet (client.dropRoute n)) number wanted before = refl
-  refused-packet (read.packet (client.ping n)) number wanted before = refl
-  refused-packet (read.packet (client.pong n)) number wanted before = refl
-  refused-packet (read.packet (client.oobSend key bytes)) number wanted before = refl
-  refused-packet (read.packet (client.routedData n bytes)) number wanted before = refl
-  refused-packet (read.refused other) number wanted before = refl
-
-  refused-own : (call : Call) (number : ℕ) (wanted : Key) (before : Bool) → standsAfterOwn call (refused why) [] number wanted before ≡ before
-  unfolding standsAfterOwn isAccepted
-  refused-own (arrive key) number wanted before = refl
-  refused-own (leave seat) number wanted before = refl
-  refused-own (packetCall seat bytes) number wanted before = refused-packet (client.relayRead bytes) number wanted before
-  refused-own (tick time ping) number wanted before = refl
-
-  refused-stands : (m : Maker) (call : Call) (key : Key) (number : ℕ) (wanted : Key) (before : Bool)
-      → standsAfter m (record { call = call; answer = refused why; sent = [] }) key number wanted before ≡ before
-  unfolding standsAfter
-  refused-stands nobody call key number wanted before = refl
-  refused-stands (clientOf k) call key number wanted before = rw (refused-own call number wanted before) (either (sameKey k key) before)
-
-  -- so it keeps the tie, whatever it was refused for
-  pub tied-refused : (start : Start) (past : Past) (room : Room) → Tied start past room → (call : Call)
-      → Tied start (record { call = call; answer = refused why; sent = [] } ∷ past) room
-  unfolding sitter stands clockOf pingOf isAmong
-  tied-refused start past room tie call = record {
-    seats = tie .seats;
-    clock = refused-clock call (clockOf start past) ∙ tie .clock;
-    pings = λ seat. refused-ping call (clockOf start past) seat (pingOf start past seat) ∙ tie .pings seat;
-    sits = λ seat. refused-sits call seat (pingOf start past seat) (sitter start past seat) ∙ tie .sits seat;
-    requests = λ key number wanted.
-        rw (refused-puts-out start past call)
-        (refused-stands (maker start past call) call key number wanted (stands start past key number wanted) ∙ tie .requests key number wanted);
-  }
 
 -- ---- what the tie tells
 

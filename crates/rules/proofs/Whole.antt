@@ -7,7 +7,7 @@ use mathlib.Core.Logic.{_↔_, _≢_}
 use Prim.Native.Nat.{ℕ, _-_, _≤_}
 use native.Mathlib.Omega.{arith}
 use lib.Dec.{eqb, ltb}
-use lib.ListN.{getD, length, length-set, length-replicate, length-map}
+use lib.ListN.{getD, set, length, length-set, length-replicate, length-map}
 use Rattle.packet_laws.specs.Read.{Read}
 use Rattle.packet_laws.specs.Read as read
 use Rattle.packet_laws.specs.FromClient as client
@@ -16,11 +16,11 @@ use Rattle.key.proofs.Same.{same-refl, same-sound, not-so}
 use Rattle.rules.specs.Room.{Sizes, Key, Route, free, wants, Held, Seat, vacant, holds, Room, noneSince, newcomer, setPing, setRoute, setClock, setSeats, setSeat, emptyRoom, Found, none, at, find, seatOf, isVacant, routeTo, isFree, pingIn, seatAt, routeAt, firstNumber, numberOfPlace, Peer, alone, joined}
 use Rattle.rules.specs.Whole.{Whole}
 use Rattle.rules.specs.Call.{Call, arrive, leave, packetCall, tick}
-use Rattle.rules.specs.Outcome.{withRoute, withPing, withoutPing, apply, applyAll, refuse, accept, roomAfter, peer, arriveAt, leaveFrom, requestAt, dropAt, oobTo, carryTo, dataAt, pongAt, act, actOn, packetFrom, overdue, isOverdue, isDue, tickAt, outcome}
+use Rattle.rules.specs.Outcome.{withRoute, withPing, withoutPing, apply, applyAll, refuse, accept, roomAfter, joinOutcomes, peer, leaveFrom, takeSeat, arriveFrom, requestAt, dropAt, oobTo, carryTo, dataAt, pongAt, act, actOn, packetFrom, overdue, isOverdue, isDue, tickAt, outcome}
 use Rattle.rules.specs.After.{roomAfterAll}
 use borrow.Author.Tests.{ltb-false}
 use Rattle.rules.proofs.TickLaws.{getD-each, seatAfterTick, no-ping, room-after-tick}
-use Rattle.rules.proofs.FindLaws.{Once, find-miss, find-once, getD-all, set-all, once-set, seat-of-holds, route-to-wants, route-at-place, wanted-high, wanted-place}
+use Rattle.rules.proofs.FindLaws.{Once, find-hit, find-miss, find-clear, find-once, getD-all, set-all, once-set, seat-of-holds, route-to-wants, route-at-place, wanted-high, wanted-place}
 
 -- ---- whole, by the tests that searches make
 
@@ -106,11 +106,11 @@ module _ (sizes : Sizes) (room : Room) (whole : Whole sizes room) where
       make-whole sizes (setSeat room seat s) (length-set (room .seats) seat s ∙ whole .seats) (set-all (WholeSeat sizes (room .clock)) vacant (room .seats) seat s good (whole-seat sizes room whole))
       (λ key. once-set (seatOf key) vacant (room .seats) seat s (key-once sizes room whole key) (only key))
 
-  whole-arrive : (key : Key) (seated empty : Found) → find (seatOf key) (room .seats) ≡ seated → Whole sizes (roomAfter sizes room (arriveAt seated empty key))
-  unfolding roomAfter applyAll apply arriveAt refuse accept seatOf routeTo
-  whole-arrive key (at i) empty e = whole
-  whole-arrive key none none e = whole
-  whole-arrive key none (at seat) e =
+  -- a key that is not seated takes a seat
+  whole-take : (key : Key) (lowest : Found) → find (seatOf key) (room .seats) ≡ none → Whole sizes (roomAfter sizes room (takeSeat lowest key))
+  unfolding roomAfter applyAll apply takeSeat refuse accept seatOf routeTo
+  whole-take key none e = whole
+  whole-take key (at seat) e =
       whole-set seat (holds (newcomer sizes (room .clock) key))
       (λ k h j hj. absurd (true≢false (sym hj ∙ subst (λ (x : Key). seatOf x (getD (room .seats) j vacant) ≡ false) (same-sound key k h) (find-miss (seatOf key) vacant (room .seats) refl e j)))) (
         length-replicate (sizes .numbers) free,
@@ -246,13 +246,33 @@ module _ (sizes : Sizes) (room : Room) (whole : Whole sizes room) where
           (λ seat. unfold seatAt in rw (at-seat seat) (ticked-seat time number (ltb-false time (room .clock) e) (getD (room .seats) seat vacant) (unfold seatAt in whole-seat sizes room whole seat)))
           (λ key i j hi hj. key-once sizes room whole key i j (ticked-key time number key _ (rw (at-seat i) at hi)) (ticked-key time number key _ (rw (at-seat j) at hj)))
 
+-- a seated key leaves, and takes a seat of the room that it has left, where it sits nowhere
+module _ (sizes : Sizes) (room : Room) (whole : Whole sizes room) where
+  whole-back : (key : Key) (seat : ℕ) → find (seatOf key) (room .seats) ≡ at seat → Whole sizes (roomAfter sizes room (arriveFrom (at seat) room key))
+  unfolding roomAfter applyAll apply arriveFrom leaveFrom takeSeat joinOutcomes refuse accept seatOf
+  whole-back key seat e = go (seatAt room seat) (find isVacant (set (room .seats) seat vacant))
+    where
+      gone : find (seatOf key) (set (room .seats) seat vacant) ≡ none
+      gone = find-clear (seatOf key) vacant (room .seats) seat vacant (key-once sizes room whole key) (find-hit (seatOf key) vacant (room .seats) seat e) refl
+
+      go : (s : Seat) (lowest : Found)
+          → Whole sizes (roomAfter sizes room (joinOutcomes (leaveFrom s room seat .answer) (takeSeat lowest key .answer) (leaveFrom s room seat) (takeSeat lowest key)))
+      go vacant lowest = whole
+      go (holds held) none = whole
+      go (holds held) (at place) = whole-take sizes (setSeat room seat vacant) (whole-leave sizes room whole seat (holds held)) key (at place) gone
+
+  whole-arrive : (key : Key) (seated : Found) → find (seatOf key) (room .seats) ≡ seated → Whole sizes (roomAfter sizes room (arriveFrom seated room key))
+  unfolding arriveFrom
+  whole-arrive key none e = whole-take sizes room whole key (find isVacant (room .seats)) e
+  whole-arrive key (at seat) e = whole-back key seat e
+
   -- every call leaves a whole room whole
   pub whole-after : (call : Call) → Whole sizes (roomAfter sizes room (outcome room call))
   unfolding outcome
-  whole-after (arrive key) = whole-arrive key (find (seatOf key) (room .seats)) (find isVacant (room .seats)) refl
-  whole-after (leave seat) = whole-leave seat (seatAt room seat)
-  whole-after (packetCall seat bytes) = whole-packet seat bytes (seatAt room seat) refl
-  whole-after (tick time number) = whole-tick (eqb number 0) (ltb time (room .clock)) time number refl
+  whole-after (arrive key) = whole-arrive key (find (seatOf key) (room .seats)) refl
+  whole-after (leave seat) = whole-leave sizes room whole seat (seatAt room seat)
+  whole-after (packetCall seat bytes) = whole-packet sizes room whole seat bytes (seatAt room seat) refl
+  whole-after (tick time number) = whole-tick sizes room whole (eqb number 0) (ltb time (room .clock)) time number refl
 
 -- ---- every history
 

@@ -1,8 +1,8 @@
--- No call writes more than the output that it needs: document 01's bound for lent output, "under 2,048 for packet and leave", and document 02's, "10 (tick output
--- under 5,120)". In a whole room of at most 40 seats and 240 numbers, whose seated keys have 32 bytes at most, a leave writes 5 bytes for each connected peer, a
--- request 37, and 10 more where it connects, a drop 5, a ping 12, an out-of-band send 1,060 at most, data 2,035 at most, an arrival nothing, and a tick 4,380 at
--- most (`TickWithin`). So output that the papers ask for is never too short. And the seated keys stay so over every call, where one who arrives has such a key.
--- Assumes nothing.
+-- No call writes more than the output that it needs: document 01's bound for lent output, "under 2,048 for packet and leave", and document 02's, "10 (tick
+-- output under 5,120)" and "arrival checks 10 (2,048)". In a whole room of at most 40 seats and 240 numbers, whose seated keys have 32 bytes at most, a leave
+-- writes 5 bytes for each connected peer, a request 37, and 10 more where it connects, a drop 5, a ping 12, an out-of-band send 1,060 at most, data 2,035 at
+-- most, an arrival what a leave does, and a tick 4,380 at most (`TickWithin`). So output that the papers ask for is never too short. And the seated keys stay
+-- so over every call, where one who arrives has such a key. Assumes nothing.
 use mathlib.Core.Path.{_≡_, refl, ap, subst, _∙_}
 use mathlib.Core.Bool.{Bool, true, false, _&&_, cond}
 use mathlib.Core.List.{List, [], _∷_}
@@ -23,11 +23,11 @@ use Rattle.rules.specs.Whole.{Whole, ShortKeys}
 use Rattle.rules.specs.Call.{Call, arrive, leave, packetCall, tick, needed, mostNeeded, Answer, accepted, refused, Sent}
 use Rattle.rules.specs.Outcome.{refuse, accept, sentBytes, roomAfter, peer, toPeer, to, tellPeer, tellPeers, leaveFrom, tellBoth, requestAt, dropAt, oobTo, carryTo, dataAt, pongAt, act, actOn, packetFrom, overdue, outcome}
 use Rattle.rules.specs.History.{event}
-use Rattle.rules.specs.Transcript.{Maker, nobody, clientOf, isAccepted, pingOf, sitsAfter, sitsAfterArrival, sitter}
+use Rattle.rules.specs.Transcript.{Maker, nobody, clientOf, isClient, isAccepted, pingOf, sitsAfter, sitsAfterArrival, sitter}
 use Rattle.rules.specs.After.{clientIn, startOf}
 use Rattle.rules.proofs.SentLaws.{count-more, count-one, count-append}
 use Rattle.rules.proofs.TickWithin.{tick-at-within}
-use Rattle.rules.proofs.QuietArrival.{arrive-sends-nothing}
+use Rattle.rules.proofs.ComesBack.{held, sits-there, some-empty, comes-back-to, new-sends-nothing}
 use Rattle.rules.proofs.Tied.{tied-start, tied-after}
 
 -- ---- records
@@ -132,10 +132,21 @@ module _ (sizes : Sizes) (seats : sizes .seats ≤ 40) (few : sizes .numbers ≤
   packet-within seat bytes vacant e = none-within _
   packet-within seat bytes (holds held) e = acted-within room bytes (client.relayRead bytes) refl seat held (keys seat held e)
 
+  -- an arrival: of a key that is not seated nothing, of a seated one what its leave writes
+  back-within : (key : Key) (seat : ℕ) → find (seatOf key) (room .seats) ≡ at seat → size (outcome room (arrive key) .sent) ≤ 1200
+  unfolding leaveFrom accept
+  back-within key seat e =
+      let low = some-empty room key seat e in
+      rw (comes-back-to room key seat e (low .place) (low .lowest)) (leave-within sizes few room whole seat (holds (held room key seat e)) (sits-there room key seat e))
+
+  arrive-within : (key : Key) (f : Found) → find (seatOf key) (room .seats) ≡ f → size (outcome room (arrive key) .sent) ≤ 1200
+  arrive-within key none e = omega (arith, ap size (new-sends-nothing room key e), none-within 0)
+  arrive-within key (at seat) e = back-within key seat e
+
   -- THE LAW
   pub sent-within : (call : Call) → length (sentBytes (outcome room call .sent)) ≤ needed call
   unfolding outcome
-  sent-within (arrive key) = omega (arith, ap size (arrive-sends-nothing room key), none-within 0)
+  sent-within (arrive key) = omega (arith, arrive-within key (find (seatOf key) (room .seats)) refl)
   sent-within (leave seat) = omega (arith, leave-within sizes few room whole seat (seatAt room seat) refl)
   sent-within (packetCall seat bytes) = omega (arith, packet-within seat bytes (seatAt room seat) refl)
   sent-within (tick time number) = tick-at-within sizes seats room whole (eqb number 0) (ltb time (room .clock)) time number
@@ -160,7 +171,7 @@ one-of false a b h g = g
 sits-short : (call : Call) (answer : Answer) (here : ℕ) (ping : Ping) (before : Maker) → ((key : Key) → call ≡ arrive key → length key ≤ 32) → ShortOf before
     → ShortOf (sitsAfter call answer here ping before)
 unfolding sitsAfter sitsAfterArrival
-sits-short (arrive key) (accepted seat count) here ping before k h = one-of (eqb seat here) (clientOf key) before (k key refl) h
+sits-short (arrive key) (accepted seat count) here ping before k h = one-of (eqb seat here) (clientOf key) (cond (isClient key before) nobody before) (k key refl) (one-of (isClient key before) nobody before tt h)
 sits-short (arrive key) (refused why) here ping before k h = h
 sits-short (leave seat) answer here ping before k h = one-of (isAccepted answer && eqb seat here) nobody before tt h
 sits-short (packetCall seat bytes) answer here ping before k h = h

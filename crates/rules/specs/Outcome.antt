@@ -1,13 +1,13 @@
--- What each call does: document 01, "The room", sentence by sentence, with document 02's "A client that asks for itself" and "Notice dead laptops". An outcome
--- is an answer, the changes that it makes to the room, and what it sends. To be read for whole rooms (`Whole`): refusal 11, and 10, belong to lent memory and stand
--- where the lent room and output do.
+-- What each call does: document 01, "The room", sentence by sentence, with document 02's "A client that asks for itself", "Notice dead laptops" and "One call
+-- when a laptop comes back". An outcome is an answer, the changes that it makes to the room, and what it sends. To be read for whole rooms (`Whole`): refusal
+-- 11, and 10, belong to lent memory and stand where the lent room and output do.
 use mathlib.Core.Bool.{Bool, true, false, _&&_, not}
 use mathlib.Core.List.{List, [], _∷_, _++_, map}
-use Prim.Native.Nat.{ℕ, _+_, _-_}
+use Prim.Native.Nat.{ℕ, _-_}
 use lib.Dec.{eqb, leb, ltb}
-use lib.ListN.{length}
+use lib.ListN.{length, set}
 use Rattle.refusal.specs.declared.Refusal.{Refusal}
-use Rattle.refusal.specs.declared.Refusal.the-variants.{RoomFull, AlreadySeated, NotSeated, ZeroPing, NoSuchRoute, NotConnected, ClockBack}
+use Rattle.refusal.specs.declared.Refusal.the-variants.{RoomFull, NotSeated, ZeroPing, NoSuchRoute, NotConnected, ClockBack}
 use Rattle.wire.specs.Numbers.{bytesOf}
 use Rattle.key.specs.Keys.{sameKey}
 use Rattle.packet_laws.specs.Read.{Read}
@@ -85,15 +85,19 @@ to seat p = record { seat = seat; bytes = relay.relayBytes p }
 unfoldable pub roomAfter : Sizes → Room → Outcome → Room
 roomAfter sizes room outcome = applyAll sizes room (outcome .changes)
 
--- one after the other, as one call: the second from the room that the first leaves. Where both are accepted the answer has the second's seat and the
--- bytes of both. Where one is refused the whole is, and does nothing: "A refusal answers its number with 0 bytes written; room [..] as before the call."
+-- one after the other, as one call. Where both are accepted the answer has the second's seat and the bytes of both. Where one is refused the whole is, and does
+-- nothing: "A refusal answers its number with 0 bytes written; room [..] as before the call."
 unfoldable pub joinOutcomes : Answer → Answer → Outcome → Outcome → Outcome
 joinOutcomes (refused why) later first second = refuse why
 joinOutcomes (accepted seat count) (refused why) first second = refuse why
 joinOutcomes (accepted seat count) (accepted seat′ count′) first second = accept seat′ (first .changes ++ second .changes) (first .sent ++ second .sent)
 
+abbrev pub inTurn : Outcome → Outcome → Outcome
+inTurn first second = joinOutcomes (first .answer) (second .answer) first second
+
+-- the second from the room that the first leaves
 unfoldable pub andThen : Sizes → Room → Outcome → (Room → Outcome) → Outcome
-andThen sizes room first next = let second = next (roomAfter sizes room first) in joinOutcomes (first .answer) (second .answer) first second
+andThen sizes room first next = inTurn first (next (roomAfter sizes room first))
 
 -- ---- connected: "Two clients are connected when they sit in different seats and each has a route naming the other's key."
 
@@ -119,13 +123,6 @@ unfoldable pub toPeer : (ℕ → relay.FromRelay) → Peer → List Sent
 toPeer p alone = []
 toPeer p (joined seat place) = to seat (p (numberOfPlace place)) ∷ []
 
--- ---- Arrive(key): "takes the lowest empty seat and answers with it. It writes nothing." Order: 2, 1.
-
-unfoldable pub arriveAt : Found → Found → Key → Outcome
-arriveAt (at seat) empty key = refuse AlreadySeated
-arriveAt none none key = refuse RoomFull
-arriveAt none (at seat) key = accept seat (seatTaken seat key ∷ []) []
-
 -- ---- Leave(seat): "in rising route number, each connected peer is told disconnected with the peer's own number; its route goes on waiting. The
 -- seat and its routes are emptied."
 
@@ -140,6 +137,18 @@ tellPeers room seat key (route ∷ routes) = tellPeer room seat key route ++ tel
 unfoldable pub leaveFrom : Seat → Room → ℕ → Outcome
 leaveFrom vacant room seat = refuse NotSeated
 leaveFrom (holds held) room seat = accept seat (seatEmptied seat ∷ []) (tellPeers room seat (held .key) (held .routes))
+
+-- ---- Arrive(key): "takes the lowest empty seat and answers with it." Document 02: "1 is given only to a key not seated"
+
+unfoldable pub takeSeat : Found → Key → Outcome
+takeSeat none key = refuse RoomFull
+takeSeat (at seat) key = accept seat (seatTaken seat key ∷ []) []
+
+-- document 02: "an arrival of a seated key has the outcome of the two calls in that order, notices and all": of Leave, and then of Arrive from the room after it,
+-- in which that seat is empty. That this is `andThen` of the two outcomes is `comes-back` (proofs/ComesBack.antt)
+unfoldable pub arriveFrom : Found → Room → Key → Outcome
+arriveFrom none room key = takeSeat (find isVacant (room .seats)) key
+arriveFrom (at seat) room key = inTurn (leaveFrom (seatAt room seat) room seat) (takeSeat (find isVacant (set (room .seats) seat vacant)) key)
 
 -- ---- the packets of a client at `seat`
 
@@ -257,7 +266,7 @@ tickAt false true room time number = refuse ClockBack
 tickAt false false room time number = tickFrom room time number
 
 unfoldable pub outcome : Room → Call → Outcome
-outcome room (arrive key) = arriveAt (find (seatOf key) (room .seats)) (find isVacant (room .seats)) key
+outcome room (arrive key) = arriveFrom (find (seatOf key) (room .seats)) room key
 outcome room (leave seat) = leaveFrom (seatAt room seat) room seat
 outcome room (packetCall seat bytes) = packetFrom (seatAt room seat) room seat bytes
 outcome room (tick time number) = tickAt (eqb number 0) (ltb time (room .clock)) room time number

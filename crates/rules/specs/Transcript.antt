@@ -66,10 +66,10 @@ clockOf start (e ∷ past) = clockAfter (e .call) (e .answer) (clockOf start pas
 
 -- ---- pings: "the time of its last ping and the ping number not yet answered", of a seat
 
--- "An arrival starts with the last clock as its ping time."
-unfoldable pub pingAfterArrival : Answer → ℕ → ℕ → Ping → Ping
-pingAfterArrival (accepted seat count) clock here before = cond (eqb seat here) (noneSince clock) before
-pingAfterArrival (refused why) clock here before = before
+-- "An arrival starts with the last clock as its ping time." Where its client was seated, none is outstanding any more in its old seat
+unfoldable pub pingAfterArrival : Key → Answer → ℕ → ℕ → Maker → Ping → Ping
+pingAfterArrival key (accepted seat count) clock here who before = cond (eqb seat here) (noneSince clock) (cond (isClient key who) (noneSince 0) before)
+pingAfterArrival key (refused why) clock here who before = before
 
 -- "A pong with the outstanding number clears it; other pongs do nothing."
 unfoldable pub pingAfterPacket : Read client.FromClient → Ping → Ping
@@ -91,21 +91,18 @@ unfoldable pub pingAfterTick : ℕ → ℕ → List Sent → ℕ → Ping → Pi
 pingAfterTick time number sent here before =
     cond (pingSentTo here sent) (record { time = time; number = number }) (cond (overdue time before) (noneSince 0) before)
 
-unfoldable pub pingAfter : Call → Answer → List Sent → ℕ → ℕ → Ping → Ping
-pingAfter (arrive key) answer sent clock here before = pingAfterArrival answer clock here before
-pingAfter (leave seat) answer sent clock here before = cond (isAccepted answer && eqb seat here) (noneSince 0) before
-pingAfter (packetCall seat bytes) answer sent clock here before =
+unfoldable pub pingAfter : Call → Answer → List Sent → ℕ → ℕ → Maker → Ping → Ping
+pingAfter (arrive key) answer sent clock here who before = pingAfterArrival key answer clock here who before
+pingAfter (leave seat) answer sent clock here who before = cond (isAccepted answer && eqb seat here) (noneSince 0) before
+pingAfter (packetCall seat bytes) answer sent clock here who before =
     cond (isAccepted answer && eqb seat here) (pingAfterPacket (client.relayRead bytes) before) before
-pingAfter (tick time number) answer sent clock here before = cond (isAccepted answer) (pingAfterTick time number sent here before) before
-
-unfoldable pub pingOf : Start → Past → ℕ → Ping
-pingOf start [] seat = start .ping seat
-pingOf start (e ∷ past) seat = pingAfter (e .call) (e .answer) (e .sent) (clockOf start past) seat (pingOf start past seat)
+pingAfter (tick time number) answer sent clock here who before = cond (isAccepted answer) (pingAfterTick time number sent here before) before
 
 -- ---- seated: "It is seated from an accepted arrival, in the seat answered, until it leaves"
 
+-- document 02: "an arrival of a seated key has the outcome of the two calls in that order": its client sits in its old seat no more
 unfoldable pub sitsAfterArrival : Key → Answer → ℕ → Maker → Maker
-sitsAfterArrival key (accepted seat count) here before = cond (eqb seat here) (clientOf key) before
+sitsAfterArrival key (accepted seat count) here before = cond (eqb seat here) (clientOf key) (cond (isClient key before) nobody before)
 sitsAfterArrival key (refused why) here before = before
 
 -- a tick: "every seat whose ping has stood unanswered for 10 seconds or more leaves as if it had called"
@@ -115,9 +112,23 @@ sitsAfter (leave seat) answer here ping before = cond (isAccepted answer && eqb 
 sitsAfter (packetCall seat bytes) answer here ping before = before
 sitsAfter (tick time number) answer here ping before = cond (isAccepted answer && overdue time ping) nobody before
 
-unfoldable pub sitter : Start → Past → ℕ → Maker
-sitter start [] seat = start .sits seat
-sitter start (e ∷ past) seat = sitsAfter (e .call) (e .answer) seat (pingOf start past seat) (sitter start past seat)
+-- the ping of a seat, and who sits there, after what has happened
+unfoldable mutual
+  pub pingOf : Start → Past → ℕ → Ping
+  pingOf start [] seat = start .ping seat
+  pingOf start (e ∷ past) seat = pingAfter (e .call) (e .answer) (e .sent) (clockOf start past) seat (sitter start past seat) (pingOf start past seat)
+
+  pub sitter : Start → Past → ℕ → Maker
+  sitter start [] seat = start .sits seat
+  sitter start (e ∷ past) seat = sitsAfter (e .call) (e .answer) seat (pingOf start past seat) (sitter start past seat)
+
+-- whether a client sits in one of so many seats, from one on; and in any
+unfoldable pub sitsFrom : Start → Past → Key → ℕ → ℕ → Bool
+sitsFrom start past key seat zero = false
+sitsFrom start past key seat (suc many) = isClient key (sitter start past seat) || sitsFrom start past key (suc seat) many
+
+unfoldable pub isSeated : Start → Past → Key → Bool
+isSeated start past key = sitsFrom start past key 0 (start .seats)
 
 -- ---- whom a tick puts out, by key, in rising seat order
 
@@ -181,8 +192,9 @@ standsAfterPacket (read.packet (client.oobSend key bytes)) answer sent number wa
 standsAfterPacket (read.packet (client.routedData n bytes)) answer sent number wanted before = before
 standsAfterPacket (read.refused why) answer sent number wanted before = before
 
+-- an accepted arrival ends all requests of its client: one that was seated leaves, and of one that was not none stands
 unfoldable pub standsAfterOwn : Call → Answer → List Sent → ℕ → Key → Bool → Bool
-standsAfterOwn (arrive key) answer sent number wanted before = before
+standsAfterOwn (arrive key) answer sent number wanted before = cond (isAccepted answer) false before
 standsAfterOwn (leave seat) answer sent number wanted before = cond (isAccepted answer) false before
 standsAfterOwn (packetCall seat bytes) answer sent number wanted before = standsAfterPacket (client.relayRead bytes) answer sent number wanted before
 standsAfterOwn (tick time ping) answer sent number wanted before = before

@@ -1,12 +1,13 @@
-// A refusal: its number, and the papers' words for it: document 01's from the table "Given exactly when", document 02's for a keep, for a
-// tick's output, for 18 and for 19.
+// A refusal: its number, and the papers' words for it: document 01's from the table "Given exactly when", document 02's for a key not seated, a keep, a tick's
+// output, 18 and 19. An arrival's output is worded as a tick's, by document 02's "arrival checks 10 (2,048)"; and 2, which no call gives any more, has "retired"
+// before it.
 use crate::say;
 use refusal::Refusal;
 
 fn reason(why: Refusal) {
     match why {
-        Refusal::RoomFull => say::words(b"arrival with all 40 seats taken"),
-        Refusal::AlreadySeated => say::words(b"arrival of a key already seated"),
+        Refusal::RoomFull => say::words(b"arrival with all 40 seats taken, of a key not seated"),
+        Refusal::AlreadySeated => say::words(b"retired: arrival of a key already seated"),
         Refusal::NotSeated => say::words(b"seat above 39, or empty"),
         Refusal::PacketSize => say::words(b"packet of 0 or more than 2,032 bytes"),
         Refusal::UnexpectedKind => say::words(b"a kind this end does not take"),
@@ -17,7 +18,7 @@ fn reason(why: Refusal) {
         ),
         Refusal::NotConnected => say::words(b"data on a waiting route"),
         Refusal::OutputTooShort => say::words(
-            b"lent output too short: under 2,048 for packet and leave, under the exact length for a writer; a keep that is too short; tick output under 5,120",
+            b"lent output too short: under 2,048 for packet and leave, under the exact length for a writer; a keep that is too short; tick output under 5,120; arrival output under 2,048",
         ),
         Refusal::RoomNotWhole => say::words(b"room not whole"),
         Refusal::ListSize => say::words(b"list size not 1 to 16"),

@@ -75,8 +75,8 @@ examples =
     roomRow [] (arrive ka) (wrote 0 0) []
     -- "P2: then KB: seat 1."
     ∷ roomRow (arrive ka ∷ []) (arrive kb) (wrote 1 0) []
-    -- "P3: KA again: refusal 2."
-    ∷ roomRow afterP2 (arrive ka) (refusal 2) []
+    -- "P3: KA again: refusal 2."; document 02: "P3 becomes seat 0, 0 bytes."
+    ∷ roomRow afterP2 (arrive ka) (wrote 0 0) []
     -- "P4: after P2, seat 0 sends 00 KB: output 00 0022 01 10 KB, 37 bytes."
     ∷ roomRow afterP2 (packetCall 0 (0x00 ∷ kb)) (wrote 0 37) (0x00 ∷ 0x00 ∷ 0x22 ∷ 0x01 ∷ 0x10 ∷ kb)
     -- "P5: then seat 1 sends 00 KA: 01 0022 01 10 KA, 01 0002 02 10, 00 0002 02 10, 47 bytes."

@@ -90,6 +90,9 @@ mod tests {
             packet(1, &[&[0], &[0x11; 32][..]].concat()),
             packet(1, &[]),
             Call::Leave { seat: 0 },
+            Call::Arrive { key: [0x11; 32] },
+            packet(0, &[&[0], &[0x22; 32][..]].concat()),
+            Call::Arrive { key: [0x22; 32] },
         ];
         let mut stored = call::write_all(&calls).unwrap();
         let length = stored.len();
@@ -104,7 +107,13 @@ mod tests {
                 "packet 1 00{ka}: seat 1, 47 bytes, 01 0022 0110{ka}, 01 0002 0210, 00 0002 0210"
             ),
             "packet 1 : refusal 4".to_string(),
-            "leave 0: seat 0, 5 bytes, 01 0002 0310\n".to_string(),
+            "leave 0: seat 0, 5 bytes, 01 0002 0310".to_string(),
+            format!("arrive {ka}: seat 0, 0 bytes"),
+            format!(
+                "packet 0 00{kb}: seat 0, 47 bytes, 00 0022 0110{kb}, 00 0002 0210, 01 0002 0210"
+            ),
+            // A seated key: its departure is told as by a leave.
+            format!("arrive {kb}: seat 1, 5 bytes, 00 0002 0310\n"),
         ];
         assert_eq!(String::from_utf8(out).unwrap(), expected.join("\n"));
     }

@@ -20,6 +20,7 @@ mod packet_calls;
 mod packets;
 mod pass;
 mod readers;
+mod reconnects;
 mod room_tests;
 mod rooms;
 mod runs;

@@ -67,6 +67,14 @@ impl Rooms {
         Rooms::of(self.plain)
     }
 
+    /// The room in which the client of a taken seat has asked for nobody: its peers
+    /// wait for it.
+    pub fn without_routes_of(mut self, seat: usize) -> Rooms {
+        let client = self.plain.seats[seat].as_mut().expect("a taken seat");
+        client.routes.fill(None);
+        Rooms::of(self.plain)
+    }
+
     /// The room at this clock, with the pings that a seat is to have: its ping
     /// time, and its ping not yet answered or 0.
     pub fn at(mut self, clock: u64, pings: impl Fn(u64) -> (u64, u64)) -> Rooms {

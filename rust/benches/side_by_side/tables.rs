@@ -2,8 +2,8 @@
 
 use crate::harness::Harness;
 use crate::table::Table;
-use crate::{changes, frames, lookups, nearest, nodes, packet_calls, readers, room_tests};
-use crate::{runs, ticks, writers};
+use crate::{changes, frames, lookups, nearest, nodes, packet_calls, readers, reconnects};
+use crate::{room_tests, runs, ticks, writers};
 
 /// The tables, in the order in which they are measured and printed.
 pub struct Tables {
@@ -16,6 +16,7 @@ pub struct Tables {
     pub packet_calls: Table,
     pub runs: Table,
     pub changes: Table,
+    pub reconnects: Table,
     pub ticks: Table,
     pub lookups: Table,
 }
@@ -43,6 +44,7 @@ impl Tables {
             packet_calls: packet_calls::table(harness),
             runs: runs::table(harness),
             changes: changes::table(harness),
+            reconnects: reconnects::table(harness),
             ticks: ticks::table(harness),
             lookups: lookups::table(harness),
         }
@@ -58,11 +60,12 @@ impl Tables {
         self.packet_calls.add(other.packet_calls);
         self.runs.add(other.runs);
         self.changes.add(other.changes);
+        self.reconnects.add(other.reconnects);
         self.ticks.add(other.ticks);
         self.lookups.add(other.lookups);
     }
 
-    pub fn all(&self) -> [&Table; 11] {
+    pub fn all(&self) -> [&Table; 12] {
         [
             &self.frames,
             &self.readers,
@@ -73,6 +76,7 @@ impl Tables {
             &self.packet_calls,
             &self.runs,
             &self.changes,
+            &self.reconnects,
             &self.ticks,
             &self.lookups,
         ]

@@ -3,7 +3,14 @@
 use super::Key;
 
 extern "C" {
-    fn banavoge_arrive(room: *mut u8, room_length: usize, key: *const Key) -> i32;
+    fn banavoge_arrive(
+        room: *mut u8,
+        room_length: usize,
+        key: *const Key,
+        out: *mut u8,
+        out_length: usize,
+        seat: *mut u8,
+    ) -> i32;
 
     fn banavoge_leave(
         room: *mut u8,
@@ -33,11 +40,21 @@ extern "C" {
     ) -> i32;
 }
 
-/// A key arrives: its seat, or a refusal.
-pub fn arrive(room: &mut [u8], key: &Key) -> i32 {
-    // SAFETY: the pointers come from references to the room, whose count is its
-    // own, and to the key.
-    unsafe { banavoge_arrive(room.as_mut_ptr(), room.len(), key) }
+/// A key arrives: how many bytes are written, or a refusal. Only an arrival that
+/// is accepted sets the seat.
+pub fn arrive(room: &mut [u8], key: &Key, out: &mut [u8], seat: &mut u8) -> i32 {
+    // SAFETY: the pointers come from references to the room and the output, whose
+    // counts are their own, to the key and to the seat.
+    unsafe {
+        banavoge_arrive(
+            room.as_mut_ptr(),
+            room.len(),
+            key,
+            out.as_mut_ptr(),
+            out.len(),
+            seat,
+        )
+    }
 }
 
 /// The client in a seat leaves: how many bytes are written, or a refusal.

@@ -10,7 +10,7 @@ use reference::memory;
 use reference::record::{self, Record};
 use reference::room::{self, BASE};
 
-const HISTORIES: u64 = 10;
+const HISTORIES: u64 = 14;
 const CALLS: usize = 8_000;
 
 /// The records are the second program's, one by one and as bytes, and each has
@@ -60,12 +60,11 @@ fn rooms_that_own_their_memory_agree_with_the_reference() {
             let before = reference.clone();
             let expected = call.make(&mut reference, call.least_output());
             let found = match &call {
-                Call::Arrive { key } => {
-                    let seat = library.arrive(&Key(*key)).map_err(Refusal::number);
-                    let expected = expected.map(|accepted| Seat(accepted.seat as u8));
-                    assert_eq!(seat, expected, "{told}");
-                    continue;
-                }
+                Call::Arrive { key } => library.arrive(&Key(*key), &mut out).map(|arrival| {
+                    let seat = expected.as_ref().map(|accepted| accepted.seat);
+                    assert_eq!(Ok(arrival.seat.index()), seat, "{told}");
+                    arrival.records
+                }),
                 Call::Leave { seat } => library.leave(Seat(*seat), &mut out),
                 Call::Packet { seat, bytes } => library.packet(Seat(*seat), bytes, &mut out),
                 Call::Tick { time, ping } => library.tick(*time, *ping, &mut out),
@@ -98,6 +97,20 @@ fn rooms_that_own_their_memory_agree_with_the_reference() {
     ));
     assert!(sent >= 10_000 && refused >= 10_000);
     assert!(ticks >= 1_000 && put_out >= 1_000);
+}
+
+/// An output one byte too short for an arrival, of a key that is seated or not,
+/// though the arrival would send nothing.
+#[test]
+fn an_arrival_asks_for_the_least_output() {
+    let (mut room, mut out) = (Room::empty(), [0x5a; LEAST_OUTPUT]);
+    for _ in 0..2 {
+        let short = room.arrive(&Key([1; 32]), &mut out[..LEAST_OUTPUT - 1]);
+        assert_eq!(short.err(), Some(Refusal::OutputTooShort));
+        let arrival = room.arrive(&Key([1; 32]), &mut out).expect("a seat");
+        assert_eq!((arrival.seat, arrival.records.count()), (Seat(0), 0));
+    }
+    assert!(out.iter().all(|byte| *byte == 0x5a));
 }
 
 /// An output one byte too short for a tick, though the tick would send nothing.

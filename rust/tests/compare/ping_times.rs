@@ -54,7 +54,7 @@ impl Case {
     }
 
     /// Calls of every kind, most by the seat: accepted in a whole room, or
-    /// refused with 1 to 3 and 5 to 8, of the ticks with 7 and 19.
+    /// refused with 1, 3 and 5 to 8, of the ticks with 7 and 19.
     fn calls(self) -> Vec<Call> {
         let packet = |kind: u8, rest: &[u8]| Call::Packet {
             seat: self.seat as u8,
@@ -139,8 +139,6 @@ fn rooms_with_a_ping_time_after_the_clock_are_not_whole() {
     text += &made.beside.line("calls on the whole rooms beside them");
     say(&text);
     assert!(made.refused.total() >= 1_000 && stale >= 50);
-    made.beside.demand(
-        "calls on the whole rooms beside them",
-        &[2, 3, 5, 6, 7, 8, 19],
-    );
+    made.beside
+        .demand("calls on the whole rooms beside them", &[3, 5, 6, 7, 8, 19]);
 }

@@ -9,6 +9,7 @@
 
 use crate::generator::Generator;
 use crate::memory::{damage, restore_ticked, Damage, ROOM_BYTES, SEATS_TABLE};
+use crate::outcome::{expected, make, Outcome};
 use crate::output::Output;
 use crate::tally::say;
 use banavoge::raw;
@@ -33,25 +34,6 @@ const SEATS_ORDER: usize = SEATS_TABLE + 1;
 /// The bytes by which an output is longer than it has to be, most often none.
 const LONGER: [usize; 4] = [0, 0, 1, 952];
 
-/// Makes a call in the library, and answers what it answers.
-pub fn make(call: &Call, memory: &mut [u8], out: &mut [u8]) -> i32 {
-    match call {
-        Call::Arrive { key } => raw::relay::arrive(memory, key),
-        Call::Leave { seat } => raw::relay::leave(memory, *seat, out),
-        Call::Packet { seat, bytes } => raw::relay::packet(memory, *seat, bytes, out),
-        Call::Tick { time, ping } => raw::relay::tick(memory, *time, *ping, out),
-    }
-}
-
-/// The answer of the library for what the second program answers.
-pub fn code(call: &Call, answer: &Result<Accepted, Refusal>) -> i32 {
-    match (call, answer) {
-        (_, Err(number)) => -i32::from(*number),
-        (Call::Arrive { .. }, Ok(accepted)) => accepted.seat as i32,
-        (_, Ok(accepted)) => record::bytes(&accepted.records).len() as i32,
-    }
-}
-
 /// An output after a call that was answered so: the records, and behind them the
 /// old bytes.
 pub fn written(before: &Output, answer: &Result<Accepted, Refusal>) -> Output {
@@ -71,13 +53,14 @@ pub fn empty_room(salt: u8) -> Output {
 }
 
 /// Makes a call that must be refused with this number and leave every byte of
-/// the memory and of the output.
-fn refused(call: &Call, room: &Output, length: usize, output: usize, number: i32) {
+/// the memory and of the output, and the place for a seat.
+pub fn refused(call: &Call, room: &Output, length: usize, output: usize, number: Refusal) {
     let mut memory = room.clone();
     let mut out = Output::new(output, 0x33);
     let before = out.clone();
-    let answer = make(call, &mut memory.lent()[..length], out.lent());
-    assert_eq!(answer, -number, "{call:?}, output of {output} bytes");
+    let outcome = make(call, &mut memory.lent()[..length], out.lent());
+    let told = format!("{call:?}, output of {output} bytes");
+    assert_eq!(outcome, Outcome::refused(number), "{told}");
     assert!(memory == *room, "{call:?}: the memory was changed");
     assert!(out == before, "{call:?}: the output was written to");
 }
@@ -122,16 +105,16 @@ impl Compared {
         let out_before = out.clone();
         let found = make(call, self.memory.lent(), out.lent());
         let answer = self.met.make(call);
-        assert_eq!(found, code(call, &answer), "{told}");
+        assert_eq!(found, expected(call, &answer), "{told}");
         match &answer {
             Ok(accepted) => self.accepted(call, accepted, &before, told),
             Err(_) => assert!(self.memory == before, "{told}: the memory was changed"),
         }
-        let expected = written(&out_before, &answer);
+        let out_after = written(&out_before, &answer);
         assert!(
-            out == expected,
+            out == out_after,
             "{told}: the output differs first at {}",
-            out.first_difference(&expected)
+            out.first_difference(&out_after)
         );
         let tick = matches!(call, Call::Tick { .. });
         if place % DECODED == 0 || answer.is_err() || tick {

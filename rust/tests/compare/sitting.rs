@@ -3,8 +3,9 @@
 
 use crate::generator::Generator;
 use crate::memory::{damage, memory_of, Damage, DAMAGES};
+use crate::outcome::make;
 use crate::output::Output;
-use crate::relay::{empty_room, make};
+use crate::relay::empty_room;
 use crate::tally::{say, Tally};
 use banavoge::raw::sitting;
 use reference::call::Call;
@@ -154,7 +155,7 @@ fn who_was_put_out_is_told_by_the_seats() {
             } else {
                 Vec::new()
             };
-            let count = make(&call, room.lent(), &mut out);
+            let sent = make(&call, room.lent(), &mut out).written();
             let _ = call.make(&mut second, call.least_output());
             if !tick {
                 continue;
@@ -170,7 +171,7 @@ fn who_was_put_out_is_told_by_the_seats() {
                 assert!(is.is_none() || is == was, "seat {seat} was taken");
                 if gone.is_some() {
                     put_out += 1;
-                    silently += usize::from(count == 0);
+                    silently += usize::from(sent == 0);
                 }
             }
         }

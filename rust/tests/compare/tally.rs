@@ -19,7 +19,10 @@ impl Tally {
     pub fn add<T>(&mut self, outcome: &Result<T, u8>) {
         match outcome {
             Ok(_) => self.accepted += 1,
-            Err(number) => self.refused[usize::from(*number)] += 1,
+            Err(number) => {
+                assert_ne!(*number, 2, "2 is retired");
+                self.refused[usize::from(*number)] += 1;
+            }
         }
     }
 

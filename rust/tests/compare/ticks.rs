@@ -4,8 +4,9 @@
 //! Of a tick the room is decoded each time, and every byte of the memory that it
 //! may not change must be as before.
 
+use crate::outcome::make;
 use crate::output::Output;
-use crate::relay::{all_met, make, Compared};
+use crate::relay::{all_met, Compared};
 use crate::tally::{say, Tally};
 use banavoge::raw;
 use reference::call::Call;
@@ -88,12 +89,12 @@ impl Tried {
         let before = (memory.clone(), out.clone());
         let (time, ping) = (self.time, self.ping);
         let call = Call::Tick { time, ping };
-        let answer = make(&call, &mut memory.lent()[..self.memory], out.lent());
-        if answer >= 0 {
+        let outcome = make(&call, &mut memory.lent()[..self.memory], out.lent());
+        if outcome.answer >= 0 {
             return Ok(());
         }
         assert!((memory, out) == before, "{self:?}: a byte was changed");
-        Err(-answer as u8)
+        Err(-outcome.answer as u8)
     }
 }
 

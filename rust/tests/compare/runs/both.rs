@@ -2,8 +2,9 @@
 
 use super::lent::Lent;
 use crate::memory::ROOM_BYTES;
+use crate::outcome::make;
 use crate::output::Output;
-use crate::relay::{empty_room, make};
+use crate::relay::empty_room;
 use banavoge::raw::play::{self as library, Counts};
 use reference::call::Call;
 use reference::memory;

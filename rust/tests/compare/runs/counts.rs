@@ -49,10 +49,11 @@ impl Counts {
         }
     }
 
-    /// Fails unless calls were accepted, and refused with each of 1 to 9.
+    /// Fails unless calls were accepted, and refused with 1 and each of 3 to 9. With
+    /// 2, which is retired, none is refused.
     pub fn demand_refusals(&self) {
-        self.calls
-            .demand("calls played", &[1, 2, 3, 4, 5, 6, 7, 8, 9]);
+        let refusals = [1, 3, 4, 5, 6, 7, 8, 9];
+        self.calls.demand("calls played", &refusals);
     }
 }
 

@@ -63,12 +63,12 @@ fn changes(damage: Damage, call: &Call) -> Vec<(usize, u8)> {
     }
 }
 
-/// What is damaged: each history with the room that it begins from.
+/// What is damaged: each history with the room that it begins from. Answers of
+/// every form have the refusals 3 to 9, and full rooms have 1.
 fn histories() -> Vec<(Both, History)> {
     let mut histories = vec![(Both::empty(3), every_form())];
     for fill in FILLS {
         for length in [1, 2, 3, 5, 8, 13, 40] {
-            // With these seeds the runs meet each of the refusals 1 to 9.
             let mut course = Course::to(fill, 24_300 + length as u64);
             let history = course.next(length);
             histories.push((course.both, history));

@@ -13,9 +13,10 @@ fn packet(seat: u8, kind: u8, rest: &[u8]) -> Call {
     Call::Packet { seat, bytes }
 }
 
-/// Of the empty room: answers that are a head alone, accepted or refused; with
-/// one record, from the shortest to the longest; with three, when two are
-/// connected; and a leave that tells three peers.
+/// Of the empty room: answers that are a head alone, accepted or refused, with
+/// each of 3 to 9; with one record, from the shortest to the longest; with three,
+/// when two are connected; an arrival of a seated key that tells nobody, and one
+/// that tells three peers; and a leave that tells one.
 pub fn every_form() -> History {
     let mut calls: Vec<Call> = (0..4).map(|c| Call::Arrive { key: key(c) }).collect();
     calls.push(Call::Arrive { key: key(0) });
@@ -32,6 +33,13 @@ pub fn every_form() -> History {
     calls.push(packet(0, 18, &[0x65]));
     calls.push(packet(3, 0, &key(0)));
     calls.push(packet(1, 5, &[0, 0, 0, 0, 0, 0, 0, 9]));
+    let (seat, bytes) = (1, Vec::new());
+    calls.push(Call::Packet { seat, bytes });
+    calls.push(packet(1, 1, &[]));
+    calls.push(packet(1, 16, &[]));
+    calls.push(packet(1, 4, &[0; 8]));
+    calls.push(Call::Arrive { key: key(0) });
+    calls.push(packet(0, 0, &key(3)));
     calls.push(Call::Leave { seat: 0 });
     calls.push(Call::Leave { seat: 0 });
     History::new("answers of every form".into(), calls, &Room::empty(BASE))
@@ -54,6 +62,7 @@ fn the_answers_have_every_form() {
         head + 3 + 2_032,
     ]);
     expected.extend([head, head + told, head, connected, head]);
-    expected.extend([head + 3 * told, head]);
+    expected.extend([head; 4]);
+    expected.extend([head + 3 * told, connected, head + told, head]);
     assert_eq!(lengths, expected);
 }

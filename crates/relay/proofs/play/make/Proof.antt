@@ -7,10 +7,9 @@ use native.Mathlib.Nat.{add-sub-cancel-left}
 use native.Mathlib.Omega.{arith}
 use lib.ListN.{take, drop}
 use Rattle.rules.specs.Call.{arrive, leave, packetCall}
-use Rattle.room_laws.specs.View.{viewRoom}
 use Rattle.stored.specs.Stored.{call}
 use Rattle.relay.specs.PlaySteps.{Reads}
-use Rattle.relay.proofs.MakeCases.{arrive-read, leave-read, packet-read, makes, quiet-arrival, key-read}
+use Rattle.relay.proofs.MakeCases.{arrive-read, leave-read, packet-read, makes, key-read}
 use Rattle.relay.proofs.play.make.Statement.{statement}
 use Rattle.relay.proofs.play.make.Tie as tie
 
@@ -68,22 +67,28 @@ step-requires-3 c κs = search needs
 same-length : tie.Need-same-length
 same-length c = search needs
 
-returns : tie.Need-returns
-returns c =
-    let s = c .before .before .before .before .before .before .before .before .before .before .before in
-    let a = s .args in
-    let stored = a .calls .now in
-    let r = arrive-read stored (subst (Reads stored) (c .before .before .before .before .before .before .enum-told .given .1) (s .pre .1)) in
-    let key = c .before .before .before .read in
-    let same = key-read stored (key .result .0) (r .long) (key .ensures) in
-    makes (a .seats) (a .numbers) stored (a .memory .now) (a .out .now) _ _ _ (arrive (key .result .0)) (r .first ∙ ap (λ (x : List ℕ). call (arrive x)) (sym same))
-    (quiet-arrival (a .seats) (a .numbers) (viewRoom (a .seats) (a .numbers) (a .memory .now)) (key .result .0) (a .memory .now) (a .out .now) _ _ (c .before .before .step .ensures))
-
 same-length-2 : tie.Need-same-length-2
 same-length-2 c = search needs
 
+returns : tie.Need-returns
+returns c =
+    let stepped = c .before .before .before .before in
+    let read = stepped .before .before in
+    let told = read .before .before .before in
+    let s = told .before .before .before .before .before in
+    let a = s .args in
+    let stored = a .calls .now in
+    let r = arrive-read stored (subst (Reads stored) (told .enum-told .given .1) (s .pre .1)) in
+    let key = read .read in
+    let same = key-read stored (key .result .0) (r .long) (key .ensures) in
+    makes (a .seats) (a .numbers) stored (a .memory .now) (a .out .now) _ _ _ (arrive (key .result .0)) (r .first ∙ ap (λ (x : List ℕ). call (arrive x)) (sym same))
+    (stepped .step .ensures)
+
 same-length-3 : tie.Need-same-length-3
 same-length-3 c = search needs
+
+same-length-4 : tie.Need-same-length-4
+same-length-4 c = search needs
 
 returns-2 : tie.Need-returns-2
 returns-2 c =
@@ -94,11 +99,11 @@ returns-2 c =
     makes (a .seats) (a .numbers) stored (a .memory .now) (a .out .now) _ _ _ (leave (seat .0))
     (leave-read stored seat (subst (Reads stored) (c .before .before .before .before .before .before .before .before .call .given .1) (s .pre .1))) (c .before .before .before .before .step2 .ensures)
 
-same-length-4 : tie.Need-same-length-4
-same-length-4 c = search needs
-
 same-length-5 : tie.Need-same-length-5
 same-length-5 c = search needs
+
+same-length-6 : tie.Need-same-length-6
+same-length-6 c = search needs
 
 returns-3 : tie.Need-returns-3
 returns-3 c =
@@ -130,10 +135,11 @@ make-spec =
     part-step-end
     step-requires-3
     same-length
-    returns
     same-length-2
+    returns
     same-length-3
-    returns-2
     same-length-4
+    returns-2
     same-length-5
+    same-length-6
     returns-3)
