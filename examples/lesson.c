@@ -458,7 +458,7 @@ static bool refused(const struct host *host, int32_t answer, enum banavoge_refus
     return answer == -(int32_t)why && output_is(host, &untouched);
 }
 
-/* ---- The lesson; P1 to P9 are document 01's examples ---- */
+/* ---- The lesson; P1 to P9 are document 01's examples, P3 as document 02 has it ---- */
 
 /* P1 to P3. There is nobody to tell, not even where Alice arrives again. */
 static void arrivals(struct host *host)

@@ -525,7 +525,9 @@ int32_t banavoge_tick(uint8_t *room, size_t room_length, uint64_t time, uint64_t
  *
  * The refusal is 0 where there is none. The seat is that of the call, of an arrival the one that it
  * was given, of a refused call 0. The records of an arrival tell the peers of a key that was seated
- * already, as by banavoge_arrive.
+ * already, as by banavoge_arrive. Its old seat is told by banavoge_seat_of before the run, or, where
+ * the key arrived in the same run before, by the entry of that arrival; and no call made for the old
+ * socket may stand behind the arrival.
  */
 #define BANAVOGE_PLAYED_HEAD 4 /* refusal, seat and length, before the records of a played call */
 

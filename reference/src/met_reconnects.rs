@@ -5,12 +5,12 @@
 //! whether the call before was a reconnect of the same key.
 
 use crate::key::Key;
+use crate::met::Met;
 use crate::met_ticks;
 use crate::room::Room;
 use crate::seat::Seat;
 
-/// Every case of a reconnect, in no order. The two of pings are among those of
-/// ticks, since only a tick brings one.
+/// Every case of a reconnect but the two of pings, in no order.
 pub const RECONNECT_CASES: [&str; 9] = [
     "reconnect without peers",
     "reconnect with peers",
@@ -22,6 +22,20 @@ pub const RECONNECT_CASES: [&str; 9] = [
     "reconnect into its own seat",
     "reconnect twice in a row",
 ];
+
+/// The two of pings. They are among the cases of ticks, since only a tick brings
+/// a ping.
+pub const RECONNECT_PING_CASES: [&str; 2] = [
+    "reconnect with a ping outstanding",
+    "reconnect with a ping time before the clock",
+];
+
+/// How often each case of a reconnect was met, those of pings last.
+pub fn reconnect_counts(met: &Met) -> Vec<(&'static str, usize)> {
+    let others = RECONNECT_CASES.map(|case| (case, met.counts()[case]));
+    let pings = RECONNECT_PING_CASES.map(|case| (case, met.tick_counts()[case]));
+    others.into_iter().chain(pings).collect()
+}
 
 /// An accepted arrival of a key that was seated.
 pub struct Reconnect<'a> {

@@ -4,7 +4,7 @@ use std::collections::HashSet;
 
 use super::*;
 use crate::call::Call;
-use crate::met::{Met, CASES};
+use crate::met::CASES;
 use crate::met_ticks::TICK_CASES;
 use crate::room::Sizes;
 
@@ -52,22 +52,15 @@ fn connected() -> Vec<Call> {
     vec![arrive(KA), arrive(KB), request(0, KB), request(1, KA)]
 }
 
-/// The counts of the cases of reconnects, those with ticks among them.
-fn counts(met: &Met) -> Vec<(&'static str, usize)> {
-    let ticks = [OWED, EARLIER].map(|case| (case, met.tick_counts()[case]));
-    let others = RECONNECT_CASES.map(|case| (case, met.counts()[case]));
-    others.into_iter().chain(ticks).collect()
-}
-
 /// The last call behind the others meets just these cases, once each.
 fn meets(first: &[Call], last: Call, expected: &[&str]) {
     let mut met = Met::new(SMALL);
     for call in first {
         let _ = met.make(call);
     }
-    let before = counts(&met);
+    let before = reconnect_counts(&met);
     let _ = met.make(&last);
-    for ((case, now), (_, before)) in counts(&met).into_iter().zip(before) {
+    for ((case, now), (_, before)) in reconnect_counts(&met).into_iter().zip(before) {
         let times = usize::from(expected.contains(&case));
         assert_eq!(now - before, times, "{case}");
     }

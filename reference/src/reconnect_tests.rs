@@ -104,21 +104,9 @@ fn with_peers_each_is_told_and_its_request_goes_on_waiting() {
 
 #[test]
 fn notices_go_by_the_rising_numbers_of_the_one_that_comes_back() {
-    // Seat 0 asks for seats 3, 1 and 2 in turn, and seat 4 does not ask back. Each
-    // of the others has its own number for seat 0.
-    let keys: Vec<Key> = (0..5).map(other).collect();
-    let mut room = seated(&keys);
-    for seat in [3, 4, 1, 2] {
-        sends(&mut room, 0, &request(&keys[seat])).unwrap();
-    }
-    for (seat, before) in [(1, 2), (2, 0), (3, 1)] {
-        for number in 0..before {
-            sends(&mut room, seat, &request(&[number; 32])).unwrap();
-        }
-        sends(&mut room, seat, &request(&keys[0])).unwrap();
-    }
+    let mut room = three_peers();
     let notices = [told(3, 0x11), told(1, 0x12), told(2, 0x10)].concat();
-    assert_eq!(reconnects(&mut room, &keys[0]), (0, notices));
+    assert_eq!(reconnects(&mut room, &other(0)), (0, notices));
 }
 
 /// "1 is given only to a key not seated"

@@ -112,6 +112,23 @@ pub(super) fn other(number: u8) -> Key {
     key
 }
 
+/// Seat 0 asks for seats 3, 4, 1 and 2 in turn, which gives 16 to 19. Seat 4 does
+/// not ask back; each of the others has its own number for seat 0.
+pub(super) fn three_peers() -> Room {
+    let keys: Vec<Key> = (0..5).map(other).collect();
+    let mut room = seated(&keys);
+    for seat in [3, 4, 1, 2] {
+        sends(&mut room, 0, &request(&keys[seat])).unwrap();
+    }
+    for (seat, before) in [(1, 2), (2, 0), (3, 1)] {
+        for number in 0..before {
+            sends(&mut room, seat, &request(&[number; 32])).unwrap();
+        }
+        sends(&mut room, seat, &request(&keys[0])).unwrap();
+    }
+    room
+}
+
 #[test]
 fn p1_p2_p3_arrivals() {
     let mut room = Room::empty(BASE);
@@ -512,19 +529,7 @@ fn a_request_for_an_absent_key_connects_when_its_client_asks_back() {
 
 #[test]
 fn leave_notifications_go_by_the_leavers_rising_numbers() {
-    // Seat 0 asks for seats 3, 1, 2 and 4 in turn, which gives 16 to 19. Seat 4
-    // does not ask back; each of the others has its own number for seat 0.
-    let keys: Vec<Key> = (0..5).map(other).collect();
-    let mut room = seated(&keys);
-    for seat in [3, 1, 2, 4] {
-        sends(&mut room, 0, &request(&keys[seat])).unwrap();
-    }
-    for (seat, before) in [(1, 2), (2, 0), (3, 1)] {
-        for number in 0..before {
-            sends(&mut room, seat, &request(&[number; 32])).unwrap();
-        }
-        sends(&mut room, seat, &request(&keys[0])).unwrap();
-    }
+    let mut room = three_peers();
     let notifications = run(&[
         &[0x03, 0x00, 0x02, 0x03, 0x11],
         &[0x01, 0x00, 0x02, 0x03, 0x12],

@@ -20,7 +20,7 @@
 //!
 //! # Two clients meet
 //!
-//! Document 01's examples P1 to P6:
+//! Document 01's examples P1 to P6, P3 as document 02's Req 04 has it:
 //!
 //! ```
 //! use banavoge::{ConnectionNumber, FromClient, FromRelay, Key, Records};

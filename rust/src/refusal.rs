@@ -18,6 +18,7 @@ use std::fmt;
 /// assert_eq!(refusal.number(), 3);
 /// assert_eq!(refusal.to_string(), "seat above 39, or empty");
 /// assert_eq!(Refusal::from_number(3), Some(refusal));
+/// assert!(Refusal::AlreadySeated.to_string().starts_with("retired: "));
 /// ```
 #[derive(Debug, Clone, Copy, PartialEq, Eq, Hash)]
 #[repr(u8)]

@@ -274,7 +274,11 @@ impl Room {
 
     /// Plays stored calls from the front of `calls`, at most `allowance` of
     /// them, as if each were made by itself. The library tests the room once
-    /// and not for each call. A tick has no stored form.
+    /// and not for each call. A tick has no stored form. Where an arrival may be
+    /// of a key that is seated already, its old seat is told by
+    /// [`seat_of`](Room::seat_of) before the run, or, where the key arrived in the
+    /// same run before, by the answer to that arrival; and no call made for the old
+    /// connection may stand behind the arrival.
     ///
     /// What is no stored call, an allowance used up and too little output only
     /// stop it: the rest may be played by a further call. Never refused: 11 is

@@ -2,7 +2,8 @@
 
 use std::fmt;
 
-/// A seat of a room: where one client sits from its arrival to its leave.
+/// A seat of a room: where one client sits from its arrival until it leaves, is
+/// put out by a tick or arrives again.
 ///
 /// It is no [`ConnectionNumber`](crate::ConnectionNumber): seat 17 and number
 /// 17 have nothing to do with each other.

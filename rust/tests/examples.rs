@@ -74,6 +74,17 @@ fn answer(seat: u8, number: u8, key: &Key) -> Vec<u8> {
     [&[seat, 0, 0x22, 1, number], &key.0[..]].concat()
 }
 
+/// The records of a request that connects two clients, with number 16 each: the
+/// answer, and both are told, the asker first.
+fn connects(asker: u8, peer: u8, key: &Key) -> Vec<u8> {
+    [
+        &answer(asker, 0x10, key)[..],
+        &[asker, 0, 2, 2, 0x10],
+        &[peer, 0, 2, 2, 0x10],
+    ]
+    .concat()
+}
+
 /// The record of a ping.
 fn ping(seat: u8, number: u8) -> Vec<u8> {
     vec![seat, 0, 9, 4, 0, 0, 0, 0, 0, 0, 0, number]
@@ -92,12 +103,7 @@ fn p1_to_p6_two_clients_connect_and_send() {
     assert_eq!(host.arrive(&KB), in_seat(1));
     assert_eq!(host.arrive(&KA), in_seat(0));
     assert_eq!(host.request(Seat(0), &KB), Ok(answer(0, 0x10, &KB)));
-    let told = [
-        &answer(1, 0x10, &KA)[..],
-        &[1, 0, 2, 2, 0x10],
-        &[0, 0, 2, 2, 0x10],
-    ]
-    .concat();
+    let told = connects(1, 0, &KA);
     assert_eq!(told.len(), 47);
     assert_eq!(host.request(Seat(1), &KA), Ok(told));
     assert_eq!(
@@ -252,13 +258,7 @@ fn who_comes_back_has_left_and_the_peer_is_told() {
         host.packet(Seat(1), &[0x10, 0x61]),
         Err(Refusal::NotConnected)
     );
-    let told = [
-        &answer(0, 0x10, &KB)[..],
-        &[0, 0, 2, 2, 0x10],
-        &[1, 0, 2, 2, 0x10],
-    ]
-    .concat();
-    assert_eq!(host.request(Seat(0), &KB), Ok(told));
+    assert_eq!(host.request(Seat(0), &KB), Ok(connects(0, 1, &KB)));
 }
 
 /// The seat is looked for after the leave, and may be below the old one.
@@ -305,13 +305,7 @@ fn data_goes_on_under_the_number_of_the_one_who_gets_it() {
 fn both_are_told_again_when_the_other_asks_again() {
     let mut host = Host::connected();
     assert_eq!(host.packet(Seat(0), &[3, 0x10]), Ok(vec![1, 0, 2, 3, 0x10]));
-    let told = [
-        &answer(0, 0x10, &KB)[..],
-        &[0, 0, 2, 2, 0x10],
-        &[1, 0, 2, 2, 0x10],
-    ]
-    .concat();
-    assert_eq!(host.request(Seat(0), &KB), Ok(told));
+    assert_eq!(host.request(Seat(0), &KB), Ok(connects(0, 1, &KB)));
 }
 
 #[test]

@@ -179,12 +179,12 @@ unfolding history returned
 returned-is = (refl, refl, refl)
 
 -- a refused arrival of its key is none: it has left, and both seats are taken
-unfoldable pub turnedAway : List Call
-turnedAway = leave 0 ∷ arrive kb ∷ arrive kc ∷ arrive ka ∷ []
+unfoldable pub refusedArrival : List Call
+refusedArrival = leave 0 ∷ arrive kb ∷ arrive kc ∷ arrive ka ∷ []
 
-pub turned-away-is : (isLatest turnedAway ≡ true) × (sitter begin (now turnedAway) 0 ≡ clientOf kb) × (sitter begin (now turnedAway) 1 ≡ clientOf kc)
-unfolding history turnedAway
-turned-away-is = (refl, refl, refl)
+pub refused-arrival-is : (isLatest refusedArrival ≡ true) × (sitter begin (now refusedArrival) 0 ≡ clientOf kb) × (sitter begin (now refusedArrival) 1 ≡ clientOf kc)
+unfolding history refusedArrival
+refused-arrival-is = (refl, refl, refl)
 
 -- a tick that is refused does not move the clock: one with the number 0, and one that goes back
 unfoldable pub refusedTicks : List Call

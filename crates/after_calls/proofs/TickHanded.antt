@@ -27,30 +27,30 @@ unfolding EachSent
 each-append P [] b ha hb = hb
 each-append P (s ∷ a) b ha hb = (ha .0, each-append P a b (ha .1) hb)
 
-each-map : (P Q : Sent → Type 0) → ((s : Sent) → P s → Q s) → (l : List Sent) → EachSent P l → EachSent Q l
+pub each-map : (P Q : Sent → Type 0) → ((s : Sent) → P s → Q s) → (l : List Sent) → EachSent P l → EachSent Q l
 unfolding EachSent
 each-map P Q f [] h = h
 each-map P Q f (s ∷ l) h = (f s (h .0), each-map P Q f l (h .1))
 
--- ---- what a Leave tells goes to seated clients
+-- ---- what a Leave of `seat` tells goes to clients that sit in other seats
 
-module _ (start : Start) (past now : Past) (kept : (i : ℕ) (key : Key) → sitter start now i ≡ clientOf key → sitter start past i ≡ clientOf key) where
-  told-seated : (seat number : ℕ) (sent : List Sent) → Disconnects start now seat number sent → EachSent (SameSitter start past now) sent
-  told-seated seat number sent d = go (d .decided)
+module _ (start : Start) (past now : Past) (seat : ℕ)
+    (kept : (i : ℕ) (key : Key) → seat ≢ i → sitter start now i ≡ clientOf key → sitter start past i ≡ clientOf key) where
+  told-seated : (number : ℕ) (sent : List Sent) → Disconnects start now seat number sent → EachSent (SameSitter start past now) sent
+  told-seated number sent d = go (d .decided)
     where
       go : PeerOrNone start now seat number → EachSent (SameSitter start past now) sent
       go (peerIs other number′ c) =
           subst (EachSent (SameSitter start past now)) (sym (d .told other number′ .1 c))
-          (unfold EachSent to in (record { key = c .wanted; written = c .there .sits; before = kept other (c .wanted) (c .there .sits) }, tt))
+          (unfold EachSent to in (record { key = c .wanted; written = c .there .sits; before = kept other (c .wanted) (c .apart) (c .there .sits) }, tt))
       go (noPeer none) = subst (EachSent (SameSitter start past now)) (sym (d .otherwise none)) (unfold EachSent in tt)
 
-  turn-seated : (seat number many : ℕ) (sent : List Sent) → InTurn start now seat number many sent → EachSent (SameSitter start past now) sent
+  pub turn-seated : (number many : ℕ) (sent : List Sent) → InTurn start now seat number many sent → EachSent (SameSitter start past now) sent
   unfolding InTurn
-  turn-seated seat number zero sent h = subst (EachSent (SameSitter start past now)) (sym h) (unfold EachSent in tt)
-  turn-seated seat number (suc many) sent h =
+  turn-seated number zero sent h = subst (EachSent (SameSitter start past now)) (sym h) (unfold EachSent in tt)
+  turn-seated number (suc many) sent h =
       subst (EachSent (SameSitter start past now)) (sym (h .both))
-      (each-append (SameSitter start past now) (h .front) (h .back) (told-seated seat number (h .front) (h .first))
-      (turn-seated seat (suc number) many (h .back) (h .rest)))
+      (each-append (SameSitter start past now) (h .front) (h .back) (told-seated number (h .front) (h .first)) (turn-seated (suc number) many (h .back) (h .rest)))
 
 -- ---- the departures
 
@@ -76,7 +76,7 @@ module _ (sizes : Sizes) (start : Start) (past : Past) (time : ℕ) where
   unfolding EachWritten
   departures-written now kept seat many sent done = tt
   departures-written now kept seat many sent (leaves {many = m} {back = back} front o tells rest) = (
-    turn-seated start past now kept seat firstNumber (sizes .numbers) front (tells .inTurn),
+    turn-seated start past now seat (λ i key apart. kept i key) firstNumber (sizes .numbers) front (tells .inTurn),
     departures-written (leaveEvent seat front ∷ now) (λ i key h. kept i key (left-kept start now seat front i key h)) (suc seat) m back rest,
   )
   departures-written now kept seat many sent (stays {many = m} remains rest) = departures-written now kept (suc seat) m sent rest

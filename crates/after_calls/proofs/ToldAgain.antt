@@ -22,9 +22,10 @@ use Rattle.rules.specs.Outcome.{Outcome, seatEmptied, seatTaken, withRoute, app
 use Rattle.rules.specs.Transcript.{isAccepted}
 use Rattle.after_calls.specs.Told.{BothTold}
 use Rattle.rules.proofs.FindLaws.{clash, Once, find-hit, find-miss, find-within, find-once, find-clear, find-replicate, seat-set, held-within, wanted-high, wanted-place}
-use Rattle.rules.proofs.Whole.{key-once, key-found, wanted-once, seats-keys-differ, whole-after}
+use Rattle.rules.proofs.Whole.{key-found, left-nowhere, wanted-once, seats-keys-differ, whole-after}
 use Rattle.rules.proofs.ComesBack as comes
-use Rattle.rules.proofs.ComesBack.{arrives-new, Lowest, some-empty, comes-back-to}
+use Rattle.rules.proofs.ComesBack.{arrives-new, Lowest, some-empty, comes-back-to, takes-then, comes-back}
+use Rattle.rules.proofs.OutcomeLaws.{room-after-both}
 use Rattle.rules.proofs.PeerLaws.{has-peer}
 use Rattle.rules.proofs.OtherSeats.{packet-keeps-others, leave-keeps-others, arrive-keeps-others}
 
@@ -117,11 +118,11 @@ module _ (sizes : Sizes) (room : Room) (whole : Whole sizes room) (seat other : 
     unfolding outcome leaveFrom accept roomAfter applyAll apply
     left-is = rw here
 
+    found : find (seatOf (held .key)) (room .seats) ≡ at seat
+    found = key-found sizes room whole seat held here
+
     not-seated : find (seatOf (held .key)) (left .seats) ≡ none
-    unfolding seatOf seatAt
-    not-seated =
-        ap (λ (r : Room). find (seatOf (held .key)) (r .seats)) left-is
-        ∙ find-clear (seatOf (held .key)) vacant (room .seats) seat vacant (key-once sizes room whole (held .key)) (ap (seatOf (held .key)) here ∙ same-refl (held .key)) refl
+    not-seated = ap (λ (r : Room). find (seatOf (held .key)) (r .seats)) left-is ∙ left-nowhere sizes room whole (held .key) seat found
 
     -- its arrival is accepted, since its old seat is empty
     pub accepted-after-leave : isAccepted (outcome left (arrive (held .key)) .answer) ≡ true
@@ -163,9 +164,6 @@ module _ (sizes : Sizes) (room : Room) (whole : Whole sizes room) (seat other : 
 
     -- it comes back without leaving, and asks again: the room is the same then
     module _ (again count : ℕ) (answered : outcome room (arrive (held .key)) .answer ≡ accepted again count) where
-      found : find (seatOf (held .key)) (room .seats) ≡ at seat
-      found = key-found sizes room whole seat held here
-
       low : Lowest room (held .key) seat found
       low = some-empty room (held .key) seat found
 
@@ -176,19 +174,18 @@ module _ (sizes : Sizes) (room : Room) (whole : Whole sizes room) (seat other : 
       unfolding accept
       same-seat = let h = sym (ap (λ (o : Outcome). o .answer) returns) ∙ answered in let q : low .place ≡ again = cc in q
 
-      takes : outcome left (arrive (held .key)) ≡ takeSeat (at (low .place)) (held .key)
-      takes =
-          arrives-new left (held .key) not-seated
-          ∙ ap (λ (f : Found). takeSeat f (held .key)) (ap (λ (r : Room). find isVacant (r .seats)) left-is ∙ low .lowest)
+      takes : outcome left (arrive (held .key)) ≡ accept (low .place) (seatTaken (low .place) (held .key) ∷ []) []
+      takes = ap (λ (r : Room). outcome r (arrive (held .key))) left-is ∙ takes-then room (held .key) seat found sizes whole (low .place) (low .lowest)
 
-      same-room : back ≡ roomAfter sizes room (outcome room (arrive (held .key)))
-      unfolding takeSeat accept roomAfter applyAll apply
+      same-room : roomAfter sizes room (outcome room (arrive (held .key))) ≡ back
+      unfolding isAccepted
       same-room =
-          ap (roomAfter sizes left) takes
-          ∙ ap (λ (r : Room). setSeat r (low .place) (holds (newcomer sizes (r .clock) (held .key)))) left-is
-          ∙ sym (ap (roomAfter sizes room) returns)
+          let both = comes-back room (held .key) seat found sizes whole in
+          ap (roomAfter sizes room) both
+          ∙ room-after-both sizes room (outcome room (leave seat)) (λ r. outcome r (arrive (held .key)))
+          (ap (λ (o : Outcome). isAccepted (o .answer)) (sym both) ∙ ap isAccepted answered)
 
       pub told-again-after-return : BothTold (outcome (roomAfter sizes room (outcome room (arrive (held .key)))) (packetCall again asks)) again other number′ (held′ .key)
-      unfolding takeSeat accept
+      unfolding accept
       told-again-after-return =
-          rw (← same-room, ← same-seat) (told-again-after-leave (low .place) _ (ap (λ (o : Outcome). o .answer) takes))
+          rw (same-room, ← same-seat) (told-again-after-leave (low .place) _ (ap (λ (o : Outcome). o .answer) takes))

@@ -1,5 +1,5 @@
--- Whom a tick's records go to, by what has happened alone. Document 01: "those in the output records for the seat C holds when each is written". A tick may write
--- a record for a seat that it empties afterwards.
+-- Whom a call's records go to, by what has happened alone. Document 01: "those in the output records for the seat C holds when each is written". A tick may write
+-- a record for a seat that it empties afterwards; an arrival or a Leave writes them for seats in which one client sits before it and after it.
 use mathlib.Core.List.{List, [], _∷_}
 use mathlib.Core.Path.{_≡_}
 use Prim.Native.Nat.{ℕ}
@@ -9,7 +9,8 @@ use Rattle.rules.specs.History.{Event}
 use Rattle.rules.specs.Transcript.{Past, clientOf, Start, sitter}
 use Rattle.after_calls.specs.Ticks.{LeavesFrom, done, leaves, stays, TickDoes}
 
--- a client sits in the seat of a record when it is written, after `now`, and the same client sat there before the call, after `past`
+-- a client sits in the seat of a record after `now`, which is when it is written or, of an arrival or a Leave, after the call; and the same client sat there before
+-- the call, after `past`
 pub record SameSitter (start : Start) (past now : Past) (s : Sent) : Type 0 where
   pub key : Key
   pub written : sitter start now (s .seat) ≡ clientOf key

@@ -1,27 +1,36 @@
--- For every tick that the host makes: what C is handed by who sits in the seat of each record when it is written is what it is handed by who sat there before the
--- call, though the tick may empty the seat afterwards. Demand 3 is proved with the second, of every call. Assumes nothing.
+-- Document 01: C's packets are "those in the output records for the seat C holds when each is written". Demand 3 is proved with who sat there before the call.
+-- For every tick that the host makes, what C is handed by who sits in the seat of each record when it is written is the same, though the tick may empty the seat
+-- afterwards. Every other call keeps whoever sits in the seats that it writes records for, though an arrival of a seated key empties one seat and takes another:
+-- so who sits there after the call gives the same too. Assumes nothing.
 use mathlib.Core.Path.{_≡_, refl, sym, ap, ap₂, _∙_}
 use mathlib.Core.Bool.{Bool, true, false}
 use mathlib.Core.List.{List, [], _∷_, _++_}
+use mathlib.Core.Logic.{_≢_}
 use Prim.Native.Nat.{ℕ, suc, _≤_}
 use lib.IntN.{ℤ}
 use lib.ListN.{length}
-use Rattle.rules.specs.Room.{Sizes, Key, sizesOf}
-use Rattle.rules.specs.Call.{tick, Sent, needed}
-use Rattle.rules.specs.History.{Event}
-use Rattle.rules.specs.Transcript.{Past, Start, fromEmpty, isAccepted, isClient, sitter}
-use Rattle.rules.specs.After.{pastAfter}
+use Rattle.rules.specs.Room.{Sizes, Key, Room, sizesOf}
+use Rattle.rules.specs.Whole.{Whole}
+use Rattle.rules.specs.Call.{Call, arrive, leave, packetCall, tick, Sent, needed}
+use Rattle.rules.specs.History.{Event, event}
+use Rattle.rules.specs.Transcript.{Past, Start, fromEmpty, isAccepted, isClient, sitsAfter, sitter}
+use Rattle.rules.specs.After.{pastAfter, Tied}
+use Rattle.rules.proofs.EachEvent.{from-empty}
 use Rattle.after_calls.specs.Ticks.{leaveEvent, LeavesFrom, done, leaves, stays, TickDoes}
 use Rattle.after_calls.specs.Handed.{SameSitter, EachSent, EachWritten, afterLeaves, TickHanded}
+use Rattle.after_calls.proofs.Told.{leave-tells}
+use Rattle.after_calls.proofs.Given.{arrive-answered}
 use Rattle.after_calls.proofs.TickHanded.{tick-handed}
+use Rattle.after_calls.proofs.CallHanded.{leave-handed, arrive-handed}
 use Rattle.isolation.specs.Record.{handedIf, handed}
 use Rattle.relay_laws.specs.Calls.{Ticks}
 use Rattle.banavoge_laws.specs.Answers.{ToldAs}
 use Rattle.banavoge_laws.specs.RelayCalls.{countCode}
 use Rattle.histories.specs.Seen.{seen}
 use Rattle.histories.specs.Lent.{Lent}
-use Rattle.histories.specs.History.{AnyCalls, History}
+use Rattle.histories.specs.History.{Step, AnyCalls, History, callsOf}
 use Rattle.histories.specs.HandedWhenWritten.{handedByLeaves, handedByTick}
+use Rattle.histories.proofs.Histories.{after-calls, history-event}
 use Rattle.histories.proofs.TicksInHistories.{tick-does-after-calls, tick-does-in-histories}
 
 module _ (start : Start) (past : Past) (c : Key) where
@@ -77,3 +86,46 @@ module _ (s n : ℕ) (events : List Event) (b′ : List ℕ) (h : History s n ev
   handed-in-histories c =
       tick-handed-same (fromEmpty (sizesOf s n)) (pastAfter [] before) c (sizesOf s n) time number e
       (tick-does-in-histories s n events b′ h before e later t time number q a)
+
+-- ---- every other call: by who sat in the seats before it, or by who sits there after it
+
+module _ (sizes : Sizes) (start : Start) (past : Past) (room : Room) (whole : Whole sizes room) (tie : Tied start past room) (c : Key) where
+  -- a packet moves nobody
+  same-sitters : (now : Past) → ((i : ℕ) → sitter start now i ≡ sitter start past i) → (l : List Sent) → handed start now c l ≡ handed start past c l
+  unfolding handed
+  same-sitters now same [] = refl
+  same-sitters now same (s ∷ l) = rw (same (s .seat), same-sitters now same l)
+
+  throughout : (call : Call) → ((time number : ℕ) → call ≢ tick time number)
+      → handed start (event room call ∷ past) c (event room call .sent) ≡ handed start past c (event room call .sent)
+  unfolding event
+  throughout (arrive key) other =
+      same-handed start past c (event room (arrive key) ∷ past) (event room (arrive key) .sent)
+      (arrive-handed sizes start past room whole tie key (event room (arrive key)) refl (arrive-answered sizes start past room whole tie key))
+  throughout (leave seat) other =
+      same-handed start past c (event room (leave seat) ∷ past) (event room (leave seat) .sent)
+      (leave-handed sizes start past seat (event room (leave seat)) refl (leave-tells sizes start past room whole tie seat))
+  throughout (packetCall seat bytes) other =
+      same-sitters (event room (packetCall seat bytes) ∷ past) (λ i. unfold sitter sitsAfter in refl) (event room (packetCall seat bytes) .sent)
+  throughout (tick time number) other = absurd (other time number refl)
+
+-- after any calls, where the output is long enough
+pub handed-throughout-after-calls : (s n : ℕ) (lents : List Lent) (events : List Event) (b : List ℕ) → AnyCalls s n lents events b
+    → (l : Lent) (e : Event) (b′ : List ℕ) → Step s n b l e b′ → needed (l .call) ≤ l .space → ((time number : ℕ) → e .call ≢ tick time number)
+    → (c : Key) → handed (fromEmpty (sizesOf s n)) (e ∷ pastAfter [] events) c (e .sent) ≡ handed (fromEmpty (sizesOf s n)) (pastAfter [] events) c (e .sent)
+unfolding event
+handed-throughout-after-calls s n lents events b h l e b′ step long other c =
+    after-calls s n
+    (λ past e. ((time number : ℕ) → e .call ≢ tick time number) → handed (fromEmpty (sizesOf s n)) (e ∷ past) c (e .sent) ≡ handed (fromEmpty (sizesOf s n)) past c (e .sent))
+    (λ past room whole tie call. throughout (sizesOf s n) (fromEmpty (sizesOf s n)) past room whole tie c call) lents events b h l e b′ step long other
+
+-- inside a history
+pub handed-throughout-in-histories : (s n : ℕ) (events : List Event) (b : List ℕ) → History s n events b
+    → (before : List Event) (e : Event) (later : List Event) → events ≡ before ++ (e ∷ later) → ((time number : ℕ) → e .call ≢ tick time number)
+    → (c : Key) → handed (fromEmpty (sizesOf s n)) (e ∷ pastAfter [] before) c (e .sent) ≡ handed (fromEmpty (sizesOf s n)) (pastAfter [] before) c (e .sent)
+unfolding event
+handed-throughout-in-histories s n events b h before e later t other c =
+    from-empty (sizesOf s n)
+    (λ past e. ((time number : ℕ) → e .call ≢ tick time number) → handed (fromEmpty (sizesOf s n)) (e ∷ past) c (e .sent) ≡ handed (fromEmpty (sizesOf s n)) past c (e .sent))
+    (λ past room whole tie call. throughout (sizesOf s n) (fromEmpty (sizesOf s n)) past room whole tie c call)
+    (callsOf events) before e later (history-event s n events b h before e later t) other

@@ -1,7 +1,7 @@
 -- `ReadBack`, what is read in an output that begins with records; `Answered`, the number that an export answers tells its answer; `LentLaws`, calls with any
 -- output; `Histories`, demand 2 of any calls and of every history; `DataInHistories`, its sentence on data; `RequestsInHistories`, one seat for a key, the
 -- grounds for 0 and a client's own key; `TicksInHistories`, what a tick does, and who sits in a seat; `PongsInHistories`, what a pong does, and where a key
--- sits; `SilentInHistories`, the 40 seconds; `HandedInHistories`, what a tick hands a client; `ReturnsInHistories`, a client that comes back; `Retired`, no
+-- sits; `SilentInHistories`, the 40 seconds; `HandedInHistories`, whom a record is handed to; `ReturnsInHistories`, a client that comes back; `Retired`, no
 -- answer is 2; `IsolationInHistories`, demand 3; `EverySequence`, every sequence of calls has a history; `FromExports`, the contract of an exported call is a
 -- step; `RefusedLeaves`, a refused export leaves all as before, and a room that is not whole is refused. Of nearest lists, packets, nodes and frames:
 -- `ListHistories`, demand 2 of lists, with the k nearest; `EveryList`, any calls on a list have a history; `WrittenAndRead`, reading what was written and

@@ -1,5 +1,5 @@
--- Document 02: "2 is retired". After any calls, with any outputs, and so in every history, none of the answers that the host has seen is it; and no export that is
--- lent the memory of a room answers minus 2, whatever that memory holds. A run of stored calls is such calls (`RunHistories`). Assumes nothing.
+-- Document 02: "2 is retired". After any calls, with any outputs, and so in every history, none of the answers that the host has seen is it; no entry that a run of
+-- stored calls writes has it, on any whole room; and no export that is lent the memory of a room answers minus 2, whatever that memory holds. Assumes nothing.
 use mathlib.Core.Path.{_≡_, refl, sym, ap, _∙_}
 use mathlib.Core.Bool.{Bool, true, false, cond, true≢false}
 use mathlib.Core.List.{List, [], _∷_}
@@ -11,7 +11,7 @@ use borrow.Author.Tests.{not-true}
 use Rattle.refusal.specs.declared.Refusal.{Refusal}
 use Rattle.refusal.specs.declared.Refusal.the-variants.{AlreadySeated, OutputTooShort, RoomNotWhole, NotSeated}
 use Rattle.refusal.specs.Numbers.{isRetired}
-use Rattle.rules.specs.Room.{Sizes, Key, Seat, vacant, holds, Room, emptyRoom, sizesOf, Found, none, at, find, seatOf, seatAt}
+use Rattle.rules.specs.Room.{Sizes, Key, Seat, vacant, holds, Room, sizesOf, Found, none, at, find, seatOf, seatAt}
 use Rattle.rules.specs.Call.{Call, Answer, accepted, refused}
 use Rattle.rules.specs.Outcome.{roomAfter}
 use Rattle.rules.specs.History.{Event}
@@ -22,29 +22,45 @@ use Rattle.relay_laws.specs.Calls.{Leaves, withOutput}
 use Rattle.relay_laws.proofs.CallsLaws.{call-made}
 use Rattle.room_laws.specs.View.{viewRoom}
 use Rattle.relay.specs.declared.play.Run as code
-use Rattle.relay.specs.Play.{run, played, playing}
-use Rattle.banavoge_laws.specs.Answers.{refusalCode}
+use Rattle.relay.specs.Play.{run, played, playing, Plays}
+use Rattle.banavoge_laws.specs.Answers.{refusalCode, ToldAs}
 use Rattle.banavoge_laws.specs.Rooms.{doneOr}
 use Rattle.banavoge_laws.specs.RelayCalls.{countCode, ArrivalTold, arrivalTold}
 use Rattle.banavoge_laws.specs.Sitting.{turned, sitting, whoSits, sitCode, placeCode, seatOfKey}
-use Rattle.banavoge_laws.specs.Runs.{runCode, Telling, runTold}
+use Rattle.banavoge_laws.specs.Runs.{runCode, Counts, Telling, runTold}
 use Rattle.histories.specs.Lent.{Lent, lentOutcome, lentEvent, lentTranscript}
-use Rattle.histories.specs.History.{AnyCalls}
+use Rattle.histories.specs.History.{AnyChain, AnyCalls}
+use Rattle.histories.specs.RunSeen.{runSeen}
+use Rattle.histories.specs.Runs.{runEvents}
 use Rattle.histories.specs.ExportedCalls.{HostMemory, Exported, empties, checks, arrives, departs, sends, ticks, tellsKey, tellsSeat, plays}
 use Rattle.histories.proofs.Answered.{below-not, same-refusal}
 use Rattle.histories.proofs.LentLaws.{lent-made}
-use Rattle.histories.proofs.Histories.{any-calls-run}
+use Rattle.histories.proofs.Histories.{any-chain-runs, begun-whole}
+use Rattle.histories.proofs.RunIsChain.{run-is-chain}
+use Rattle.histories.proofs.RunSeen.{run-seen}
 
--- ---- after any calls
+-- ---- by any calls
 
 lent-given : (sizes : Sizes) (room : Room) (lents : List Lent) → allGiven (lentTranscript sizes room lents) ≡ true
 unfolding lentTranscript lentEvent allGiven
 lent-given sizes room [] = refl
 lent-given sizes room (l ∷ lents) = rw (made-given (lentOutcome room l) (lent-made room l)) (lent-given sizes (roomAfter sizes room (lentOutcome room l)) lents)
 
+-- by calls, with any outputs, from any whole bytes on
+given-from : (s n : ℕ) (b : List ℕ) (lents : List Lent) (events : List Event) (b′ : List ℕ) → AnyChain s n b lents events b′ → roomWhole s n b ≡ true
+    → allGiven events ≡ true
+given-from s n b lents events b′ chain whole =
+    ap allGiven (any-chain-runs s n b lents events b′ chain whole .events-are) ∙ lent-given (sizesOf s n) (viewRoom s n b) lents
+
 pub all-given-after-calls : (s n : ℕ) (lents : List Lent) (events : List Event) (b : List ℕ) → AnyCalls s n lents events b → allGiven events ≡ true
-all-given-after-calls s n lents events b h =
-    ap allGiven (any-calls-run s n lents events b h .events-are) ∙ lent-given (sizesOf s n) (emptyRoom (sizesOf s n)) lents
+all-given-after-calls s n lents events b h = given-from s n (h .room) lents events b (h .chain) (begun-whole s n (h .room) (h .begun))
+
+-- by the entries of a run, on any whole room
+pub all-given-by-a-run : (s n allowance : ℕ) (stored b out : List ℕ) (before : Counts) (t : Telling) (b′ out′ : List ℕ) → roomWhole s n b ≡ true
+    → ToldAs (runTold before) (Plays s n allowance stored b out b′ out′) t → allGiven (runSeen stored t out′) ≡ true
+all-given-by-a-run s n allowance stored b out before t b′ out′ whole p =
+    let c = run-is-chain s n allowance stored b out before t b′ out′ whole p in
+    ap allGiven (run-seen s n allowance stored b out before t b′ out′ whole p) ∙ given-from s n b (c .lents) (runEvents s n allowance stored b out) b′ (c .calls) whole
 
 -- ---- each export, on any memory
 

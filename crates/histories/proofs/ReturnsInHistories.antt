@@ -1,7 +1,8 @@
--- A client that comes back, as the host sees it: document 02, "One call when a laptop comes back". On every whole room, `banavoge_arrive` with a key that is seated
--- leaves the bytes, writes the records and answers the seat of `banavoge_leave` and then `banavoge_arrive`, made as two calls (`returns-as-two-calls`). In any
--- history such an arrival may stand for the two: for every other client its record is the same, and so are the packets that it is handed and the answers to its
--- calls (`returns-same-in-histories`). And what an arrival is answered and sends, after any calls (`arrive-after-calls`) and in every history. Assumes nothing.
+-- A client that comes back, as the host sees it: document 02, "One call when a laptop comes back". On every whole room, `banavoge_arrive` with a key that is
+-- seated leaves the bytes, writes the records and answers the seat of `banavoge_leave` and then `banavoge_arrive`, made as two calls (`returns-as-two-calls`).
+-- In any history such an arrival may stand for the two: for every other client its record is the same, and so are the packets that it is handed and the answers
+-- to its calls (`returns-same-in-histories`). And what an arrival is answered and sends, after any calls (`arrive-after-calls`) and in every history; its own
+-- client is handed nothing by it (`own-arrival-after-calls`). Assumes nothing.
 use mathlib.Core.Path.{_≡_, refl, sym, ap, ap₂, subst, _∙_}
 use mathlib.Core.Bool.{true, false}
 use mathlib.Core.List.{List, [], _∷_, _++_, append-nil}
@@ -11,17 +12,19 @@ use lib.IntN.{ℤ}
 use lib.ListN.{length}
 use Rattle.key.specs.Keys.{sameKey}
 use Rattle.rules.specs.Room.{Sizes, sizesOf, Key, Held, vacant, holds, Room, setSeat, emptyRoom, at, find, seatOf, seatAt}
-use Rattle.rules.specs.Call.{Call, arrive, leave, accepted, needed, Sent}
+use Rattle.rules.specs.Call.{Call, arrive, leave, tick, accepted, needed, Sent}
 use Rattle.rules.specs.Outcome.{Outcome, outcome, apply, applyAll, roomAfter, accept, sentBytes, tellPeers, seatEmptied, seatTaken}
 use Rattle.rules.specs.History.{Event, event, transcript, happens}
 use Rattle.rules.specs.Transcript.{clientOf, fromEmpty, sitter}
 use Rattle.rules.specs.After.{pastAfter}
+use Rattle.rules.proofs.FindLaws.{clash}
 use Rattle.rules.proofs.Whole.{key-found}
 use Rattle.rules.proofs.ComesBack.{held, some-empty, comes-back-to, leaves-first, takes-then}
 use Rattle.after_calls.specs.Given.{ArriveAnswered}
 use Rattle.after_calls.proofs.Given.{arrive-answered, arrive-answered-from-empty}
-use Rattle.isolation.specs.Record.{SameFor}
+use Rattle.isolation.specs.Record.{handed, SameFor}
 use Rattle.isolation.proofs.ReturnRecord.{returns-same-from-empty}
+use Rattle.isolation.proofs.OwnArrival.{own-arrival-hands-none, own-arrival-from-empty}
 use Rattle.room_laws.specs.View.{viewRoom}
 use Rattle.room_laws.specs.Whole.{roomWhole}
 use Rattle.room_laws.specs.Store.{storeAll}
@@ -35,6 +38,7 @@ use Rattle.histories.specs.History.{Step, arrives, AnyCalls, History, ca
 use Rattle.histories.specs.Steps.{Right}
 use Rattle.histories.specs.Returns.{AsTwoCalls}
 use Rattle.histories.proofs.Histories.{long-step-right, after-calls, history-runs, history-event}
+use Rattle.histories.proofs.HandedInHistories.{handed-throughout-after-calls, handed-throughout-in-histories}
 
 -- ---- the two calls
 
@@ -117,6 +121,32 @@ pub arrive-in-histories : (s n : ℕ) (events : List Event) (b : List ℕ) → H
     → (before : List Event) (e : Event) (later : List Event) → events ≡ before ++ (e ∷ later) → (key : Key) → e .call ≡ arrive key
     → ArriveAnswered (sizesOf s n) (fromEmpty (sizesOf s n)) (pastAfter [] before) key e
 arrive-in-histories s n events b h before e later t = arrive-answered-from-empty (sizesOf s n) (callsOf events) before e later (history-event s n events b h before e later t)
+
+-- an arrival hands its own client nothing, also where the client was seated: no record is for a seat in which it sits before the call, or after it. After any calls,
+-- and in every history
+pub own-arrival-after-calls : (s n : ℕ) (lents : List Lent) (events : List Event) (b : List ℕ) → AnyCalls s n lents events b
+    → (key : Key) (out b′ out′ : List ℕ) (place place′ : ℕ) (answer : ℤ) → ToldAs (arrivalTold place) (Arrives s n key b out b′ out′) (told answer place′)
+    → needed (arrive key) ≤ length out
+    → (handed (fromEmpty (sizesOf s n)) (pastAfter [] events) key (seen (arrive key) place′ answer out′ .sent) ≡ [])
+    × (handed (fromEmpty (sizesOf s n)) (seen (arrive key) place′ answer out′ ∷ pastAfter [] events) key (seen (arrive key) place′ answer out′ .sent) ≡ [])
+unfolding seen seenAs event
+own-arrival-after-calls s n lents events b h key out b′ out′ place place′ answer c long =
+    let e = seen (arrive key) place′ answer out′ in
+    let step : Step s n b (lentWith (arrive key) out) e b′ = arrives key out out′ place place′ answer c refl refl in
+    let before =
+    after-calls s n (λ past e. e .call ≡ arrive key → handed (fromEmpty (sizesOf s n)) past key (e .sent) ≡ [])
+    (λ past room whole tie call q.
+    subst (λ (x : Call). handed (fromEmpty (sizesOf s n)) past key (event room x .sent) ≡ []) (sym q)
+    (own-arrival-hands-none (sizesOf s n) (fromEmpty (sizesOf s n)) past room whole tie key))
+    lents events b h (lentWith (arrive key) out) e b′ step long refl in
+    (before, handed-throughout-after-calls s n lents events b h (lentWith (arrive key) out) e b′ step long (λ time number q. clash (cc)) key ∙ before)
+
+pub own-arrival-in-histories : (s n : ℕ) (events : List Event) (b : List ℕ) → History s n events b
+    → (before : List Event) (e : Event) (later : List Event) → events ≡ before ++ (e ∷ later) → (key : Key) → e .call ≡ arrive key
+    → (handed (fromEmpty (sizesOf s n)) (pastAfter [] before) key (e .sent) ≡ []) × (handed (fromEmpty (sizesOf s n)) (e ∷ pastAfter [] before) key (e .sent) ≡ [])
+own-arrival-in-histories s n events b h before e later t key call =
+    let first = own-arrival-from-empty (sizesOf s n) (callsOf events) before e later (history-event s n events b h before e later t) key call in
+    (first, handed-throughout-in-histories s n events b h before e later t (λ time number q. let same : arrive key ≡ tick time number = sym call ∙ q in clash (cc)) key ∙ first)
 
 -- ---- in a history
 

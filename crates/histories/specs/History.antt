@@ -22,7 +22,7 @@ use Rattle.histories.specs.Lent.{Lent, lentWith, AllLong}
 -- ---- one call
 
 -- `banavoge_arrive`, `banavoge_leave`, `banavoge_packet` or `banavoge_tick`, the call l, on the room's bytes b: it leaves b′ and is seen as e. The output lent has
--- any length, and the place lent to an Arrive for its seat holds any
+-- any length, and in the place lent to an Arrive for its seat stands any number
 pub data Step (s n : ℕ) (b : List ℕ) (l : Lent) (e : Event) (b′ : List ℕ) : Type 0 where
   arrives : (key : Key) (out out′ : List ℕ) (place place′ : ℕ) (number : ℤ) → ToldAs (arrivalTold place) (Arrives s n key b out b′ out′) (told number place′)
       → l ≡ lentWith (arrive key) out → e ≡ seen (arrive key) place′ number out′ → Step s n b l e b′

@@ -102,7 +102,7 @@ rows =
     ∷ row (arrive ka) (arrived ka ∷ [])
     ∷ row (ask 1 kb) []
     ∷ row (dropping 1 0x10) []
-    -- the room is full: another client's refused arrival. It names C once more, KA comes back without leaving, and has it for KB
+    -- the room is full: another client's refused arrival. KA's 16 names C once more; KA comes back without leaving, and has 16 for KB
     ∷ row (arrive kd) []
     ∷ row (ask 1 kc) (toC ka (ask 1 kc) ∷ [])
     ∷ row (arrive ka) (departed ka ∷ arrived ka ∷ [])

@@ -27,11 +27,11 @@ use Rattle.isolation.specs.Record.{Entry, arrived, departed, own, toC, d
 use Rattle.rules.proofs.FindLaws.{heldOf, Once, find-hit, find-replicate, find-set-same, find-clear, free-not-to, wanted-place}
 use Rattle.rules.proofs.Whole.{wanted-once, key-found}
 use Rattle.rules.proofs.ComesBack.{arrives-new, held, sits-there, Lowest, some-empty, comes-back-to}
-use Rattle.rules.proofs.SeatedLaws.{someFound, seated-found}
+use Rattle.rules.proofs.SeatedLaws.{isFound, seated-found}
 use Rattle.rules.proofs.AnswerLaws.{zero-answered}
 use Rattle.rules.proofs.Tied.{tied-here}
 use Rattle.rules.proofs.SentLaws.{count-same}
-use Rattle.isolation.proofs.View.{isOpen, ownRoutes, noticesByView, SeatView, openSeat, ownSeat, otherSeat, View, isFound, viewSeat, project, namesC, placeOf, Observed, observed, packetAt, only, toOne, toBoth, counted, ownTaken, ownArrival, ownLeave, ownAnswer, ownRequest, ownDrop, ownOob, ownCarry, ownData, ownPong, ownAct, ownPacket, ownCall, otherArrived, otherDeparted, otherDropped, otherAsked, otherToC, arrivedIf, departedIf, observe, observedThen, observeAll, setView, setViews}
+use Rattle.isolation.proofs.View.{isOpen, ownRoutes, noticesByView, SeatView, openSeat, ownSeat, otherSeat, View, viewSeat, project, namesC, placeOf, Observed, observed, packetAt, only, toOne, toBoth, counted, ownTaken, ownArrival, ownLeave, ownAnswer, ownRequest, ownDrop, ownOob, ownCarry, ownData, ownPong, ownAct, ownPacket, ownCall, otherArrived, otherDeparted, otherDropped, otherAsked, otherToC, arrivedIf, departedIf, observe, observedThen, observeAll, setView, setViews}
 use Rattle.isolation.proofs.ViewLaws.{find-put, held-law, open-law, view-at, held-as, view-own, view-other, project-set, left-open, isJoined, connected-law, handedBy, handed-law, hand-only, else-seat, not-handed, found-held, packet-law, own-held, peer-else, own-not-handed, own-tells, other-lost, observedOf, observed-same, count-told, count-both, count-tells}
 use Rattle.isolation.proofs.OneTick.{tick-law}
 
@@ -453,7 +453,7 @@ other-return sizes c room whole key hk seat h =
 -- ---- all calls
 
 -- a call with its outcome
-abbrev made : Call → Outcome → Event
+abbrev pub made : Call → Outcome → Event
 made call o = record { call = call; answer = o .answer; sent = o .sent }
 
 module _ (sizes : Sizes) (start : Start) (past : Past) (room : Room) (whole : Whole sizes room) (tie : Tied start past room) (c : Key) where
@@ -491,7 +491,8 @@ module _ (sizes : Sizes) (start : Start) (past : Past) (room : Room) (whole : Wh
       let q = comes-back-to room key seat h (low .place) (low .lowest) in
       rw q (rw q at (other-return sizes c room whole key hk seat h))
 
-  arrive-by : (key : Key) (f : Found) → find (seatOf key) (room .seats) ≡ f → Law (sameKey key c) (someFound f) key (arrive key) (outcome room (arrive key))
+  arrive-by : (key : Key) (f : Found) → find (seatOf key) (room .seats) ≡ f → Law (sameKey key c) (isFound f) key (arrive key) (outcome room (arrive key))
+  unfolding isFound
   arrive-by key none h = rw (arrives-new room key h) (new-by key h (sameKey key c) refl (find isVacant (room .seats)) refl)
   arrive-by key (at seat) h = back-by key seat h (sameKey key c) refl
 

@@ -10,19 +10,16 @@ use Rattle.rules.specs.Room.{Sizes, Key, vacant, Room, emptyRoom, setSeat, none
 use Rattle.rules.specs.Whole.{Whole}
 use Rattle.rules.specs.Call.{Call, arrive, leave, Answer, Sent}
 use Rattle.rules.specs.Outcome.{Outcome, outcome, roomAfter, apply, applyAll, accept, tellPeers, seatEmptied, seatTaken}
-use Rattle.rules.specs.History.{Event, event, transcript, happens}
+use Rattle.rules.specs.History.{event, transcript, happens}
 use Rattle.rules.specs.Transcript.{Past, clientOf, isClient, Start, fromEmpty, maker, sitter}
 use Rattle.rules.specs.After.{pastAfter, clientIn, Tied}
 use Rattle.isolation.specs.Record.{Entry, arrived, departed, entryIf, byKey, otherCall, ifAccepted, madeBy, entriesBy, entries, recordFor, handed, packetsFor, answerIf, answersFor, SameFor}
-use Rattle.rules.proofs.Whole.{key-found, whole-after, whole-empty}
-use Rattle.rules.proofs.ComesBack.{held, sits-there, some-empty, comes-back-to, sits-nowhere, left-whole, leaves-first, takes-then}
-use Rattle.rules.proofs.SeatedLaws.{seated-found}
+use Rattle.rules.proofs.Whole.{key-found, left-nowhere, whole-after, whole-empty}
+use Rattle.rules.proofs.ComesBack.{held, sits-there, some-empty, comes-back-to, left-whole, leaves-first, takes-then}
+use Rattle.rules.proofs.SeatedLaws.{isFound, seated-found}
 use Rattle.rules.proofs.Tied.{tied-after, tied-empty, seat-holds}
+use Rattle.isolation.proofs.OneCall.{made}
 use Rattle.isolation.proofs.ByTables.{same-by-tables}
-
--- a call with its outcome
-abbrev made : Call → Outcome → Event
-made call o = record { call = call; answer = o .answer; sent = o .sent }
 
 module _ (sizes : Sizes) (start : Start) (past : Past) (room : Room) (whole : Whole sizes room) (tie : Tied start past room) (key : Key) (seat : ℕ)
     (found : find (seatOf key) (room .seats) ≡ at seat) where
@@ -53,7 +50,7 @@ module _ (sizes : Sizes) (start : Start) (past : Past) (room : Room) (whole : Wh
   is-leaves = leaves-first room key seat found
 
   nowhere : find (seatOf key) (left .seats) ≡ none
-  nowhere = sits-nowhere room key seat found sizes whole
+  nowhere = left-nowhere sizes room whole key seat found
 
   is-takes : outcome left (arrive key) ≡ takes
   is-takes = takes-then room key seat found sizes whole place (some-empty room key seat found .lowest)
@@ -88,7 +85,7 @@ module _ (sizes : Sizes) (start : Start) (past : Past) (room : Room) (whole : Wh
   -- what each adds to the record for another client
   module _ (c : Key) (else : sameKey key c ≡ false) where
     back-adds : entries start past c (made (arrive key) back) ≡ departed key ∷ arrived key ∷ []
-    unfolding entries entriesBy maker madeBy byKey entryIf ifAccepted otherCall accept
+    unfolding entries entriesBy maker madeBy byKey entryIf ifAccepted otherCall accept isFound
     back-adds = rw (else, seated-found start past room tie key, found)
 
     leave-adds : entries start past c (made (leave seat) leaves) ≡ departed key ∷ []
@@ -96,7 +93,7 @@ module _ (sizes : Sizes) (start : Start) (past : Past) (room : Room) (whole : Wh
     leave-adds = rw (sits-here, else)
 
     take-adds : entries start (made (leave seat) leaves ∷ past) c (made (arrive key) takes) ≡ arrived key ∷ []
-    unfolding entries entriesBy maker madeBy byKey entryIf ifAccepted otherCall accept
+    unfolding entries entriesBy maker madeBy byKey entryIf ifAccepted otherCall accept isFound
     take-adds = rw (else, seated-found start (made (leave seat) leaves ∷ past) left tied-left key, nowhere)
 
     -- so do the two in turn what the one does, whatever comes later

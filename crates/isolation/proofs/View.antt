@@ -16,6 +16,7 @@ use Rattle.rules.specs.Room.{Sizes, Key, Route, free, wants, Seat, vacant, hold
 use Rattle.rules.specs.Call.{Call, arrive, leave, packetCall, tick, Answer, accepted, refused, Sent}
 use Rattle.rules.specs.Outcome.{sentBytes, to, overdue, isDue}
 use Rattle.rules.specs.Transcript.{isAmong}
+use Rattle.rules.proofs.SeatedLaws.{isFound}
 use Rattle.isolation.specs.Record.{Entry, arrived, departed, own, toC, droppedC, dataForC, ticked, strike}
 
 -- ---- the view
@@ -40,10 +41,6 @@ setViews v seats = record { seats = seats; clock = v .clock }
 
 abbrev pub setView : View → ℕ → SeatView → View
 setView v seat s = setViews v (set (v .seats) seat s)
-
-unfoldable pub isFound : Found → Bool
-isFound none = false
-isFound (at i) = true
 
 unfoldable pub viewSeatIf : Bool → Key → Held → SeatView
 viewSeatIf true c held = ownSeat held

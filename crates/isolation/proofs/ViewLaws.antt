@@ -19,12 +19,12 @@ use Rattle.rules.specs.Outcome.{Outcome, refuse, sentBytes, accept, to, roomAft
 use Rattle.rules.specs.Transcript.{Past, Start}
 use Rattle.rules.specs.After.{Tied}
 use Rattle.isolation.specs.Record.{handedIf, handed}
-use Rattle.rules.proofs.SeatedLaws.{client-of}
+use Rattle.rules.proofs.SeatedLaws.{isFound, client-of}
 use Rattle.rules.proofs.FindLaws.{Once, clash, find-hit, once-tail, once-first}
 use Rattle.rules.proofs.Whole.{key-once, wanted-once}
 use Rattle.rules.proofs.PeerLaws.{peer-has}
 use Rattle.rules.proofs.SentLaws.{count-append, count-same}
-use Rattle.isolation.proofs.View.{SeatView, openSeat, ownSeat, otherSeat, View, setViews, setView, isFound, viewSeatIf, viewSeat, project, isOpen, isHeldBy, ownRoutes, namesC, isConnectedIn, isConnected, placeIf, placeOf, Observed, observed, packetAt, only, toOne, toBoth, noticeByView, noticesByView, lostNotice, lostBy}
+use Rattle.isolation.proofs.View.{SeatView, openSeat, ownSeat, otherSeat, View, setViews, setView, viewSeatIf, viewSeat, project, isOpen, isHeldBy, ownRoutes, namesC, isConnectedIn, isConnected, placeIf, placeOf, Observed, observed, packetAt, only, toOne, toBoth, noticeByView, noticesByView, lostNotice, lostBy}
 
 -- ---- lists
 

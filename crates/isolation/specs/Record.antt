@@ -113,8 +113,9 @@ unfoldable pub handedIf : Bool → List ℕ → List (List ℕ) → List (List �
 handedIf true bytes rest = bytes ∷ rest
 handedIf false bytes rest = rest
 
--- by who sits there before the call. A Leave empties its seat last, and so does an Arrive of a seated key, which takes a seat after that. In a tick a record may go
--- to a seat that the same tick empties: it is written before that, while who sat there before the tick still does
+-- by who sits there before the call. A Leave empties its seat once its records are written, and so does an Arrive of a seated key, which takes a seat after that. In
+-- a tick a record may go to a seat that the same tick empties: it is written before that, while who sat there before the tick still does. That of a tick this is who
+-- sits there when each is written, and of every other call who sits there after it too: `HandedInHistories.antt` (`histories`)
 unfoldable pub handed : Start → Past → Key → List Sent → List (List ℕ)
 handed start past c [] = []
 handed start past c (s ∷ rest) = handedIf (isClient c (sitter start past (s .seat))) (s .bytes) (handed start past c rest)

@@ -31,9 +31,13 @@ departure s n b i = leaveFrom (seatAt (viewRoom s n b) i) (viewRoom s n b) i
 abbrev pub LeaveFits : ℕ → ℕ → List ℕ → ℕ → List ℕ → ℕ → Type 0
 LeaveFits s n b i out at = at + length (sentBytes (departure s n b i .sent)) + 5 ≤ length out
 
+-- no change, and nothing sent
+abbrev pub nothing : Outcome
+nothing = accept 0 [] []
+
 -- a departure of the client with a key, if it is seated
 unfoldable pub departureFrom : Found → ℕ → ℕ → List ℕ → Outcome
-departureFrom rules.none s n b = accept 0 [] []
+departureFrom rules.none s n b = nothing
 departureFrom (rules.at seat) s n b = departure s n b seat
 
 abbrev pub departureOf : ℕ → ℕ → List ℕ → Key → Outcome
@@ -60,9 +64,6 @@ unfoldable pub hasPassed : ℕ → ℕ → ℕ → Bool
 hasPassed since time seconds = cond (ltb time since) false (leb seconds (time - since))
 
 -- what a tick does with one seat: its client is put out if it is overdue, and pinged if it is due
-abbrev pub nothing : Outcome
-nothing = accept 0 [] []
-
 unfoldable pub putOutOne : ℕ → ℕ → ℕ → List ℕ → ℕ → Outcome
 putOutOne s n time b i = cond (isOverdue time (seatAt (viewRoom s n b) i)) (departure s n b i) nothing
 

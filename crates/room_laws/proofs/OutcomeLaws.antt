@@ -18,7 +18,8 @@ use Rattle.rules.specs.Whole.{Whole, ShortKeys}
 use Rattle.rules.specs.Call.{Call, arrive, leave, packetCall, tick, FieldsFit, needed}
 use Rattle.rules.specs.Outcome.{refuse, accept, sentBytes, roomAfter, peer, apply, takeSeat, leaveFrom, requestAt, dropAt, oobTo, carryTo, dataAt, pongAt, act, actOn, packetFrom, outcome}
 use Rattle.rules.proofs.FindLaws.{find-hit, find-within, wanted-place}
-use Rattle.rules.proofs.ComesBack.{arrives-new, sits-there, some-empty, comes-back-to, sits-nowhere, left-whole}
+use Rattle.rules.proofs.Whole.{left-nowhere}
+use Rattle.rules.proofs.ComesBack.{arrives-new, sits-there, some-empty, comes-back-to, left-whole}
 use Rattle.rules.proofs.WithinOutput.{sent-within}
 use Rattle.table_laws.specs.Table.{recordAt}
 use Rattle.room_laws.specs.Layout.{keyBytes, seatBytes, seatTable}
@@ -124,7 +125,7 @@ module _ (s n : ℕ) (room : Room) (whole : Whole (sizesOf s n) room) where
       let there = sits-there room key seat e in
       rw (comes-back-to room key seat e (low .place) (low .lowest)) (
         empties there,
-        take-fits s n (setSeat room seat vacant) (left-whole room key seat e (sizesOf s n) whole) key l (at (low .place)) (sits-nowhere room key seat e (sizesOf s n) whole) (low .lowest),
+        take-fits s n (setSeat room seat vacant) (left-whole room key seat e (sizesOf s n) whole) key l (at (low .place)) (left-nowhere (sizesOf s n) room whole key seat e) (low .lowest),
       )
 
   arrive-fits : (key : Key) → length key ≡ 32 → (f : Found) → find (seatOf key) (room .seats) ≡ f → FitAll s n room (outcome room (arrive key) .changes)

@@ -57,10 +57,10 @@ unfolding computed
 comes-back-in-order = refl
 
 -- it has no routes: data on 16 is 8, and 16 is the lowest free number
-pub comes-back-bare : drop 2 (shows (arrive ka ∷ ask 0 kb ∷ arrive ka ∷ packetCall 0 (0x10 ∷ 1 ∷ []) ∷ ask 0 kc ∷ []))
+pub comes-back-without-routes : drop 2 (shows (arrive ka ∷ ask 0 kb ∷ arrive ka ∷ packetCall 0 (0x10 ∷ 1 ∷ []) ∷ ask 0 kc ∷ []))
     ≡ took 0 ∷ gets 8 ∷ wrote 0 37 (0 ∷ 0 ∷ 0x22 ∷ 1 ∷ 0x10 ∷ kc) ∷ []
 unfolding computed
-comes-back-bare = refl
+comes-back-without-routes = refl
 
 -- ---- "An arrival starts with the last clock as its ping time."
 

@@ -11,8 +11,8 @@ use Rattle.rules.specs.Room.{Sizes, Key, Held, vacant, holds, Room, setK
 use Rattle.rules.specs.Whole.{Whole}
 use Rattle.rules.specs.Call.{arrive, leave}
 use Rattle.rules.specs.Outcome.{seatTaken, seatEmptied, apply, applyAll, Outcome, refuse, accept, roomAfter, joinOutcomes, andThen, tellPeers, leaveFrom, takeSeat, arriveFrom, outcome}
-use Rattle.rules.proofs.FindLaws.{find-hit, find-none, find-within, find-clear, set-default, heldOf, seat-of-holds}
-use Rattle.rules.proofs.Whole.{key-once, whole-after}
+use Rattle.rules.proofs.FindLaws.{find-hit, find-none, find-within, set-default, heldOf, seat-of-holds}
+use Rattle.rules.proofs.Whole.{left-nowhere, whole-after}
 
 -- ---- a key that is not seated
 
@@ -62,12 +62,7 @@ module _ (room : Room) (key : Key) (seat : ℕ) (found : find (seatOf key) (room
   unfolding outcome arriveFrom leaveFrom takeSeat joinOutcomes accept
   comes-back-to place e = rw (found, sits-there, e, append-nil (tellPeers room seat key (held .routes)))
 
-  -- once it has left it sits nowhere, and the room is whole
-  pub sits-nowhere : (sizes : Sizes) → Whole sizes room → find (seatOf key) (set (room .seats) seat vacant) ≡ none
-  unfolding seatOf
-  sits-nowhere sizes whole =
-      find-clear (seatOf key) vacant (room .seats) seat vacant (key-once sizes room whole key) (find-hit (seatOf key) vacant (room .seats) seat found) refl
-
+  -- once it has left, the room is whole
   pub left-whole : (sizes : Sizes) → Whole sizes room → Whole sizes (setSeat room seat vacant)
   unfolding outcome leaveFrom accept roomAfter applyAll apply
   left-whole sizes whole = rw sits-there at (whole-after sizes room whole (leave seat))
@@ -80,10 +75,10 @@ module _ (room : Room) (key : Key) (seat : ℕ) (found : find (seatOf key) (room
   pub takes-then : (sizes : Sizes) → Whole sizes room → (place : ℕ) → find isVacant (set (room .seats) seat vacant) ≡ at place
       → outcome (setSeat room seat vacant) (arrive key) ≡ accept place (seatTaken place key ∷ []) []
   unfolding takeSeat
-  takes-then sizes whole place e = arrives-new (setSeat room seat vacant) key (sits-nowhere sizes whole) ∙ ap (λ (f : Found). takeSeat f key) e
+  takes-then sizes whole place e = arrives-new (setSeat room seat vacant) key (left-nowhere sizes room whole key seat found) ∙ ap (λ (f : Found). takeSeat f key) e
 
   -- THE LAW
   pub comes-back : (sizes : Sizes) → Whole sizes room
       → outcome room (arrive key) ≡ andThen sizes room (outcome room (leave seat)) (λ room′. outcome room′ (arrive key))
   unfolding outcome arriveFrom andThen leaveFrom accept roomAfter applyAll apply
-  comes-back sizes whole = rw (found, sits-there, sits-nowhere sizes whole)
+  comes-back sizes whole = rw (found, sits-there, left-nowhere sizes room whole key seat found)

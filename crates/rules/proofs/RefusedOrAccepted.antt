@@ -17,7 +17,7 @@ use Rattle.packet_laws.specs.FromClient as client
 use Rattle.packet_laws.proofs.ReadBounds.{read-given}
 use Rattle.rules.specs.Room.{Sizes, Key, Route, free, wants, Held, Seat, vacant, holds, Room, Found, none, at, find, seatOf, isVacant, routeTo, isFree, seatAt, routeAt, Peer, alone, joined}
 use Rattle.rules.specs.Call.{Call, arrive, leave, packetCall, tick, refused}
-use Rattle.rules.specs.Outcome.{seatTaken, applyAll, Outcome, refuse, accept, roomAfter, joinOutcomes, inTurn, peer, leaveFrom, takeSeat, arriveFrom, requestAt, dropAt, oobTo, carryTo, dataAt, pongAt, act, actOn, packetFrom, tickFrom, tickAt, outcome}
+use Rattle.rules.specs.Outcome.{seatTaken, applyAll, Outcome, refuse, accept, roomAfter, joinOutcomes, followedBy, peer, leaveFrom, takeSeat, arriveFrom, requestAt, dropAt, oobTo, carryTo, dataAt, pongAt, act, actOn, packetFrom, tickFrom, tickAt, outcome}
 use Rattle.rules.specs.History.{event, transcript}
 use Rattle.rules.specs.Transcript.{isAccepted}
 use Rattle.rules.specs.Accepted.{RefusedOrAccepted, MadeAt, refusal, acceptance, isGiven, allGiven}
@@ -27,11 +27,11 @@ made-at seat o (refusal why given e) = refusal why given e
 made-at seat o (acceptance changes sent e) = acceptance seat changes sent e
 
 -- two in turn
-turn-made : (first second : Outcome) → RefusedOrAccepted first → RefusedOrAccepted second → RefusedOrAccepted (inTurn first second)
+followed-made : (first second : Outcome) → RefusedOrAccepted first → RefusedOrAccepted second → RefusedOrAccepted (followedBy first second)
 unfolding joinOutcomes refuse accept
-turn-made first second (refusal why given e) m = refusal why given (rw e)
-turn-made first second (acceptance seat changes sent e) (refusal why given e′) = refusal why given (rw (e, e′))
-turn-made first second (acceptance seat changes sent e) (acceptance seat′ changes′ sent′ e′) =
+followed-made first second (refusal why given e) m = refusal why given (rw e)
+followed-made first second (acceptance seat changes sent e) (refusal why given e′) = refusal why given (rw (e, e′))
+followed-made first second (acceptance seat changes sent e) (acceptance seat′ changes′ sent′ e′) =
     acceptance seat′ (changes ++ changes′) (sent ++ sent′) (rw (e, e′))
 
 module _ (room : Room) where
@@ -49,7 +49,7 @@ module _ (room : Room) where
   unfolding arriveFrom
   arrive-made none key = take-made (find isVacant (room .seats)) key
   arrive-made (at seat) key =
-      turn-made _ _ (made-at seat _ (leave-made (seatAt room seat) seat)) (take-made (find isVacant (set (room .seats) seat vacant)) key)
+      followed-made _ _ (made-at seat _ (leave-made (seatAt room seat) seat)) (take-made (find isVacant (set (room .seats) seat vacant)) key)
 
   request-made : (own : Bool) (old lowest : Found) (seat : ℕ) (key wanted : Key) → MadeAt seat (requestAt own old lowest room seat key wanted)
   unfolding requestAt

@@ -7,13 +7,13 @@ use lib.Dec.{eqb}
 use lib.ListN.{length}
 use borrow.Author.Tests.{eqb-true, eqb-false}
 use Rattle.key.specs.Keys.{sameKey}
-use Rattle.key.proofs.Same.{same-refl, same-sound}
+use Rattle.key.proofs.Same.{same-sound}
 use Rattle.rules.specs.Room.{Sizes, Key, Route, Held, Seat, vacant, holds, Room, newcomer, setSeat, Found, none, at, find, seatOf, isVacant, routesOf, seatAt, routeAt}
 use Rattle.rules.specs.Whole.{Whole}
 use Rattle.rules.specs.Transcript.{clientOf}
 use Rattle.rules.specs.After.{clientIn, routesIn, routesBy}
-use Rattle.rules.proofs.FindLaws.{find-hit, find-within, find-set-same, find-clear, vacant-no-key, seat-set, seat-set-other, held-within, route-none, route-all-free}
-use Rattle.rules.proofs.Whole.{key-once, key-found}
+use Rattle.rules.proofs.FindLaws.{find-hit, find-within, find-set-same, vacant-no-key, seat-set, seat-set-other, held-within, route-none, route-all-free}
+use Rattle.rules.proofs.Whole.{key-found, left-nowhere}
 
 -- ---- what is asked of a seat, after one seat is replaced
 
@@ -64,8 +64,8 @@ module _ (sizes : Sizes) (room : Room) (whole : Whole sizes room) (seat : ℕ) (
       ) (ap routesOf (seat-set room seat (holds held′) (held-within room seat held sits)))
 
   pub routes-left : routesBy (setSeat room seat vacant) (held .key) ≡ []
-  unfolding routesBy routesIn seatOf seatAt
-  routes-left = rw (find-clear (seatOf (held .key)) vacant (room .seats) seat vacant (key-once sizes room whole (held .key)) (rw sits (same-refl (held .key))) refl)
+  unfolding routesBy routesIn
+  routes-left = rw (left-nowhere sizes room whole (held .key) seat (key-found sizes room whole seat held sits))
 
 -- an arrival takes a seat: whoever's routes they are, each number has what it had
 pub routes-arrived : (sizes : Sizes) (room : Room) (seat : ℕ) (key : Key) → find (seatOf key) (room .seats) ≡ none → find isVacant (room .seats) ≡ at seat

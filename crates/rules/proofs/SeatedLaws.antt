@@ -10,9 +10,9 @@ use Rattle.rules.specs.Transcript.{Past, isClient, Start, sitsFrom, isSe
 use Rattle.rules.specs.After.{clientIn, Tied}
 
 -- whether a search has found something
-abbrev pub someFound : Found → Bool
-someFound none = false
-someFound (at i) = true
+unfoldable pub isFound : Found → Bool
+isFound none = false
+isFound (at i) = true
 
 -- whether it is the client of a seat
 pub client-of : (key : Key) (s : Seat) → isClient key (clientIn s) ≡ seatOf key s
@@ -21,8 +21,8 @@ client-of key vacant = refl
 client-of key (holds held) = refl
 
 module _ (start : Start) (past : Past) (room : Room) (tie : Tied start past room) (key : Key) where
-  seated-from : (from : ℕ) (l : List Seat) → ((i : ℕ) → seatAt room (from + i) ≡ getD l i vacant) → sitsFrom start past key from (length l) ≡ someFound (find (seatOf key) l)
-  unfolding sitsFrom find
+  seated-from : (from : ℕ) (l : List Seat) → ((i : ℕ) → seatAt room (from + i) ≡ getD l i vacant) → sitsFrom start past key from (length l) ≡ isFound (find (seatOf key) l)
+  unfolding sitsFrom find isFound
   seated-from from [] same = refl
   seated-from from (s ∷ l) same =
       let here : seatAt room from ≡ s = ap (seatAt room) (let q : from ≡ from + 0 = omega arith in q) ∙ same 0 in
@@ -33,12 +33,12 @@ module _ (start : Start) (past : Past) (room : Room) (tie : Tied start past room
         seated-from (suc from) l (λ i. ap (seatAt room) (let q : suc from + i ≡ from + suc i = omega arith in q) ∙ same (suc i)),
       ) (go (seatOf key s) (find (seatOf key) l))
     where
-      go : (t : Bool) (f : Found) → (t || someFound f) ≡ someFound (orLater t f)
-      go true f = unfold orLater in refl
-      go false none = unfold orLater in refl
-      go false (at i) = unfold orLater in refl
+      go : (t : Bool) (f : Found) → (t || isFound f) ≡ isFound (orLater t f)
+      go true f = unfold isFound orLater in refl
+      go false none = unfold isFound orLater in refl
+      go false (at i) = unfold isFound orLater in refl
 
-  pub seated-found : isSeated start past key ≡ someFound (find (seatOf key) (room .seats))
+  pub seated-found : isSeated start past key ≡ isFound (find (seatOf key) (room .seats))
   unfolding isSeated seatAt
   seated-found =
       ap (sitsFrom start past key 0) (tie .seats)

@@ -18,8 +18,8 @@ use Rattle.rules.specs.History.{Event}
 use Rattle.rules.specs.Transcript.{Past, clientOf, isClient, Start, isAccepted, clockAfter, clockOf, pingAfterArrival, pingAfter, pingOf, putOut, isAmong, sitsAfterArrival, sitsAfter, sitter, maker, standsAfterOwn, standsAfter, stands}
 use Rattle.rules.specs.After.{clientIn, routesIn, routesBy, Tied}
 use Rattle.rules.proofs.FindLaws.{find-miss, set-default, find-hit, find-within, route-none}
-use Rattle.rules.proofs.Whole.{key-once, whole-after}
-use Rattle.rules.proofs.ComesBack.{arrives-new, held, sits-there, sits-nowhere, Lowest, some-empty, comes-back-to}
+use Rattle.rules.proofs.Whole.{key-once, left-nowhere, whole-after}
+use Rattle.rules.proofs.ComesBack.{arrives-new, held, sits-there, Lowest, some-empty, comes-back-to}
 use Rattle.rules.proofs.SeatedLaws.{client-of}
 use Rattle.rules.proofs.SeatSet.{routes-arrived, seat-put, client-set, routes-else}
 
@@ -88,7 +88,7 @@ module _ (sizes : Sizes) (start : Start) (past : Past) (room : Room) (whole : Wh
   pub tied-back : (seat : ℕ) → find (seatOf key) (room .seats) ≡ at seat → Tied start (arrival ∷ past) next
   unfolding roomAfter applyAll apply accept seatAt seatOf
   tied-back seat found =
-      tied-takes (set (room .seats) seat vacant) (length-set (room .seats) seat vacant) (sits-nowhere room key seat found sizes whole) (λ here. sit here (seatOf key (seatAt room here)) refl)
+      tied-takes (set (room .seats) seat vacant) (length-set (room .seats) seat vacant) (left-nowhere sizes room whole key seat found) (λ here. sit here (seatOf key (seatAt room here)) refl)
       (λ k h. routes-else room seat vacant k (apart k h) refl) (low .place) (low .lowest) _ (ap (λ (o : Outcome). o .answer) q) (ap (roomAfter sizes room) q)
     where
       there : seatOf key (seatAt room seat) ≡ true

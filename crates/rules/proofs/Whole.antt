@@ -248,18 +248,19 @@ module _ (sizes : Sizes) (room : Room) (whole : Whole sizes room) where
 
 -- a seated key leaves, and takes a seat of the room that it has left, where it sits nowhere
 module _ (sizes : Sizes) (room : Room) (whole : Whole sizes room) where
+  pub left-nowhere : (key : Key) (seat : ℕ) → find (seatOf key) (room .seats) ≡ at seat → find (seatOf key) (set (room .seats) seat vacant) ≡ none
+  unfolding seatOf
+  left-nowhere key seat e = find-clear (seatOf key) vacant (room .seats) seat vacant (key-once sizes room whole key) (find-hit (seatOf key) vacant (room .seats) seat e) refl
+
   whole-back : (key : Key) (seat : ℕ) → find (seatOf key) (room .seats) ≡ at seat → Whole sizes (roomAfter sizes room (arriveFrom (at seat) room key))
-  unfolding roomAfter applyAll apply arriveFrom leaveFrom takeSeat joinOutcomes refuse accept seatOf
+  unfolding roomAfter applyAll apply arriveFrom leaveFrom takeSeat joinOutcomes refuse accept
   whole-back key seat e = go (seatAt room seat) (find isVacant (set (room .seats) seat vacant))
     where
-      gone : find (seatOf key) (set (room .seats) seat vacant) ≡ none
-      gone = find-clear (seatOf key) vacant (room .seats) seat vacant (key-once sizes room whole key) (find-hit (seatOf key) vacant (room .seats) seat e) refl
-
       go : (s : Seat) (lowest : Found)
           → Whole sizes (roomAfter sizes room (joinOutcomes (leaveFrom s room seat .answer) (takeSeat lowest key .answer) (leaveFrom s room seat) (takeSeat lowest key)))
       go vacant lowest = whole
       go (holds held) none = whole
-      go (holds held) (at place) = whole-take sizes (setSeat room seat vacant) (whole-leave sizes room whole seat (holds held)) key (at place) gone
+      go (holds held) (at place) = whole-take sizes (setSeat room seat vacant) (whole-leave sizes room whole seat (holds held)) key (at place) (left-nowhere key seat e)
 
   whole-arrive : (key : Key) (seated : Found) → find (seatOf key) (room .seats) ≡ seated → Whole sizes (roomAfter sizes room (arriveFrom seated room key))
   unfolding arriveFrom

@@ -92,12 +92,12 @@ joinOutcomes (refused why) later first second = refuse why
 joinOutcomes (accepted seat count) (refused why) first second = refuse why
 joinOutcomes (accepted seat count) (accepted seat′ count′) first second = accept seat′ (first .changes ++ second .changes) (first .sent ++ second .sent)
 
-abbrev pub inTurn : Outcome → Outcome → Outcome
-inTurn first second = joinOutcomes (first .answer) (second .answer) first second
+abbrev pub followedBy : Outcome → Outcome → Outcome
+followedBy first second = joinOutcomes (first .answer) (second .answer) first second
 
 -- the second from the room that the first leaves
 unfoldable pub andThen : Sizes → Room → Outcome → (Room → Outcome) → Outcome
-andThen sizes room first next = inTurn first (next (roomAfter sizes room first))
+andThen sizes room first next = followedBy first (next (roomAfter sizes room first))
 
 -- ---- connected: "Two clients are connected when they sit in different seats and each has a route naming the other's key."
 
@@ -148,7 +148,7 @@ takeSeat (at seat) key = accept seat (seatTaken seat key ∷ []) []
 -- in which that seat is empty. That this is `andThen` of the two outcomes is `comes-back` (proofs/ComesBack.antt)
 unfoldable pub arriveFrom : Found → Room → Key → Outcome
 arriveFrom none room key = takeSeat (find isVacant (room .seats)) key
-arriveFrom (at seat) room key = inTurn (leaveFrom (seatAt room seat) room seat) (takeSeat (find isVacant (set (room .seats) seat vacant)) key)
+arriveFrom (at seat) room key = followedBy (leaveFrom (seatAt room seat) room seat) (takeSeat (find isVacant (set (room .seats) seat vacant)) key)
 
 -- ---- the packets of a client at `seat`
 

@@ -1,5 +1,5 @@
--- Document 01, "Examples": those marked P, "proved in one joint statement over a table". This is the table, as data, with a test of a row and of the table, and
--- what a row says. Numbers are written in hex where the paper writes hex. Refusals stand as their numbers.
+-- Document 01, "Examples": those marked P, "proved in one joint statement over a table"; P3 as document 02 has it. This is the table, as data, with a test of a row
+-- and of the table, and what a row says. Numbers are written in hex where the paper writes hex. Refusals stand as their numbers.
 use mathlib.Core.Bool.{Bool, true, false, _&&_}
 use mathlib.Core.List.{List, [], _∷_, _++_}
 use mathlib.Core.Path.{_≡_}

@@ -1,3 +1,3 @@
--- `Examples`: document 01's examples P1 to P13, as one table. `SeenByHost`: what the host sees of a row.
+-- `Examples`: document 01's examples P1 to P13, P3 as document 02 has it, as one table. `SeenByHost`: what the host sees of a row.
 pub mod Examples
 pub mod SeenByHost

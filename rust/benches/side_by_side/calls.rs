@@ -76,6 +76,30 @@ pub fn by_second(room: &mut Room, call: &Call) -> Result<(usize, Vec<u8>), u8> {
     Ok((accepted.seat, record::bytes(&accepted.records)))
 }
 
+/// The second program's sides of one call, made `count` times in a turn: alone,
+/// and with its own full test of the memory before each. Where the call changes
+/// the room, it is made on a fresh copy each time.
+pub fn second_sides<'a>(
+    rooms: &'a Rooms,
+    call: &'a Call,
+    count: usize,
+    fresh: bool,
+) -> [impl FnMut() + 'a; 2] {
+    let tests: [fn(&[u8]) -> bool; 2] = [|_| true, memory::whole];
+    tests.map(|test| {
+        let mut room = rooms.plain.clone();
+        move || {
+            for _ in 0..count {
+                if fresh {
+                    room = rooms.plain.clone();
+                }
+                assert!(test(black_box(&rooms.memory)));
+                used(&by_second(&mut room, black_box(call)));
+            }
+        }
+    })
+}
+
 /// The two answer and write the same, and after each turn the room is as it
 /// was, so that any other turn may follow.
 fn agree(rooms: &Rooms, traffic: &impl Traffic) {

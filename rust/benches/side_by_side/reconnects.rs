@@ -1,7 +1,7 @@
 //! Arrivals of a key that is seated, beside the two calls that each of them
 //! merges: a leave, and then an arrival.
 
-use crate::calls::{by_library, by_second};
+use crate::calls::{by_library, by_second, second_sides};
 use crate::harness::{used, Harness, Side, Time};
 use crate::rooms::{Filling, Rooms, FULL, THIN};
 use crate::table::{Row, Table};
@@ -12,10 +12,6 @@ use std::hint::black_box;
 
 /// The side of the second program with the library's tests.
 const SAME_TESTS: usize = 3;
-
-/// What the second program tests before each reconnect: nothing, or all that the
-/// papers ask of lent memory.
-const TESTS: [fn(&[u8]) -> bool; 2] = [|_| true, memory::whole];
 
 /// Reconnects in a turn.
 const COUNT: usize = 16;
@@ -99,18 +95,7 @@ impl Calls {
                 }
             }
         };
-        let mut second = TESTS.map(|test| {
-            let mut room = rooms.plain.clone();
-            move || {
-                for _ in 0..COUNT {
-                    if fresh {
-                        room = rooms.plain.clone();
-                    }
-                    assert!(test(black_box(&rooms.memory)));
-                    used(&by_second(&mut room, black_box(&self.one)));
-                }
-            }
-        });
+        let mut second = second_sides(rooms, &self.one, COUNT, fresh);
         let mut sides: Vec<Side> = vec![&mut one, &mut two];
         sides.extend(second.iter_mut().map(|side| side as Side));
         harness.measure(COUNT, &mut sides)

@@ -1,6 +1,6 @@
 //! Ticks, beside the full test of a room that each of them makes first.
 
-use crate::calls::{by_library, by_second};
+use crate::calls::{by_library, by_second, second_sides};
 use crate::harness::{used, Harness, Side, Time};
 use crate::rooms::{Filling, Rooms, EMPTY, FULL, THIN};
 use crate::table::{Row, Table};
@@ -15,10 +15,6 @@ pub const FULL_TEST: usize = 1;
 
 /// The side of the second program with the library's tests.
 const SAME_TESTS: usize = 3;
-
-/// What the second program tests before each tick: nothing, or all that the
-/// papers ask of lent memory.
-const TESTS: [fn(&[u8]) -> bool; 2] = [|_| true, memory::whole];
 
 /// Ticks in a turn.
 const COUNT: usize = 16;
@@ -126,18 +122,7 @@ fn measure(harness: &mut Harness, rooms: &Rooms, tick: &Call, fresh: bool) -> Ve
             assert_eq!(raw::room::check(black_box(&tested)), 0);
         }
     };
-    let mut second = TESTS.map(|test| {
-        let mut room = rooms.plain.clone();
-        move || {
-            for _ in 0..COUNT {
-                if fresh {
-                    room = rooms.plain.clone();
-                }
-                assert!(test(black_box(&rooms.memory)));
-                used(&by_second(&mut room, black_box(tick)));
-            }
-        }
-    });
+    let mut second = second_sides(rooms, tick, COUNT, fresh);
     let mut sides: Vec<Side> = vec![&mut library, &mut full_test];
     sides.extend(second.iter_mut().map(|side| side as Side));
     harness.measure(COUNT, &mut sides)

@@ -10,6 +10,7 @@ use reference::call::Call;
 use reference::generate::Generator as Histories;
 use reference::memory;
 use reference::met::Met;
+use reference::met_reconnects::reconnect_counts;
 use reference::room::BASE;
 
 const HISTORIES: u64 = 40;
@@ -84,18 +85,10 @@ fn a_history_with_leave_and_arrive_in_place_of_each_reconnect_is_the_same() {
 
     let calls = HISTORIES as usize * CALLS;
     let mut text = format!("histories made twice: {calls} calls, {reconnects} reconnects\n");
-    for (case, count) in cases(&twice.met) {
+    for (case, count) in reconnect_counts(&twice.met) {
         assert!(count >= 50, "{case}: only {count}");
         text += &format!("  {case}: {count}\n");
     }
     say(&text);
     assert!(calls >= 100_000 && reconnects >= 2_000);
-}
-
-/// How often each case of a reconnect was met, with a ping outstanding too.
-fn cases(met: &Met) -> Vec<(&'static str, usize)> {
-    let all = met.counts().iter().chain(met.tick_counts());
-    let all = all.map(|(case, count)| (*case, *count));
-    all.filter(|(case, _)| case.starts_with("reconnect"))
-        .collect()
 }
