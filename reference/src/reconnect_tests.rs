@@ -92,14 +92,7 @@ fn with_peers_each_is_told_and_its_request_goes_on_waiting() {
     assert_eq!(reconnects(&mut room, &KA), (0, told(1, 0x10).to_vec()));
     assert_eq!(sends(&mut room, 1, &[0x10, 0x61]), Err(9));
     assert_eq!(sends(&mut room, 0, &[0x10, 0x61]), Err(8));
-    let connects = run(&[
-        &[0x00, 0x00, 0x22, 0x01, 0x10],
-        &KB,
-        &[0x00, 0x00, 0x02, 0x02, 0x10],
-        &[0x01, 0x00, 0x02, 0x02, 0x10],
-    ]);
-    assert_eq!(sends(&mut room, 0, &request(&KB)), connects);
-    assert_eq!(room, after_p5());
+    connects_again(&mut room);
 }
 
 #[test]

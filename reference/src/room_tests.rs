@@ -105,6 +105,19 @@ pub(super) fn after_p5() -> Room {
     room
 }
 
+/// KA, in seat 0 and without routes, asks for KB, whose request for KA stands: both
+/// are told connected, KA first, and the room is that after P5 again.
+pub(super) fn connects_again(room: &mut Room) {
+    let connects = run(&[
+        &[0x00, 0x00, 0x22, 0x01, 0x10],
+        &KB,
+        &[0x00, 0x00, 0x02, 0x02, 0x10],
+        &[0x01, 0x00, 0x02, 0x02, 0x10],
+    ]);
+    assert_eq!(sends(room, 0, &request(&KB)), connects);
+    assert_eq!(*room, after_p5());
+}
+
 /// A key for each number, none of them KA, KB or KC.
 pub(super) fn other(number: u8) -> Key {
     let mut key = [0xcc; 32];
@@ -308,14 +321,7 @@ fn both_are_told_connected_again_after_a_drop() {
     assert_eq!(sends(&mut room, 0, &[0x03, 0x10]), notification);
     assert_eq!(sends(&mut room, 1, &[0x10, 0x61]), Err(9));
     assert_eq!(sends(&mut room, 0, &[0x10, 0x61]), Err(8));
-    let connects = run(&[
-        &[0x00, 0x00, 0x22, 0x01, 0x10],
-        &KB,
-        &[0x00, 0x00, 0x02, 0x02, 0x10],
-        &[0x01, 0x00, 0x02, 0x02, 0x10],
-    ]);
-    assert_eq!(sends(&mut room, 0, &request(&KB)), connects);
-    assert_eq!(room, after_p5());
+    connects_again(&mut room);
 }
 
 #[test]

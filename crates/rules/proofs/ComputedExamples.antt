@@ -1,9 +1,8 @@
 -- Document 01, "Examples" and "Errors that students make", as far as they speak of the room: facts of the definitions at 40 seats and 32 numbers, each by
--- computation. P1 to P11; the bounds of requests, arrivals, out-of-band packets and data; data goes on under the receiver's number; nothing goes to who took
--- the seat of a client that left; a disconnect leaves the peer's request standing. And one history each for sentences of "The room" and "Refusal numbers" that
--- these do not meet: ping and pong, a request made twice, a client's own key, notifications between clients whose numbers differ, a leave with two
--- peers, and refusals 3 before 4, 4, 5 and a drop's 8. With document 02's P3, and a
--- seated key that arrives in a full room. Assumes nothing.
+-- computation. P1 to P11; the bounds of requests, arrivals, out-of-band packets and data; data goes on under the receiver's number; nothing goes to who took the
+-- seat of a client that left; a disconnect leaves the peer's request standing. And one history each for sentences of "The room" and "Refusal numbers" that these
+-- do not meet: ping and pong, a request made twice, a client's own key, notifications between clients whose numbers differ, a leave with two peers, and refusals
+-- 3 before 4, 4, 5 and a drop's 8. With document 02's P3, and a seated key that arrives in a full room. Assumes nothing.
 use mathlib.Core.Path.{_≡_, refl}
 use mathlib.Core.Bool.{true}
 use mathlib.Core.List.{List, [], _∷_, _++_}

@@ -1,6 +1,5 @@
--- Every outcome is a refusal or an acceptance: it answers a refusal, changes nothing and sends nothing, or it is accepted with the count of the bytes it
--- sends. "A refusal answers its number with 0 bytes written; room [..] as before the call." None is 2: "2 is retired". In every room
--- for every call. Assumes nothing.
+-- Every outcome is a refusal or an acceptance: it answers a refusal, changes nothing and sends nothing, or it is accepted with the count of the bytes it sends.
+-- "A refusal answers its number with 0 bytes written; room [..] as before the call." None is 2: "2 is retired". In every room, for every call. Assumes nothing.
 use mathlib.Core.Path.{_≡_, refl, sym, ap, _∙_}
 use mathlib.Core.Bool.{Bool, true, false, true≢false}
 use mathlib.Core.List.{List, [], _∷_, _++_}
@@ -26,7 +25,7 @@ made-at : (seat : ℕ) (o : Outcome) → MadeAt seat o → RefusedOrAccepted o
 made-at seat o (refusal why given e) = refusal why given e
 made-at seat o (acceptance changes sent e) = acceptance seat changes sent e
 
--- two in turn
+-- one after the other
 followed-made : (first second : Outcome) → RefusedOrAccepted first → RefusedOrAccepted second → RefusedOrAccepted (followedBy first second)
 unfolding joinOutcomes refuse accept
 followed-made first second (refusal why given e) m = refusal why given (rw e)
