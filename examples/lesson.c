@@ -135,6 +135,7 @@ static const char *const refusal_words[] = {
     [BANAVOGE_REFUSAL_BYTES_AFTER_NODES] = "bytes left after four nodes",
     [BANAVOGE_REFUSAL_BAD_FRAME] = "a length under 17 or above 2,048",
     [BANAVOGE_REFUSAL_CLOCK_BACK] = "a clock that goes back",
+    [BANAVOGE_REFUSAL_BUCKETS_NOT_WHOLE] = "buckets that hold a wrong, doubled or base key",
 };
 
 /* An answer below 0 is minus a refusal number. */

@@ -4,9 +4,9 @@
  * The host owns sockets, sealing and opening. It hands over what comes in on a socket, is shown the
  * frames to open, hands over the opened packets, and tells the time. Document 01 (scope and exact
  * rules) says what each function does, document 02 (changes after the base) what the frame reader
- * does, how a client that asks for itself is answered, what a tick does and how a key that is
- * seated arrives again, and each is proved to do so on every input. Refusal numbers and sizes are
- * theirs.
+ * does, how a client that asks for itself is answered, what a tick does, how a key that is seated
+ * arrives again and what k-buckets hold, and each is proved to do so on every input. Refusal
+ * numbers and sizes are theirs.
  *
  * Answers
  *   0 or more is what the function's comment says. Below 0 it is minus a refusal number (enum
@@ -26,9 +26,9 @@
  *     keep their old contents.
  *
  * Threads
- *   A call touches nothing but what it is given. A room, a list, a keep or an output may be used by
- *   one call at a time; calls that share none of them may run at the same time, so different rooms
- *   may.
+ *   A call touches nothing but what it is given. A room, a list, buckets, a keep or an output may be
+ *   used by one call at a time; calls that share none of them may run at the same time, so different
+ *   rooms may.
  *
  * Numbers
  *   In frames, packets, packed nodes and records the highest byte stands first. Ports, times and
@@ -59,6 +59,8 @@ extern "C" {
 #define BANAVOGE_MOST_NODE_BYTES 51     /* a packed node over IPv6; over IPv4 it has 39 */
 #define BANAVOGE_MOST_NODES 4           /* in a node list */
 #define BANAVOGE_MOST_LIST_SIZE 16      /* of a nearest list; the least is 1 */
+#define BANAVOGE_BUCKETS_BYTES 106784   /* what banavoge_buckets_bytes answers */
+#define BANAVOGE_MOST_NODES_BYTES 204   /* a node list of 4 nodes over IPv6 */
 #define BANAVOGE_ROOM_BYTES 44251       /* what banavoge_room_bytes answers */
 #define BANAVOGE_SEATS 40               /* of a room: 0 to 39 */
 #define BANAVOGE_FIRST_NUMBER 16        /* of the connection numbers of a seat: 16 to 47 */
@@ -67,7 +69,7 @@ extern "C" {
 #define BANAVOGE_LEAST_TICK_OUTPUT 5120 /* to be lent to a tick, which never writes more */
 #define BANAVOGE_RECORD_HEAD 3          /* seat and length, before the packet of a record */
 
-/* Why a call is refused, in document 01's words; 18, 19, a keep, a tick's output and a key not
+/* Why a call is refused, in document 01's words; 18 to 20, a keep, a tick's output and a key not
    seated in document 02's. An arrival's output is worded as a tick's. 2 is retired. The ping number
    of 7 stands in a packet, or is a tick's. */
 enum banavoge_refusal {
@@ -113,7 +115,9 @@ enum banavoge_refusal {
        a reader holding 2 or more bytes that start no unfinished frame */
     BANAVOGE_REFUSAL_BAD_FRAME = 18,
     /* a clock that goes back */
-    BANAVOGE_REFUSAL_CLOCK_BACK = 19
+    BANAVOGE_REFUSAL_CLOCK_BACK = 19,
+    /* buckets that hold a wrong, doubled or base key */
+    BANAVOGE_REFUSAL_BUCKETS_NOT_WHOLE = 20
 };
 
 /*
@@ -378,6 +382,49 @@ int32_t banavoge_nearest_remove(uint8_t *list, size_t list_length,
 int32_t banavoge_nearest_node(const uint8_t *list, size_t list_length, size_t index,
                               uint8_t *family, uint8_t address[BANAVOGE_ADDRESS_BYTES],
                               uint16_t *port, uint8_t key[BANAVOGE_KEY_BYTES]);
+
+/*
+ * ---- K-buckets ----
+ *
+ * For a bootstrap node, which keeps nodes over the whole key space: 256 buckets by a base key, each
+ * of up to 8 nodes. A key's bucket is the number of leading bits it shares with the base key, which
+ * is never held itself. They live in memory of the host, banavoge_buckets_bytes() long; memory may
+ * be longer, and what stands behind is left alone. Every call but banavoge_buckets_begin tests all
+ * of them first: 20, for memory too short, a count above 8, a place above 7 or listed twice, keys
+ * out of order, a key in the wrong bucket, a doubled key, the base key, an unknown family.
+ *
+ * Nothing is ever put out, and there is no call that removes: a full bucket holds the same keys for
+ * good. A held node is replaced where its key is offered again.
+ */
+
+/* How many bytes buckets take. */
+size_t banavoge_buckets_bytes(void);
+
+/*
+ * Begins buckets that hold nothing, whatever the memory held: the base key and then zeros. Answers
+ * 0. Refusals: 10 (memory too short).
+ */
+int32_t banavoge_buckets_begin(uint8_t *buckets, size_t buckets_length,
+                               const uint8_t base[BANAVOGE_KEY_BYTES]);
+
+/*
+ * Offers a node. A key already held has its node replaced; else the node is put in while its bucket
+ * has room. Answers 1 where it is kept, else 0: for the base key, and for a new key whose bucket is
+ * full. Refusals: 20, 15.
+ */
+int32_t banavoge_buckets_offer(uint8_t *buckets, size_t buckets_length, uint8_t family,
+                               const uint8_t address[BANAVOGE_ADDRESS_BYTES], uint16_t port,
+                               const uint8_t key[BANAVOGE_KEY_BYTES]);
+
+/*
+ * Writes the 4 nearest to a target of all held nodes, or all when fewer, nearest first, as a node
+ * list (see banavoge_nodes_step), and answers its length: 0 to 204, and 0 where nothing is held.
+ * The target may be any key, also the base key or one that is held. Refusals: 20, 10 (output under
+ * the exact length).
+ */
+int32_t banavoge_buckets_nearest(const uint8_t *buckets, size_t buckets_length,
+                                 const uint8_t target[BANAVOGE_KEY_BYTES], uint8_t *out,
+                                 size_t out_length);
 
 /*
  * ---- The room ----

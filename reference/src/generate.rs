@@ -580,7 +580,7 @@ impl Generator {
 
     /// A key that is none of the clients'.
     fn fresh_key(&mut self) -> Option<Key> {
-        Some(random_key(&mut self.random))
+        Some(self.random.key())
     }
 
     fn seated_key(&mut self) -> Option<Key> {
@@ -704,12 +704,12 @@ impl Generator {
 /// in their first byte alone and some in their last, since keys are compared
 /// byte by byte.
 fn keys(random: &mut Random, count: usize) -> Vec<Key> {
-    let like = random_key(random);
+    let like = random.key();
     let mut keys = vec![[0; 32], [0xff; 32]];
     while keys.len() < count {
         let mut key = like;
         match random.below(4) {
-            0 => key = random_key(random),
+            0 => key = random.key(),
             1 => key[0] = random.byte(),
             2 => key[31] = random.byte(),
             _ => key[random.below(32)] = random.byte(),
@@ -719,12 +719,6 @@ fn keys(random: &mut Random, count: usize) -> Vec<Key> {
         }
     }
     keys
-}
-
-fn random_key(random: &mut Random) -> Key {
-    let mut key = [0; 32];
-    key.copy_from_slice(&random.bytes(32));
-    key
 }
 
 #[cfg(test)]

@@ -15,6 +15,26 @@ pub fn distance(a: &Key, b: &Key) -> [u8; 32] {
     xor
 }
 
+/// How many leading bits two keys share: 0 to 255 for keys that differ, and 256
+/// for a key and itself. The highest bit of the first byte leads.
+pub fn shared_bits(a: &Key, b: &Key) -> usize {
+    (0..256)
+        .take_while(|place| bit(a, *place) == bit(b, *place))
+        .count()
+}
+
+/// The key with one bit changed, by its place from the front, 0 to 255.
+pub fn flipped(key: &Key, place: usize) -> Key {
+    let mut other = *key;
+    other[place / 8] ^= 0x80 >> (place % 8);
+    other
+}
+
+/// A bit of a key, by its place from the front, 0 to 255.
+fn bit(key: &Key, place: usize) -> u8 {
+    key[place / 8] >> (7 - place % 8) & 1
+}
+
 /// Whether `a` is strictly nearer to `target` than `b` is.
 pub fn nearer(target: &Key, a: &Key, b: &Key) -> bool {
     distance(target, a) < distance(target, b)
@@ -71,5 +91,35 @@ mod tests {
         let target = [0x11; 32];
         assert!(nearer(&target, &target, &[0x22; 32]));
         assert!(!nearer(&target, &[0x22; 32], &target));
+    }
+
+    #[test]
+    fn keys_share_the_bits_before_the_first_that_differs() {
+        let key = [0x5a; 32];
+        assert_eq!(shared_bits(&key, &key), 256);
+        for place in 0..256 {
+            let one = flipped(&key, place);
+            assert_eq!(shared_bits(&key, &one), place);
+            // What stands behind the first bit that differs does not count.
+            let all = (place..256).fold(key, |other, place| flipped(&other, place));
+            assert_eq!(shared_bits(&key, &all), place);
+            assert_eq!(shared_bits(&all, &key), place);
+            assert_eq!(shared_bits(&one, &all), place + 1);
+        }
+    }
+
+    /// The examples of document 001.
+    #[test]
+    fn the_first_bit_is_the_highest_of_the_first_byte() {
+        let mut base = [0; 32];
+        base[0] = 0x80;
+        let mut key = [0; 32];
+        key[0] = 0x40;
+        assert_eq!(shared_bits(&base, &key), 0);
+        key[0] = 0xc0;
+        assert_eq!(shared_bits(&base, &key), 1);
+        key = base;
+        key[31] = 1;
+        assert_eq!(shared_bits(&base, &key), 255);
     }
 }

@@ -9,9 +9,14 @@
 //! in lent memory. `generate`, with `random`, `bad_packet` and `ticking`, makes
 //! histories up, and `met`, with `met_ticks` and `met_reconnects`, counts what they
 //! meet. `frames` is the reader of a stream that comes in pieces, and `streams`
-//! makes such streams up and cuts them.
+//! makes such streams up and cuts them. `node` is packed nodes, `nearest` the
+//! nearest list, and `buckets` the nodes kept over the whole key space in lent
+//! memory; `bucket_offers` makes up what is offered to buckets and asked of them,
+//! and `met_buckets` counts what that meets.
 
 pub mod bad_packet;
+pub mod bucket_offers;
+pub mod buckets;
 pub mod call;
 pub mod frames;
 pub mod generate;
@@ -19,6 +24,7 @@ pub mod key;
 pub mod lent;
 pub mod memory;
 pub mod met;
+pub mod met_buckets;
 pub mod met_reconnects;
 pub mod met_ticks;
 pub mod nearest;

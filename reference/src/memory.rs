@@ -12,15 +12,12 @@
 //! list: the unused records and the bytes behind the room are no part of the
 //! room.
 
-use crate::key::Key;
 use crate::room::{Room, Sizes, BASE};
 use crate::seat::Seat;
-use crate::table::{self, Table};
+use crate::table::{self, key_of, Table, KEY};
 
 /// The bytes of a time or of a ping number.
 const NUMBER: usize = 8;
-/// The bytes of a key.
-const KEY: usize = 32;
 
 /// Where the clock stands: behind the two sizes.
 const CLOCK: usize = 2;
@@ -157,13 +154,6 @@ fn encode_seat(seat: &Seat) -> Vec<u8> {
     let ping_time = seat.ping_time.to_be_bytes();
     let outstanding = seat.outstanding.to_be_bytes();
     [&seat.key[..], &ping_time, &outstanding, &routes].concat()
-}
-
-/// The key at the front of a record.
-fn key_of(record: &[u8]) -> Key {
-    let mut key = [0; KEY];
-    key.copy_from_slice(&record[..KEY]);
-    key
 }
 
 /// The time or the ping number that starts at this byte.

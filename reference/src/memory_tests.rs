@@ -1,6 +1,7 @@
 //! Rooms in lent memory: there and back, and every kind of damage.
 
 use super::*;
+use crate::key::Key;
 use crate::random::Random;
 use crate::room::LEAST_OUTPUT;
 

@@ -7,7 +7,10 @@ use crate::key::Key;
 use crate::refusal;
 
 /// The most nodes that a list of packed nodes may have.
-const MOST_NODES: usize = 4;
+pub const MOST_NODES: usize = 4;
+
+/// The most bytes that a list of packed nodes may have: four nodes over IPv6.
+pub const LONGEST_LIST: usize = MOST_NODES * 51;
 
 /// A node. The family is the byte as given, known or not.
 ///
@@ -62,6 +65,17 @@ pub fn read(bytes: &[u8], at: usize) -> Result<(Node, usize), u8> {
 /// answers the refusal number and leaves `out` as it was. Bytes of `out`
 /// behind the node keep their contents.
 pub fn write(node: &Node, out: &mut [u8]) -> Result<usize, u8> {
+    let bytes = packed(node)?;
+    // A writer looks at the output last.
+    if out.len() < bytes.len() {
+        return Err(refusal::OUTPUT);
+    }
+    out[..bytes.len()].copy_from_slice(&bytes);
+    Ok(bytes.len())
+}
+
+/// The bytes of a packed node, or refusal 15.
+pub fn packed(node: &Node) -> Result<Vec<u8>, u8> {
     let address_length = address_length(node.family)?;
     let bytes = [
         &[node.family],
@@ -70,12 +84,7 @@ pub fn write(node: &Node, out: &mut [u8]) -> Result<usize, u8> {
         &node.key,
     ]
     .concat();
-    // A writer looks at the output last.
-    if out.len() < bytes.len() {
-        return Err(refusal::OUTPUT);
-    }
-    out[..bytes.len()].copy_from_slice(&bytes);
-    Ok(bytes.len())
+    Ok(bytes)
 }
 
 /// One step through a list of packed nodes, from a place in it and with the

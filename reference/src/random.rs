@@ -1,5 +1,7 @@
 //! Numbers that look random and are the same at every run: xorshift, 64 bits.
 
+use crate::key::Key;
+
 /// A run of numbers that its seed fixes.
 #[derive(Debug, Clone)]
 pub struct Random {
@@ -38,6 +40,12 @@ impl Random {
     /// `length` bytes.
     pub fn bytes(&mut self, length: usize) -> Vec<u8> {
         (0..length).map(|_| self.byte()).collect()
+    }
+
+    pub fn key(&mut self) -> Key {
+        let mut key = [0; 32];
+        key.fill_with(|| self.byte());
+        key
     }
 
     /// True in so many of a hundred cases.

@@ -25,8 +25,9 @@ pub const ROUTE_NUMBER: u8 = 8;
 /// Data on a waiting route.
 pub const WAITING: u8 = 9;
 /// For an arrival, a leave or a packet call: an output of under 2,048 bytes. For a
-/// tick: one of under 5,120 bytes. For a writer: the output is shorter than what
-/// would be written. For the frame reader: a keep of under 2,050 bytes.
+/// tick: one of under 5,120 bytes. For a writer, and for a question put to buckets:
+/// the output is shorter than what would be written. For the frame reader: a keep
+/// of under 2,050 bytes. For buckets to be begun: memory of under 106,784 bytes.
 pub const OUTPUT: u8 = 10;
 /// The lent memory holds no whole room.
 pub const ROOM: u8 = 11;
@@ -48,3 +49,6 @@ pub const NODE_COUNT: u8 = 17;
 pub const FRAME: u8 = 18;
 /// A clock that goes back: a tick whose time is before the clock.
 pub const CLOCK: u8 = 19;
+/// The lent memory holds no whole buckets: a wrong, doubled or base key, or a node
+/// of unknown family.
+pub const BUCKETS: u8 = 20;

@@ -8,8 +8,10 @@
 //! order, which list the used places in strictly rising order of their keys. A
 //! record begins with its key. Nothing that is not listed is read.
 
+use crate::key::Key;
+
 /// The bytes of a key, at the front of each record.
-const KEY: usize = 32;
+pub const KEY: usize = 32;
 
 /// A table of so many places, with records of so many bytes, as it stands at
 /// the front of `bytes`, which has all the bytes of the table at least.
@@ -20,7 +22,7 @@ pub struct Table<'a> {
 }
 
 /// How many bytes a table takes.
-pub fn length(places: usize, width: usize) -> usize {
+pub const fn length(places: usize, width: usize) -> usize {
     1 + places + places * width
 }
 
@@ -39,13 +41,31 @@ impl<'a> Table<'a> {
 
     /// Whether this key is a listed one, where the table is whole.
     pub fn lists(&self, key: &[u8]) -> bool {
-        self.listed().iter().any(|place| self.key(*place) == key)
+        self.place_of(key).is_some()
+    }
+
+    /// The place of this key, if it is a listed one, where the table is whole.
+    pub fn place_of(&self, key: &[u8]) -> Option<usize> {
+        let mut listed = self.listed().into_iter();
+        listed.find(|place| self.key(*place) == key)
+    }
+
+    /// The lowest place that is not listed, if there is one.
+    pub fn lowest_free(&self) -> Option<usize> {
+        let listed = self.listed();
+        (0..self.places).find(|place| !listed.contains(place))
     }
 
     /// The record at a place in range.
     pub fn record(&self, place: usize) -> &'a [u8] {
-        let start = 1 + self.places + place * self.width;
+        let start = record_start(self.places, self.width, place);
         &self.bytes[start..start + self.width]
+    }
+
+    /// The records of the listed places, in their order, where the table is whole.
+    pub fn records(&self) -> Vec<&'a [u8]> {
+        let listed = self.listed().into_iter();
+        listed.map(|place| self.record(place)).collect()
     }
 
     fn count(&self) -> usize {
@@ -84,6 +104,44 @@ fn before(a: &[u8], b: &[u8]) -> bool {
     false
 }
 
+/// Where the record of a place starts.
+fn record_start(places: usize, width: usize, place: usize) -> usize {
+    1 + places + place * width
+}
+
+/// The key at the front of a record.
+pub fn key_of(record: &[u8]) -> Key {
+    let mut key = [0; KEY];
+    key.copy_from_slice(&record[..KEY]);
+    key
+}
+
+/// Writes a record at a place in range. The order stays as it is, and so it stays
+/// right where the record has the key that stood there.
+pub fn write(bytes: &mut [u8], places: usize, place: usize, record: &[u8]) {
+    let start = record_start(places, record.len(), place);
+    bytes[start..start + record.len()].copy_from_slice(record);
+}
+
+/// Writes a record at a place that is not listed, with a key that is not listed
+/// either, and lists the place. The bytes of the order behind it stay.
+pub fn put(bytes: &mut [u8], places: usize, place: usize, record: &[u8]) {
+    write(bytes, places, place, record);
+    let width = record.len();
+    let table = Table {
+        bytes,
+        places,
+        width,
+    };
+    let mut listed = table.listed();
+    listed.push(place);
+    listed.sort_by_key(|place| table.key(*place));
+    bytes[0] = listed.len() as u8;
+    for (at, place) in listed.into_iter().enumerate() {
+        bytes[1 + at] = place as u8;
+    }
+}
+
 /// The table with these records at their places; the places without one, and
 /// the rest of the order, are zero bytes.
 pub fn encode(records: &[Option<Vec<u8>>], width: usize) -> Vec<u8> {
@@ -113,14 +171,16 @@ mod tests {
         encode(&records, KEY)
     }
 
-    fn whole(bytes: &[u8]) -> bool {
-        let (places, width) = (3, KEY);
+    fn of(bytes: &[u8]) -> Table<'_> {
         Table {
             bytes,
-            places,
-            width,
+            places: 3,
+            width: KEY,
         }
-        .whole()
+    }
+
+    fn whole(bytes: &[u8]) -> bool {
+        of(bytes).whole()
     }
 
     #[test]
@@ -187,15 +247,7 @@ mod tests {
 
     #[test]
     fn the_keys_of_used_places_are_listed_and_no_others() {
-        let lists = |bytes: &[u8], key: &[u8]| {
-            let (places, width) = (3, KEY);
-            Table {
-                bytes,
-                places,
-                width,
-            }
-            .lists(key)
-        };
+        let lists = |bytes: &[u8], key: &[u8]| of(bytes).lists(key);
         let mut bytes = table([Some(9), None, Some(4)]);
         bytes[36..68].fill(5);
         for first in 0..=255 {
@@ -207,5 +259,49 @@ mod tests {
         assert!(!lists(&bytes, &near));
         assert!(!lists(&table([None; 3]), &[0; KEY]));
         assert!((1..=3).all(|first| lists(&table([Some(3), Some(2), Some(1)]), &[first; KEY])));
+    }
+
+    #[test]
+    fn a_key_has_its_place_and_records_come_in_the_order_of_their_keys() {
+        let mut bytes = table([Some(9), None, Some(4)]);
+        bytes[36..68].fill(5);
+        let table = of(&bytes);
+        let places = [4, 5, 9].map(|first| table.place_of(&[first; KEY]));
+        assert_eq!(places, [Some(2), None, Some(0)]);
+        assert_eq!(table.records(), [[4; KEY], [9; KEY]]);
+        assert_eq!(key_of(table.records()[0]), [4; KEY]);
+    }
+
+    #[test]
+    fn the_lowest_place_that_is_not_listed_is_free() {
+        let lowest = |firsts| of(&table(firsts)).lowest_free();
+        assert_eq!(lowest([None, None, None]), Some(0));
+        assert_eq!(lowest([Some(9), None, None]), Some(1));
+        assert_eq!(lowest([None, Some(9), Some(4)]), Some(0));
+        assert_eq!(lowest([Some(9), Some(4), None]), Some(2));
+        assert_eq!(lowest([Some(9), Some(4), Some(6)]), None);
+    }
+
+    #[test]
+    fn a_record_is_put_in_the_order_of_its_key_and_all_else_stays() {
+        let mut bytes = table([None, Some(5), None]);
+        // The order behind the count, and a byte behind the table.
+        bytes[2..4].fill(0xee);
+        bytes.push(0xee);
+        for (place, first, order) in [(2, 7, [2, 1, 2, 0xee]), (0, 6, [3, 1, 0, 2])] {
+            let mut expected = bytes.clone();
+            expected[..4].copy_from_slice(&order);
+            expected[4 + place * KEY..4 + (place + 1) * KEY].fill(first);
+            put(&mut bytes, 3, place, &[first; KEY]);
+            assert_eq!(bytes, expected);
+            assert!(whole(&bytes));
+        }
+    }
+
+    #[test]
+    fn a_record_is_overwritten_where_it_stands() {
+        let mut bytes = table([Some(9), Some(4), None]);
+        write(&mut bytes, 3, 1, &[5; KEY]);
+        assert_eq!(bytes, table([Some(9), Some(5), None]));
     }
 }

@@ -1,17 +1,18 @@
 //! A Tox TCP relay for classrooms, as a library in which every function is
 //! proved to do what its papers say, document 01 and, of frames, of a client
-//! that asks for itself, of clients that are dead and of one that comes back,
-//! document 02's Req 01 to Req 04: the safe interface to the static library
-//! `libbanavoge.a`.
+//! that asks for itself, of clients that are dead, of one that comes back and of
+//! buckets, document 02's Req 01 to Req 05: the safe interface to the static
+//! library `libbanavoge.a`.
 //!
 //! Here are the relay, which is a [`Room`]; the [`Frames`] of a stream; relay
 //! packets of both ends, [`FromClient`] and [`FromRelay`]; packed nodes,
-//! [`Node`], and lists of them, [`Nodes`]; and the [`NearestList`]. The host
-//! owns sockets, sealing and opening: it hands over what comes in, is shown the
-//! frames to open, hands over the opened packets, and tells the time, in whole
-//! seconds. Nothing here keeps a socket, reads a clock or has any state besides
-//! these values. A room takes its memory once, when it is made; its calls
-//! allocate nothing.
+//! [`Node`], and lists of them, [`Nodes`]; and, of nodes that are kept, the
+//! [`NearestList`] and the [`Buckets`]. The host owns sockets, sealing and
+//! opening: it hands over what comes in, is shown the frames to open, hands over
+//! the opened packets, and tells the time, in whole seconds. Nothing here keeps a
+//! socket, reads a clock or has any state besides these values. A room and
+//! buckets take their memory once, when they are made; a room's calls allocate
+//! nothing.
 //!
 //! Each call is accepted or refused with a [`Refusal`]; a refused call has
 //! written nothing and changed nothing, but that a reader of frames refuses
@@ -187,6 +188,7 @@
 
 mod answer;
 mod arrival;
+mod buckets;
 mod call;
 mod connection_number;
 mod frames;
@@ -205,13 +207,14 @@ mod room;
 mod seat;
 
 pub use arrival::Arrival;
+pub use buckets::Buckets;
 pub use call::{Call, TooLong};
 pub use connection_number::ConnectionNumber;
 pub use frames::{Frame, Frames, LONGEST_FRAME};
 pub use key::Key;
 pub use nearest::{HeldNodes, NearestList};
 pub use node::{Node, Transport, LONGEST_NODE};
-pub use nodes::Nodes;
+pub use nodes::{Nodes, LONGEST_NODE_LIST};
 pub use packet::{FromClient, FromRelay, LONGEST_PACKET};
 pub use play::{Accepted, Answers, Played, Stop};
 pub use record::{Record, Records};

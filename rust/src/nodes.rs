@@ -2,8 +2,11 @@
 
 use crate::answer::accepted;
 use crate::raw::{self, node::Parts};
-use crate::{Node, Refusal};
+use crate::{Node, Refusal, LONGEST_NODE};
 use std::iter::FusedIterator;
+
+/// The most bytes that a node list has: those of four nodes over IPv6.
+pub const LONGEST_NODE_LIST: usize = 4 * LONGEST_NODE;
 
 /// A walker through a lent node list: 0 to 4 packed nodes with no byte over.
 ///

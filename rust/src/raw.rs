@@ -14,6 +14,7 @@
 //! its count; an empty one has a pointer that is not null. What one call may
 //! write overlaps with nothing else that it is lent, since it comes from `&mut`.
 
+pub mod buckets;
 pub mod frames;
 pub mod keys;
 pub mod nearest;

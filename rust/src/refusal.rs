@@ -6,8 +6,8 @@ use std::fmt;
 /// A refusal: one row of document 01's table "Refusal numbers", or one of those
 /// that document 02 adds behind them.
 ///
-/// A refused call writes nothing, and room, list, output and piece are as they
-/// were. A reader of frames that has refused a length refuses every call after
+/// A refused call writes nothing, and room, list, buckets, output and piece are as
+/// they were. A reader of frames that has refused a length refuses every call after
 /// it: see [`Frames::next`](crate::Frames::next). A refusal prints the papers'
 /// words.
 ///
@@ -45,9 +45,10 @@ pub enum Refusal {
     /// 9: data on a route that waits.
     NotConnected = 9,
     /// 10: an output of under 2,048 bytes for an arrival, a packet or a leave, of
-    /// under 5,120 for a tick, or one that is shorter than what a writer would
-    /// write; a keep of under 2,050 bytes, which [`Frames`](crate::Frames) never
-    /// lends.
+    /// under 5,120 for a tick, or one that is shorter than what a writer, or the
+    /// answer of buckets, would write; a keep of under 2,050 bytes, which
+    /// [`Frames`](crate::Frames) never lends, or memory too short for the
+    /// [`Buckets`](crate::Buckets) that are begun in it, which they never lend.
     OutputTooShort = 10,
     /// 11: bytes that are no whole room, such as those of a room in which a seat
     /// names its own key, or was pinged at a time after the clock.
@@ -70,11 +71,15 @@ pub enum Refusal {
     BadFrame = 18,
     /// 19: a tick with a time before the room's clock.
     ClockBack = 19,
+    /// 20: bytes that are no whole buckets, such as those of buckets that hold a key
+    /// in another bucket than its own, a key twice, the base key, or a node of
+    /// unknown family.
+    BucketsNotWhole = 20,
 }
 
 impl Refusal {
     /// All refusals, in the order of their numbers.
-    pub const ALL: [Refusal; 19] = [
+    pub const ALL: [Refusal; 20] = [
         Refusal::RoomFull,
         Refusal::AlreadySeated,
         Refusal::NotSeated,
@@ -94,9 +99,10 @@ impl Refusal {
         Refusal::BytesAfterNodes,
         Refusal::BadFrame,
         Refusal::ClockBack,
+        Refusal::BucketsNotWhole,
     ];
 
-    /// The papers' number, 1 to 19.
+    /// The papers' number, 1 to 20.
     pub const fn number(self) -> u8 {
         self as u8
     }
@@ -109,7 +115,7 @@ impl Refusal {
     }
 
     /// Document 01's words, from the column "Given exactly when"; document 02's
-    /// for 18 and 19, for a key not seated, a keep and a tick's output. An arrival's
+    /// for 18 to 20, for a key not seated, a keep and a tick's output. An arrival's
     /// output is worded as a tick's, and 2, which is never given, has "retired"
     /// before it.
     const fn words(self) -> &'static str {
@@ -141,6 +147,7 @@ impl Refusal {
                 "a length under 17 or above 2,048; a reader holding 2 or more bytes that start no unfinished frame"
             }
             Refusal::ClockBack => "a clock that goes back",
+            Refusal::BucketsNotWhole => "buckets that hold a wrong, doubled or base key",
         }
     }
 }
@@ -158,12 +165,12 @@ mod tests {
     use super::Refusal;
 
     #[test]
-    fn the_numbers_are_1_to_19_and_name_their_refusals() {
+    fn the_numbers_are_1_to_20_and_name_their_refusals() {
         let numbers = Refusal::ALL.map(Refusal::number);
-        assert!(numbers.into_iter().eq(1..=19));
+        assert!(numbers.into_iter().eq(1..=20));
         for number in 0..=255 {
             let named = Refusal::from_number(number).map(Refusal::number);
-            assert_eq!(named, (1..=19).contains(&number).then_some(number));
+            assert_eq!(named, (1..=20).contains(&number).then_some(number));
         }
     }
 }

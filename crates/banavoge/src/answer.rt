@@ -3,10 +3,12 @@ ghost use mathlib.Core.Path.{_≡_};
 ghost use Prim.Native.Nat.{_≤_};
 ghost use lib.IntN.{pos};
 ghost use Rattle.banavoge_laws.specs.Answers.{refusalCode, writtenCode, Counted};
+ghost use Rattle.banavoge_laws.specs.Nodes.{nodeWrittenCode, CountedNodes};
 ghost use Rattle.banavoge_laws.specs.Nearest.{doneCode, keptCode};
 ghost use Rattle.banavoge_laws.specs.Rooms.{doneOr};
 use nearest::Answer;
 use nearest::OfferAnswer;
+use node::writer;
 use packet_write::Written;
 use refusal::Refusal;
 
@@ -18,7 +20,7 @@ pub(crate) fn refused(why: Refusal) -> i32
     -number
 }
 
-// A byte count: no packet or node has more than 2,032 bytes.
+// A byte count: no packet, node or node list has more than 2,032 bytes.
 pub(crate) fn count(bytes: usize) -> i32
     requires { ⌜ bytes ≤ 2032 ⌝ }
     ensures { λ r. ⌜ r ≡ pos bytes ⌝ }
@@ -34,6 +36,17 @@ pub(crate) fn written(answer: Written) -> i32
     match answer {
         Written::Bytes(bytes) => count(bytes),
         Written::Refused(why) => refused(why),
+    }
+}
+
+// The byte count of packed nodes, or minus the refusal's number.
+pub(crate) fn packed(answer: writer::Written) -> i32
+    requires { ⌜ CountedNodes answer ⌝ }
+    ensures { λ r. ⌜ r ≡ nodeWrittenCode answer ⌝ }
+{
+    match answer {
+        writer::Written::Bytes(bytes) => count(bytes),
+        writer::Written::Refused(why) => refused(why),
     }
 }
 

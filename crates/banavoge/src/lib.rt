@@ -5,6 +5,7 @@
 // `held` and `used` of the reader of frames. Memory stays the host's; two parameters of one call must not overlap.
 mod answer;
 pub mod frames;
+pub mod k_buckets;
 pub mod keys;
 pub mod nearest_lists;
 pub mod nodes;

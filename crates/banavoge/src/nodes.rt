@@ -14,7 +14,6 @@ use node::reader::Found;
 use node::walk::Shown;
 use node::walker;
 use node::writer;
-use node::writer::Written;
 
 // Hands a node to the caller's places.
 fn tell_node(
@@ -108,15 +107,6 @@ pub extern "C" fn banavoge_node_write(
         port,
         key: Key(*key),
     };
-    packed(node, out)
-}
-
-// The byte count of a packed node, or minus the refusal's number.
-fn packed(node: Node, out: &mut [u8]) -> i32
-    ensures { λ r. ⌜ ToldAs nodeWrittenCode (WritesNode node (now (out .entry)) (now (out .exit))) r ⌝ }
-{
-    match writer::write(node, out) {
-        Written::Bytes(bytes) => answer::count(bytes),
-        Written::Refused(why) => answer::refused(why),
-    }
+    let answer = writer::write(node, out);
+    answer::packed(answer)
 }

@@ -1,5 +1,5 @@
--- What the functions of `node` promise, carried over to the exported ones. Assumes nothing.
-use mathlib.Core.Path.{_≡_, _∙_, refl, sym, ap, ap₂}
+-- What the functions of `node` promise, and that of `buckets` that writes nodes, carried over to the exported ones. Assumes nothing.
+use mathlib.Core.Path.{_≡_, _∙_, refl, sym, ap, ap₂, subst}
 use mathlib.Core.Bool.{Bool, true, false, cond}
 use mathlib.Core.List.{List}
 use Prim.Native.Nat.{ℕ, _+_, _≤_}
@@ -8,6 +8,7 @@ use lib.Dec.{leb}
 use lib.IntN.{ℤ, pos}
 use lib.ListN.{length}
 use Rattle.refusal.specs.declared.Refusal.{Refusal}
+use Rattle.key.specs.declared.Key.{Key}
 use Rattle.node.specs.declared.Node.{Node}
 use Rattle.node.specs.declared.reader.Found.the-variants as found
 use Rattle.node.specs.declared.reader.NodeRead.{NodeRead}
@@ -23,8 +24,12 @@ use Rattle.node.specs.Values.{infoOf}
 use Rattle.node.specs.Written.{WritesNode, writtenAnswer}
 use Rattle.node.proofs.FamilyLaws.{address-fits, packed-length}
 use Rattle.node.proofs.NodeLaws.{length-value}
+use Rattle.buckets_laws.specs.Whole.{bucketsWhole}
+use Rattle.buckets_laws.specs.Calls.{Asks, answerBytes, nearestAnswered}
+use Rattle.buckets_laws.proofs.AnswerLaws.{answer-few}
+use Rattle.buckets_laws.proofs.Theorems.{answer-not-whole}
 use Rattle.banavoge_laws.specs.Answers.{refusalCode}
-use Rattle.banavoge_laws.specs.Nodes.{NodePlaces, nodePlacesOf, nodeCode, nodeAfter, ReadsNode, stepCode, stepAfter, StepsNode}
+use Rattle.banavoge_laws.specs.Nodes.{NodePlaces, nodePlacesOf, nodeCode, nodeAfter, ReadsNode, stepCode, stepAfter, StepsNode, CountedNodes}
 
 -- ---- one node
 
@@ -105,13 +110,37 @@ counted true true m n why other e = cc
 counted true false m n why other e = let z : _≡_ {A = ℕ} 0 1 = cc in absurd (omega arith)
 counted false t m n why other e = let z : _≡_ {A = ℕ} 0 1 = cc in absurd (omega arith)
 
+counted-nodes : (w : Written) → ((count : ℕ) → w ≡ written.Bytes count → count ≤ 204) → CountedNodes w
+unfolding CountedNodes
+counted-nodes (written.Bytes count) h = h count refl
+counted-nodes (written.Refused why) h = tt
+
 -- a packed node has at most 51 bytes
-pub node-counted : (n : Node) (out : List ℕ) (w : Written) (left : List ℕ) (count : ℕ) → WritesNode n out left w → w ≡ written.Bytes count
-    → count ≤ 2032
+pub node-counted : (n : Node) (out : List ℕ) (w : Written) (left : List ℕ) → WritesNode n out left w → CountedNodes w
 unfolding writtenAnswer
-node-counted n out w left count writes e =
+node-counted n out w left writes =
+    counted-nodes w (λ count e.
     let c = counted (knownFamily (infoOf n .family)) (leb (length (packedNode (infoOf n))) (length out)) (length (packedNode (infoOf n))) count _ _ (sym (writes .writes .answers) ∙ e) in
     let l = length-value n (writes .fits .long) (writes .fits .key .long) in
     let p = packed-length (n .family) in
     let f = address-fits (n .family) in
-    omega arith
+    omega arith)
+
+-- ---- the nodes nearest to a target
+
+pub asked-counted : (target : Key) (memory out left : List ℕ) (w : Written) → Asks target memory out left w → CountedNodes w
+unfolding nearestAnswered
+asked-counted target memory out left w asks =
+    counted-nodes w (λ count e.
+    let c = counted (bucketsWhole memory) (leb (length (answerBytes memory (target .0))) (length out)) (length (answerBytes memory (target .0))) count _ _ (sym (asks .answers) ∙ e) in
+    go count e c (bucketsWhole memory) refl)
+  where
+    go : (count : ℕ) → w ≡ written.Bytes count → count ≡ length (answerBytes memory (target .0)) → (b : Bool) → bucketsWhole memory ≡ b → count ≤ 204
+    go count e c true whole = let f = answer-few memory whole (asks .bytes) (target .0) in omega arith
+    go count e c false broken = let p = answer-not-whole asks broken .0 in let z : _≡_ {A = ℕ} 0 1 = cc in absurd (omega arith)
+
+-- ---- a count of packed nodes is small
+
+pub nodes-small : (w : Written) (count : ℕ) → CountedNodes w → w ≡ written.Bytes count → count ≤ 2032
+unfolding CountedNodes
+nodes-small w count h e = let q : CountedNodes (written.Bytes count) = subst CountedNodes e h in omega (arith, q)

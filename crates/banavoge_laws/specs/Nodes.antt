@@ -1,7 +1,7 @@
 -- What the exported functions on nodes tell through references. On a refusal, and at the end of a list, nothing is set.
 use mathlib.Core.List.{List}
 use mathlib.Core.Path.{_≡_}
-use Prim.Native.Nat.{ℕ, _+_}
+use Prim.Native.Nat.{ℕ, _+_, _≤_}
 use lib.IntN.{ℤ, pos}
 use lib.ListN.{length}
 use Rattle.node.specs.declared.Node.{Node}
@@ -61,8 +61,13 @@ pub record StepsNode (place : ℕ) (step : Showing) (answer : ℤ) (before after
   pub answers : answer ≡ stepCode step
   pub leaves : after ≡ stepAfter place step before
 
--- ---- a node written (`WritesNode` of `node`): the byte count, or minus the refusal
+-- ---- a node written (`WritesNode` of `node`), or the nodes nearest to a target (`Asks` of `buckets_laws`): the byte count, or minus the refusal
 
 unfoldable pub nodeWrittenCode : Written → ℤ
 nodeWrittenCode (Bytes count) = pos count
 nodeWrittenCode (Refused why) = refusalCode why
+
+-- a count that packed nodes can have: four of them take at most 204 bytes
+unfoldable pub CountedNodes : Written → Type 0
+CountedNodes (Bytes count) = count ≤ 204
+CountedNodes (Refused why) = Unit {0}

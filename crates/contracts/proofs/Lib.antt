@@ -5,6 +5,7 @@ pub mod ReaderExports
 pub mod WriterExports
 pub mod NodeExports
 pub mod ListExports
+pub mod BucketExports
 pub mod RoomExports
 pub mod CallExports
 pub mod RunExports

@@ -1,22 +1,16 @@
 -- Laws of a part of a slice: how long it is, and that what it has past its first bytes is a part of the same whole.
 -- Assumes nothing.
-use mathlib.Core.List.{List, [], _∷_}
+use mathlib.Core.List.{List}
 use mathlib.Core.Path.{_≡_, ap, _∙_}
-use Prim.Native.Nat.{ℕ, zero, suc, _+_, _-_, _≤_}
-use native.Mathlib.Nat.{sub-zero, zero-sub, suc-sub-suc}
+use Prim.Native.Nat.{ℕ, _+_, _-_, _≤_}
 use native.Mathlib.Omega.{arith}
 use lib.ListN.{length, take, drop, length-take, length-drop}
-use lib.Seq.{drop-drop, take-nil, take-take}
+use lib.Seq.{drop-drop, take-take}
 use denote.Ref.{now}
+use Rattle.wire.proofs.Copy.{drop-take}
 use Rattle.frame_reader.specs.Parts.{Lent, LentPart, IsPart, past}
 
 -- ---- of lists
-pub drop-take : (m n : ℕ) (l : List ℕ) → drop m (take n l) ≡ take (n - m) (drop m l)
-drop-take zero n l = rw sub-zero
-drop-take (suc m) zero l = rw zero-sub
-drop-take (suc m) (suc n) [] = rw take-nil
-drop-take (suc m) (suc n) (x ∷ xs) = rw suc-sub-suc (drop-take m n xs)
-
 -- n of a part's k elements gone, the others are a part of the list
 past-taken : (at k n : ℕ) (l : List ℕ) → take (k - n) (drop n (take k (drop at l))) ≡ take (k - n) (drop (at + n) l)
 past-taken at k n l =

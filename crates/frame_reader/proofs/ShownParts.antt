@@ -7,13 +7,13 @@ use native.Mathlib.Omega.{arith}
 use lib.ListN.{length, take, drop}
 use denote.Ref.{now}
 use borrow.Author.Tests.{le-leb}
+use Rattle.wire.proofs.Copy.{drop-take}
 use Rattle.frame.specs.declared.Shown.{Shown}
 use Rattle.frame.specs.declared.Shown.the-variants.{InPiece, InKeep}
 use Rattle.frame.specs.declared.Reader.{Reader}
 use Rattle.frame.specs.Reader.{readFrame}
 use Rattle.frame.proofs.ReaderLaws.{shown-within}
 use Rattle.frame_reader.specs.Parts.{Lent, LentPart, IsPart, frontPart, past, framePart, sealedPart}
-use Rattle.frame_reader.proofs.PartLaws.{drop-take}
 
 module _ (reader : Reader) (before bytes : List ℕ) (keep piece : Lent) (k : now keep ≡ readFrame reader before bytes .keep) (p : now piece ≡ bytes) where
   abbrev shown : Shown

@@ -1,8 +1,9 @@
 -- Each export that writes and is lent no room is one of `OtherExport`: what a refusal leaves (`OtherRefusedLeaves`) is what the export leaves. And the contracts of the
--- exports on a nearest list are the beginning and the steps of a list's history (`ListHistories`), and that of `banavoge_frame_read` is a call on a stream
--- (`FrameStreams`). Assumes nothing.
+-- exports on a nearest list and on buckets are the beginning and the steps of a history of them (`ListHistories`, `BucketHistories`), and that of
+-- `banavoge_frame_read` is a call on a stream (`FrameStreams`). Assumes nothing.
 use mathlib.Core.Path.{_≡_, refl, subst}
 use mathlib.Core.Bool.{true}
+use mathlib.Core.List.{[]}
 use Prim.Native.Nat.{_≤_}
 use lib.IntN.{pos}
 use lib.ListN.{length}
@@ -49,12 +50,19 @@ use Rattle.banavoge.proofs.nearest_lists.banavoge_nearest_remove.Kinds as neare
 use Rattle.banavoge.proofs.nearest_lists.banavoge_nearest_remove.Reads as nearest-remove-reads
 use Rattle.banavoge.proofs.nearest_lists.banavoge_nearest_node.Kinds as nearest-node-kinds
 use Rattle.banavoge.proofs.nearest_lists.banavoge_nearest_node.Reads as nearest-node-reads
+use Rattle.banavoge.proofs.k_buckets.banavoge_buckets_begin.Kinds as buckets-begin-kinds
+use Rattle.banavoge.proofs.k_buckets.banavoge_buckets_begin.Reads as buckets-begin-reads
+use Rattle.banavoge.proofs.k_buckets.banavoge_buckets_offer.Kinds as buckets-offer-kinds
+use Rattle.banavoge.proofs.k_buckets.banavoge_buckets_offer.Reads as buckets-offer-reads
+use Rattle.banavoge.proofs.k_buckets.banavoge_buckets_nearest.Kinds as buckets-nearest-kinds
+use Rattle.banavoge.proofs.k_buckets.banavoge_buckets_nearest.Reads as buckets-nearest-reads
 use Rattle.banavoge.proofs.frames.banavoge_frame_read.Kinds as frame-read-kinds
 use Rattle.banavoge.proofs.frames.banavoge_frame_read.Reads as frame-read-reads
 use Rattle.refusal.specs.declared.Refusal.the-variants.{ListSize}
 use Rattle.nearest.specs.Lists.{defaultSize, sizeRight}
 use Rattle.lent_list_laws.specs.Layout.{listLength}
 use Rattle.lent_list_laws.specs.Calls.{Begins}
+use Rattle.buckets_laws.specs.Calls as buckets
 use Rattle.banavoge_laws.specs.Answers.{refusalCode, ToldAs}
 use Rattle.banavoge_laws.specs.Frames.{framePlaces}
 use Rattle.banavoge_laws.specs.Fields.{places}
@@ -66,9 +74,12 @@ use Rattle.contracts.proofs.ReaderExports.{banavoge-relay-read, banavoge-client
 use Rattle.contracts.proofs.WriterExports.{banavoge-routing-request, banavoge-routing-response, banavoge-connect-notification, banavoge-disconnect-notification, banavoge-drop, banavoge-ping, banavoge-pong, banavoge-oob-send, banavoge-oob-received, banavoge-data}
 use Rattle.contracts.proofs.NodeExports.{banavoge-node-read, banavoge-nodes-step, banavoge-node-write}
 use Rattle.contracts.proofs.ListExports.{banavoge-nearest-begin, banavoge-nearest-offer, banavoge-nearest-remove, banavoge-nearest-node}
+use Rattle.contracts.proofs.BucketExports.{banavoge-buckets-begin, banavoge-buckets-offer, banavoge-buckets-nearest}
 use Rattle.histories.specs.ListHistory.{offering, removing, reading, listEvent, noHeld, ListStep, ListBegun, ofSize, ofBadSize}
 use Rattle.histories.specs.ListHistory as list
-use Rattle.histories.specs.OtherExports.{lentBytes, lentFields, lentNode, lentHeld, lentFrame, OtherExport, begins, bothWrite, clientKeys, clientReads, clientWrites, nodeReads, nodeWrites, nodesStep, offers, relayKeys, relayReads, relayWrites, removes, shows, readsFrame}
+use Rattle.histories.specs.BucketHistory.{bucketEvent, BucketStep, BucketsBegun}
+use Rattle.histories.specs.BucketHistory as bucket
+use Rattle.histories.specs.OtherExports.{lentBytes, lentFields, lentNode, lentHeld, lentFrame, OtherExport, asksBuckets, begins, beginsBuckets, bothWrite, clientKeys, clientReads, clientWrites, nodeReads, nodeWrites, nodesStep, offers, offersBucket, relayKeys, relayReads, relayWrites, removes, shows, readsFrame}
 use Rattle.histories.specs.FrameStream.{FrameCall}
 
 -- ---- what a refusal leaves
@@ -178,6 +189,21 @@ pub nearest-node-exported : Gives 5 nearest-node-kinds.ps nearest-node-kinds.r n
     OtherExport (lentHeld (heldPlaces (now family) (now address) (now port) (now key))) answer (lentHeld (heldPlaces (now family′) (now address′) (now port′) (now key′))))
 nearest-node-exported κs args answer left p = shows _ _ (banavoge-nearest-node .gives κs args answer left p)
 
+pub buckets-begin-exported : Gives 2 buckets-begin-kinds.ps buckets-begin-kinds.r buckets-begin-reads.Post
+    (λ κs (buckets, (base, _)) answer (buckets′, _).
+    OtherExport (lentBytes (now buckets)) answer (lentBytes (now buckets′)))
+buckets-begin-exported κs args answer left p = beginsBuckets _ (banavoge-buckets-begin .gives κs args answer left p)
+
+pub buckets-offer-exported : Gives 3 buckets-offer-kinds.ps buckets-offer-kinds.r buckets-offer-reads.Post
+    (λ κs (buckets, (family, (address, (port, (key, _))))) answer (buckets′, _).
+    OtherExport (lentBytes (now buckets)) answer (lentBytes (now buckets′)))
+buckets-offer-exported κs args answer left p = offersBucket _ (banavoge-buckets-offer .gives κs args answer left p)
+
+pub buckets-nearest-exported : Gives 3 buckets-nearest-kinds.ps buckets-nearest-kinds.r buckets-nearest-reads.Post
+    (λ κs (buckets, (target, (out, _))) answer (_, (_, (out′, _))).
+    OtherExport (lentBytes (now out)) answer (lentBytes (now out′)))
+buckets-nearest-exported κs args answer left p = asksBuckets _ _ (banavoge-buckets-nearest .gives κs args answer left p)
+
 pub frame-read-exported : Gives 5 frame-read-kinds.ps frame-read-kinds.r frame-read-reads.Post
     (λ κs (held, (keep, (piece, (used, (end, _))))) answer (held′, (keep′, (_, (used′, (end′, _))))).
     OtherExport (lentFrame (now keep) (framePlaces (now held) (now used) (now end))) answer (lentFrame (now keep′) (framePlaces (now held′) (now used′) (now end′))))
@@ -217,3 +243,23 @@ pub held-step : Gives 5 nearest-node-kinds.ps nearest-node-kinds.r nearest-node-
     (λ κs (list, (index, (family, (address, (port, (key, _)))))) answer (_, (_, (family′, (address′, (port′, (key′, _)))))).
     ListStep (now list) (listEvent (reading index (heldPlaces (now family) (now address) (now port) (now key))) answer (heldPlaces (now family′) (now address′) (now port′) (now key′))) (now list))
 held-step κs args answer left p = list.reads _ answer _ _ (banavoge-nearest-node .gives κs args answer left p) refl refl
+
+-- ---- a history of buckets
+
+-- `banavoge_buckets_begin` that answers 0
+pub buckets-begun : Gives 2 buckets-begin-kinds.ps buckets-begin-kinds.r buckets-begin-reads.Post
+    (λ κs (buckets, (base, _)) answer (buckets′, _). answer ≡ pos 0 → BucketsBegun (keyGiven (now base)) (now buckets′))
+buckets-begun κs args answer left p zero = record {
+  memory = now (args .0);
+  begins = subst (ToldAs doneCode (buckets.Begins _ (now (args .0)) (now (left .0)))) zero (banavoge-buckets-begin .gives κs args answer left p);
+}
+
+pub buckets-offer-step : Gives 3 buckets-offer-kinds.ps buckets-offer-kinds.r buckets-offer-reads.Post
+    (λ κs (buckets, (family, (address, (port, (key, _))))) answer (buckets′, _).
+    BucketStep (now buckets) (bucketEvent (bucket.offering (nodeGiven family (now address) port (now key))) answer []) (now buckets′))
+buckets-offer-step κs args answer left p = bucket.offers _ answer (banavoge-buckets-offer .gives κs args answer left p) refl
+
+pub buckets-nearest-step : Gives 3 buckets-nearest-kinds.ps buckets-nearest-kinds.r buckets-nearest-reads.Post
+    (λ κs (buckets, (target, (out, _))) answer (_, (_, (out′, _))).
+    BucketStep (now buckets) (bucketEvent (bucket.asking (keyGiven (now target)) (now out)) answer (now out′)) (now buckets))
+buckets-nearest-step κs args answer left p = bucket.asks _ answer _ _ (banavoge-buckets-nearest .gives κs args answer left p) refl refl

@@ -1,7 +1,7 @@
 -- "A refusal answers its number with 0 bytes written; room, list and lent output are as before the call." One statement for every export that writes and is lent
--- no room, on any bytes: where it answers below 0, the list, the output and every place that it was handed are as before, but for how many bytes a reader of frames
--- holds and has used (`other-refused-leaves`). A list begun with a bad size is document 01's own exception, and what is left then is said too (`bad-size-leaves`).
--- Assumes nothing.
+-- no room, on any bytes: where it answers below 0, the list, the buckets, the output and every place that it was handed are as before, but for how many bytes a
+-- reader of frames holds and has used (`other-refused-leaves`). A list begun with a bad size is document 01's own exception, and what is left then is said too
+-- (`bad-size-leaves`). Assumes nothing.
 use mathlib.Core.Path.{_≡_, refl, ap, ap₂, subst, _∙_}
 use mathlib.Core.Bool.{Bool, true, false}
 use mathlib.Core.List.{List}
@@ -45,9 +45,10 @@ use Rattle.banavoge_laws.specs.Nodes.{NodePlaces, nodeCode, nodeAfter, ReadsNod
 use Rattle.banavoge_laws.specs.Nearest.{doneCode, keptCode, heldCode, HeldPlaces, heldAfter}
 use Rattle.histories.specs.ExportedCalls.{Below0}
 use Rattle.histories.specs.FrameStream.{RefusedFrame, too-short, bad-frame}
-use Rattle.histories.specs.OtherExports.{Lending, lentBytes, lentFields, lentNode, lentHeld, lentFrame, heldRefused, refusedLeaves, OtherExport, relayReads, clientReads, relayKeys, clientKeys, clientWrites, relayWrites, bothWrite, nodeReads, nodesStep, nodeWrites, begins, offers, removes, shows, readsFrame}
+use Rattle.histories.specs.OtherExports.{Lending, lentBytes, lentFields, lentNode, lentHeld, lentFrame, heldRefused, refusedLeaves, OtherExport, relayReads, clientReads, relayKeys, clientKeys, clientWrites, relayWrites, bothWrite, nodeReads, nodesStep, nodeWrites, begins, offers, removes, shows, beginsBuckets, offersBucket, asksBuckets, readsFrame}
 use Rattle.histories.proofs.FrameStreams.{frame-refused}
 use Rattle.histories.proofs.ListHistories.{begun-answer, begun-list}
+use Rattle.histories.proofs.BucketHistories.{begin-below-0, offer-below-0, question-below-0}
 
 -- ---- readers
 
@@ -160,5 +161,8 @@ other-refused-leaves (nodeWrites n c) below = ap lentBytes (node-write-leaves (i
 other-refused-leaves (begins target size right c) below = ap lentBytes (begin-leaves target size _ _ (c .given) right (c .relates) (subst Below0 (c .codes) below))
 other-refused-leaves (offers n c) below = ap lentBytes (offer-leaves n _ _ (c .given) (c .relates) (subst Below0 (c .codes) below))
 other-refused-leaves (removes key c) below = ap lentBytes (remove-leaves key _ _ (c .given) (c .relates) (subst Below0 (c .codes) below))
+other-refused-leaves (beginsBuckets base c) below = ap lentBytes (begin-below-0 c below)
+other-refused-leaves (offersBucket n c) below = ap lentBytes (offer-below-0 c below)
+other-refused-leaves (asksBuckets target memory c) below = ap lentBytes (question-below-0 c below)
 other-refused-leaves (readsFrame piece c) below = frame-leaves (frame-refused (record { used-before = _; end-before = _; reads = c }) below)
 other-refused-leaves (shows m index c) below = ap lentHeld (held-leaves (heldAt m index .held) (heldAt m index .node) _ _ _ (c .answers) (c .leaves) below)

@@ -1,5 +1,5 @@
--- Every export that writes and is lent no room: what the host lends it, before and after. (`banavoge_same_key`, `banavoge_nearer`, `banavoge_nearest_bytes` and
--- `banavoge_room_bytes` write nothing.)
+-- Every export that writes and is lent no room: what the host lends it, before and after. (`banavoge_same_key`, `banavoge_nearer`, `banavoge_nearest_bytes`,
+-- `banavoge_buckets_bytes` and `banavoge_room_bytes` write nothing.)
 use mathlib.Core.Bool.{true, cond}
 use mathlib.Core.List.{List}
 use mathlib.Core.Path.{_≡_}
@@ -18,6 +18,7 @@ use Rattle.node.specs.Written.{WritesNode}
 use Rattle.nearest.specs.Lists.{sizeRight}
 use Rattle.lent_list_laws.specs.Calls.{Begins, Offers, Removes}
 use Rattle.lent_list.specs.Held.{heldAt}
+use Rattle.buckets_laws.specs.Calls as buckets
 use Rattle.frame.specs.Reader.{readerHolding, readFrame}
 use Rattle.banavoge_laws.specs.Answers.{ToldAs, writtenCode}
 use Rattle.banavoge_laws.specs.Frames.{FramePlaces, framePlaces, ReadsFrame}
@@ -26,7 +27,7 @@ use Rattle.fields.specs.Fields.{clientFields, relayFields}
 use Rattle.banavoge_laws.specs.Nodes.{NodePlaces, nodeWrittenCode, ReadsNode, StepsNode}
 use Rattle.banavoge_laws.specs.Nearest.{doneCode, keptCode, HeldPlaces, ShowsHeld}
 
--- an output, a list or a key; the places of a reader, of a node, of a held node; the keep and the places of a reader of frames
+-- an output, a list, buckets or a key; the places of a reader, of a node, of a held node; the keep and the places of a reader of frames
 pub data Lending : Type 0 where
   lentBytes : List ℕ → Lending
   lentFields : Places → Lending
@@ -75,6 +76,13 @@ pub data OtherExport : Lending → ℤ → Lending → Type 0 where
   removes : {answer : ℤ} {memory left : List ℕ} (key : Key) → ToldAs doneCode (Removes key memory left) answer → OtherExport (lentBytes memory) answer (lentBytes left)
   shows : {answer : ℤ} {before after : HeldPlaces} (memory : List ℕ) (index : ℕ) → ShowsHeld (heldAt memory index) answer before after
       → OtherExport (lentHeld before) answer (lentHeld after)
+  beginsBuckets : {answer : ℤ} {memory left : List ℕ} (base : Key) → ToldAs doneCode (buckets.Begins base memory left) answer
+      → OtherExport (lentBytes memory) answer (lentBytes left)
+  offersBucket : {answer : ℤ} {memory left : List ℕ} (n : Node) → ToldAs keptCode (buckets.Offers n memory left) answer
+      → OtherExport (lentBytes memory) answer (lentBytes left)
+  -- the buckets are lent to read only
+  asksBuckets : {answer : ℤ} {out left : List ℕ} (target : Key) (memory : List ℕ) → ToldAs nodeWrittenCode (buckets.Asks target memory out left) answer
+      → OtherExport (lentBytes out) answer (lentBytes left)
   readsFrame : {answer : ℤ} {keep left : List ℕ} {before after : FramePlaces} (piece : List ℕ)
       → ReadsFrame (readFrame (readerHolding (before .held)) keep piece) answer before after left
       → OtherExport (lentFrame keep before) answer (lentFrame left after)

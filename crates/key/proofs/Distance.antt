@@ -80,56 +80,55 @@ pub from-start : (t a b : List ℕ) → nearer t a b ≡ nearerFrom 0 t a b
 unfolding nearer nearerFrom distance
 from-start t a b = refl
 
-module _ (t a b : List ℕ) (ht : IsKey t) (ha : IsKey a) (hb : IsKey b) where
+module _ (t a b : List ℕ) (ea : length t ≡ length a) (eb : length t ≡ length b) where
   lengths : (i : ℕ) → length (drop i (xorBytes t a)) ≡ length (drop i (xorBytes t b))
   lengths i =
       length-drop i (xorBytes t a)
-      ∙ ap (λ (n : ℕ). n - i) (length-xor t a (ht .long ∙ sym (ha .long)) ∙ sym (length-xor t b (ht .long ∙ sym (hb .long))))
+      ∙ ap (λ (n : ℕ). n - i) (length-xor t a ea ∙ sym (length-xor t b eb))
       ∙ sym (length-drop i (xorBytes t b))
 
-  module _ (i : ℕ) (lt : i < 32) where
+  module _ (i : ℕ) (lt : i < length t) where
     opened : nearerFrom i t a b
         ≡ ltb (numberOf (bitXor (getD t i 0) (getD a i 0) ∷ drop (suc i) (xorBytes t a))) (numberOf (bitXor (getD t i 0) (getD b i 0) ∷ drop (suc i) (xorBytes t b)))
     unfolding nearerFrom
-    opened =
-        let x = ht .long in
-        let y = ha .long in
-        let z = hb .long in
-        ap₂ (λ (p q : List ℕ). ltb (numberOf p) (numberOf q)) (xor-drop i t a (omega arith) (omega arith)) (xor-drop i t b (omega arith) (omega arith))
+    opened = ap₂ (λ (p q : List ℕ). ltb (numberOf p) (numberOf q)) (xor-drop i t a lt (omega arith)) (xor-drop i t b lt (omega arith))
 
-    pub byte-decides : (bitXor (getD t i 0) (getD a i 0) ≡ bitXor (getD t i 0) (getD b i 0) → ⊥)
+    pub byte-decides : Bytes t → Bytes a → Bytes b → (bitXor (getD t i 0) (getD a i 0) ≡ bitXor (getD t i 0) (getD b i 0) → ⊥)
         → nearerFrom i t a b ≡ ltb (bitXor (getD t i 0) (getD a i 0)) (bitXor (getD t i 0) (getD b i 0))
-    byte-decides ne =
+    byte-decides st sa sb ne =
         opened
         ∙ lead-differs _ _ (drop (suc i) (xorBytes t a)) (drop (suc i) (xorBytes t b)) (lengths (suc i))
-        (bytes-drop (suc i) (xorBytes t a) (bytes-xor t a (ht .bytes) (ha .bytes))) (bytes-drop (suc i) (xorBytes t b) (bytes-xor t b (ht .bytes) (hb .bytes))) ne
+        (bytes-drop (suc i) (xorBytes t a) (bytes-xor t a st sa)) (bytes-drop (suc i) (xorBytes t b) (bytes-xor t b st sb)) ne
 
     pub byte-same : bitXor (getD t i 0) (getD a i 0) ≡ bitXor (getD t i 0) (getD b i 0) → nearerFrom i t a b ≡ nearerFrom (i + 1) t a b
     unfolding nearerFrom
     byte-same e = rw add-one (opened ∙ lead-same _ _ (drop (suc i) (xorBytes t a)) (drop (suc i) (xorBytes t b)) (lengths (suc i)) e)
 
-  pub bytes-end : (i : ℕ) → 32 ≤ i → nearerFrom i t a b ≡ false
+  pub bytes-end : (i : ℕ) → length t ≤ i → nearerFrom i t a b ≡ false
   unfolding nearerFrom
   bytes-end i h =
-      let x = length-xor t a (ht .long ∙ sym (ha .long)) in
-      let y = length-xor t b (ht .long ∙ sym (hb .long)) in
-      let z = ht .long in
+      let x = length-xor t a ea in
+      let y = length-xor t b eb in
       ap₂ (λ (p q : List ℕ). ltb (numberOf p) (numberOf q)) (drop-of-length-le (xorBytes t a) {i = i} (omega arith))
       (drop-of-length-le (xorBytes t b) {i = i} (omega arith))
       ∙ le-ltb (numberOf []) (numberOf []) (omega arith)
 
   -- up to the first byte in which the two differ, nothing is decided
-  same-front : (i : ℕ) → i ≤ 32 → ((j : ℕ) → j < i → getD a j 0 ≡ getD b j 0) → nearer t a b ≡ nearerFrom i t a b
+  same-front : (i : ℕ) → i ≤ length t → ((j : ℕ) → j < i → getD a j 0 ≡ getD b j 0) → nearer t a b ≡ nearerFrom i t a b
   same-front zero h e = from-start t a b
   same-front (suc i) h e =
       same-front i (omega arith) (λ (j : ℕ) (k : j < i). e j (omega arith))
       ∙ rw add-one at (byte-same i h (ap (bitXor (getD t i 0)) (e i (omega arith))))
 
-  -- the first byte in which two keys differ decides which is nearer: nothing after it is looked at
-  pub first-difference-decides : (i : ℕ) → i < 32 → ((j : ℕ) → j < i → getD a j 0 ≡ getD b j 0)
-      → (bitXor (getD t i 0) (getD a i 0) ≡ bitXor (getD t i 0) (getD b i 0) → ⊥)
-      → nearer t a b ≡ ltb (bitXor (getD t i 0) (getD a i 0)) (bitXor (getD t i 0) (getD b i 0))
-  first-difference-decides i h e ne = same-front i (omega arith) e ∙ byte-decides i h ne
+-- the first byte in which two keys differ decides which is nearer: nothing after it is looked at
+pub first-difference-decides : (t a b : List ℕ) → IsKey t → IsKey a → IsKey b → (i : ℕ) → i < 32 → ((j : ℕ) → j < i → getD a j 0 ≡ getD b j 0)
+    → (bitXor (getD t i 0) (getD a i 0) ≡ bitXor (getD t i 0) (getD b i 0) → ⊥)
+    → nearer t a b ≡ ltb (bitXor (getD t i 0) (getD a i 0)) (bitXor (getD t i 0) (getD b i 0))
+first-difference-decides t a b ht ha hb i h e ne =
+    let p = ht .long ∙ sym (ha .long) in
+    let q = ht .long ∙ sym (hb .long) in
+    let l = ht .long in
+    same-front t a b p q i (omega arith) e ∙ byte-decides t a b p q i (omega arith) (ht .bytes) (ha .bytes) (hb .bytes) ne
 
 -- ---- the number itself
 

@@ -1,2 +1,3 @@
--- What a reader must believe of this crate: keys, and their distance.
+-- What a reader must believe of this crate: keys, their distance, and the leading bits that they share.
 pub mod Keys
+pub mod Bits

@@ -1,9 +1,11 @@
 // A key: 32 bytes that name a client or a node, by value.
 //
-// Here live its equality, the order of two keys by their distance to a third, and its bytes in lent memory. Where keys come from, and the
-// secret half of each, stay with the host.
+// Here live its equality, the order of two keys by their distance to a third, and its bytes in lent memory. `in_place` compares keys where they stand
+// in lent memory. Where keys come from, and the secret half of each, stay with the host.
 ghost use mathlib.Core.Path.{_≡_};
 ghost use Rattle.key.specs.Keys.{sameKey, nearer, keyOf, withKey};
+
+pub mod in_place;
 
 pub struct Key(pub [u8; 32]);
 

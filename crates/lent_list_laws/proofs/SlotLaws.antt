@@ -3,14 +3,14 @@
 use mathlib.Core.Path.{_≡_, _∙_, refl, sym, ap, ap₂}
 use mathlib.Core.List.{List, [], _∷_, _++_, append-assoc, append-nil}
 use Prim.Native.Nat.{ℕ, zero, suc, _+_, _-_, _*_, _<_, _≤_, _^_}
-use native.Mathlib.Nat.{le-of-suc-le-suc, not-suc-le-zero}
+use native.Mathlib.Nat.{le-of-suc-le-suc, not-suc-le-zero, add-sub-cancel-left}
 use native.Mathlib.Omega.{arith}
 use native.Mathlib.Numerals.{add-one}
 use lib.ListN.{length, getD, take, drop, length-append, length-drop}
-use lib.Seq.{length-take-le, take-all, take-nil, take-take, take-at, drop-at, take-add, drop-drop, drop-cons, take-suc}
+use lib.Seq.{length-take-le, take-all, take-take, take-at, drop-at, take-add, drop-drop, drop-cons, take-suc}
 use Rattle.wire.specs.Numbers.{Bytes, numberOf, bytesOf}
 use Rattle.wire.proofs.Numbers.{bytes-take, bytes-drop, bytesOf-number, length-bytesOf, number-bytesOf, number-lt}
-use Rattle.wire.proofs.Copy.{length-lent}
+use Rattle.wire.proofs.Copy.{length-lent, drop-take}
 use Rattle.key.specs.Keys.{keyOf}
 use Rattle.key.proofs.Lent.{key-whole}
 use Rattle.node.specs.declared.Node.{Node}
@@ -99,11 +99,6 @@ unfolding slotsAt
 slots-number zero s = refl
 slots-number (suc n) s = ap suc (slots-number n (drop 51 s))
 
-drop-take : (a k : ℕ) (s : List ℕ) → drop a (take (a + k) s) ≡ take k (drop a s)
-drop-take zero k s = ap (λ (n : ℕ). take n s) (let e : 0 + k ≡ k = omega arith in e)
-drop-take (suc a) k [] = ap (drop (suc a)) (take-nil (suc a + k)) ∙ sym (take-nil k)
-drop-take (suc a) k (x ∷ s) = ap (λ (n : ℕ). drop (suc a) (take n (x ∷ s))) (let e : suc a + k ≡ suc (a + k) = omega arith in e) ∙ drop-take a k s
-
 -- n slots are told by their bytes alone
 pub slots-front : (n : ℕ) (s : List ℕ) → slotsAt n (take (n * 51) s) ≡ slotsAt n s
 unfolding slotsAt
@@ -111,7 +106,7 @@ slots-front zero s = refl
 slots-front (suc n) s =
     let e : suc n * 51 ≡ 51 + n * 51 = omega arith in
     ap (λ (k : ℕ). slotAt (take 51 (take k s)) ∷ slotsAt n (drop 51 (take k s))) e
-    ∙ ap₂ (λ (x y : List ℕ). slotAt x ∷ slotsAt n y) (take-take 51 (51 + n * 51) s (omega arith)) (drop-take 51 (n * 51) s)
+    ∙ ap₂ (λ (x y : List ℕ). slotAt x ∷ slotsAt n y) (take-take 51 (51 + n * 51) s (omega arith)) (drop-take 51 (51 + n * 51) s ∙ ap (λ (k : ℕ). take k (drop 51 s)) (add-sub-cancel-left 51 (n * 51)))
     ∙ ap (λ (l : List Node). slotAt (take 51 s) ∷ l) (slots-front n (drop 51 s))
 
 slots-append : (a b : List Node) → slotsBytes (a ++ b) ≡ slotsBytes a ++ slotsBytes b

@@ -3,6 +3,7 @@ use mathlib.Core.Path.{_≡_, refl, ap}
 use mathlib.Core.Bool.{Bool, true, false, cond}
 use mathlib.Core.List.{List, [], _∷_}
 use Prim.Native.Nat.{ℕ, zero, suc, _+_, _<_, _≤_}
+use native.Mathlib.Nat.{le-of-suc-le-suc, not-suc-le-zero}
 use native.Mathlib.Omega.{arith}
 use native.Mathlib.Numerals.{add-one}
 use lib.ListN.{length, getD, take, drop, drop-of-length-le}
@@ -28,6 +29,16 @@ module _ {A : Type 0} (t : A → Bool) where
       go : (b : Bool) → leading t ms ≤ length ms → cond b (suc (leading t ms)) 0 ≤ suc (length ms)
       go true h = omega arith
       go false h = omega arith
+
+  -- where one does not pass, no more than those before it do
+  pub leading-stops : (ms : List A) (i : ℕ) (d : A) → i < length ms → t (getD ms i d) ≡ false → leading t ms ≤ i
+  leading-stops [] i d h e = absurd (not-suc-le-zero h)
+  leading-stops (m ∷ ms) zero d h e = let q = leading-one m ms false e in omega arith
+  leading-stops (m ∷ ms) (suc i) d h e = go (t m) refl (leading-stops ms i d (le-of-suc-le-suc h) e)
+    where
+      go : (b : Bool) → t m ≡ b → leading t ms ≤ i → leading t (m ∷ ms) ≤ suc i
+      go true q r = let s = leading-one m ms true q in omega arith
+      go false q r = let s = leading-one m ms false q in omega arith
 
   -- what stands behind them has no say
   pub leading-take : (ms : List A) (j : ℕ) → leading t ms ≤ j → leading t (take j ms) ≡ leading t ms

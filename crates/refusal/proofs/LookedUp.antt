@@ -6,7 +6,7 @@ use mathlib.Core.List.{_∷_, map}
 use lib.ListN.{replicate}
 use native.Mathlib.Omega.{arith}
 use Rattle.refusal.specs.declared.Refusal.{Refusal}
-use Rattle.refusal.specs.declared.Refusal.the-variants.{RoomFull, AlreadySeated, NotSeated, PacketSize, UnexpectedKind, WrongLength, ZeroPing, NoSuchRoute, NotConnected, OutputTooShort, RoomNotWhole, ListSize, KeyNotHeld, ListNotWhole, UnknownFamily, NodeCutShort, BytesAfterNodes, BadFrame, ClockBack}
+use Rattle.refusal.specs.declared.Refusal.the-variants.{RoomFull, AlreadySeated, NotSeated, PacketSize, UnexpectedKind, WrongLength, ZeroPing, NoSuchRoute, NotConnected, OutputTooShort, RoomNotWhole, ListSize, KeyNotHeld, ListNotWhole, UnknownFamily, NodeCutShort, BytesAfterNodes, BadFrame, ClockBack, BucketsNotWhole}
 use Rattle.refusal.specs.Numbers.{isRetired, refusals, withNumber, refusalOf, LookedUp}
 
 pub looked-up : (why : Refusal) → LookedUp why
@@ -30,8 +30,9 @@ looked-up NodeCutShort = record { positive = omega arith; found = refl }
 looked-up BytesAfterNodes = record { positive = omega arith; found = refl }
 looked-up BadFrame = record { positive = omega arith; found = refl }
 looked-up ClockBack = record { positive = omega arith; found = refl }
+looked-up BucketsNotWhole = record { positive = omega arith; found = refl }
 
 -- "2 is retired", and no other
-pub retired-are : map isRetired refusals ≡ false ∷ true ∷ replicate 17 false
+pub retired-are : map isRetired refusals ≡ false ∷ true ∷ replicate 18 false
 unfolding refusals
 retired-are = refl

@@ -5,7 +5,7 @@ use mathlib.Core.Path.{_≡_}
 use Prim.Native.Nat.{ℕ, _≤_}
 use lib.Dec.{eqb}
 use Rattle.refusal.specs.declared.Refusal.{Refusal}
-use Rattle.refusal.specs.declared.Refusal.the-variants.{RoomFull, AlreadySeated, NotSeated, PacketSize, UnexpectedKind, WrongLength, ZeroPing, NoSuchRoute, NotConnected, OutputTooShort, RoomNotWhole, ListSize, KeyNotHeld, ListNotWhole, UnknownFamily, NodeCutShort, BytesAfterNodes, BadFrame, ClockBack}
+use Rattle.refusal.specs.declared.Refusal.the-variants.{RoomFull, AlreadySeated, NotSeated, PacketSize, UnexpectedKind, WrongLength, ZeroPing, NoSuchRoute, NotConnected, OutputTooShort, RoomNotWhole, ListSize, KeyNotHeld, ListNotWhole, UnknownFamily, NodeCutShort, BytesAfterNodes, BadFrame, ClockBack, BucketsNotWhole}
 
 abbrev pub refusalNumber : Refusal → ℕ
 -- "arrival with all 40 seats taken"; document 02: "1 is given only to a key not seated"
@@ -27,7 +27,7 @@ refusalNumber NoSuchRoute = 8
 -- "data on a waiting route"
 refusalNumber NotConnected = 9
 -- "lent output too short: under 2,048 for packet and leave, under the exact length for a writer"; document 02: "10 for a keep that is too short",
--- "10 (tick output under 5,120)", "arrival checks 10 (2,048)"
+-- "10 (tick output under 5,120)", "arrival checks 10 (2,048)", "20 for buckets that hold a wrong, doubled or base key; then 10"
 refusalNumber OutputTooShort = 10
 -- "room not whole"
 refusalNumber RoomNotWhole = 11
@@ -48,6 +48,8 @@ refusalNumber BytesAfterNodes = 17
 refusalNumber BadFrame = 18
 -- document 02: "19 for a clock that goes back"
 refusalNumber ClockBack = 19
+-- document 02: "20 for buckets that hold a wrong, doubled or base key"
+refusalNumber BucketsNotWhole = 20
 
 -- "2 is retired"
 abbrev pub isRetired : Refusal → Bool
@@ -75,6 +77,7 @@ refusals =
     ∷ BytesAfterNodes
     ∷ BadFrame
     ∷ ClockBack
+    ∷ BucketsNotWhole
     ∷ []
 
 -- the first of these with a number; `other` where none has it

@@ -1,4 +1,4 @@
-// Why a call is refused: document 01's section "Refusal numbers", in its order, and 18 and 19 of document 02.
+// Why a call is refused: document 01's section "Refusal numbers", in its order, and 18 to 20 of document 02.
 //
 // One enum serves the whole library, so that a host prints every refusal by one table.
 ghost use mathlib.Core.Path.{_≡_};
@@ -25,6 +25,7 @@ pub enum Refusal {
     BytesAfterNodes,
     BadFrame,
     ClockBack,
+    BucketsNotWhole,
 }
 
 impl Refusal {
@@ -52,6 +53,7 @@ impl Refusal {
             Refusal::BytesAfterNodes => 17,
             Refusal::BadFrame => 18,
             Refusal::ClockBack => 19,
+            Refusal::BucketsNotWhole => 20,
         }
     }
 }

@@ -3,7 +3,8 @@
 //     count (1) | order (one byte a place) | record 0 | record 1 | ..
 //
 // A place is used exactly when the order lists it; what is not listed is never read. So neighbours decide that all keys differ, one pass tests
-// that, and there is no mark that could disagree with it. A room is a table of seats, and each seat has a table of routes.
+// that, and there is no mark that could disagree with it. A room is a table of seats, and each seat has a table of routes; each
+// of the k-buckets is a table of nodes.
 ghost use mathlib.Core.Path.{_≡_};
 ghost use Rattle.table_laws.specs.Table.{fitsTable, isTable, isTableWithout, found, keyOfPlace, isUsed, usedPlaces, lowestFree, mayPut, putIn, freedIn, mayOverwrite, overwrittenIn};
 

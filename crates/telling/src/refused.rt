@@ -1,5 +1,5 @@
 // A refusal: its number, and the papers' words for it: document 01's from the table "Given exactly when", document 02's for a key not seated, a keep, a tick's
-// output, 18 and 19. An arrival's output is worded as a tick's, by document 02's "arrival checks 10 (2,048)"; and 2, which no call gives any more, has "retired"
+// output and 18 to 20. An arrival's output is worded as a tick's, by document 02's "arrival checks 10 (2,048)"; and 2, which no call gives any more, has "retired"
 // before it.
 use crate::say;
 use refusal::Refusal;
@@ -33,6 +33,7 @@ fn reason(why: Refusal) {
             b"a length under 17 or above 2,048; a reader holding 2 or more bytes that start no unfinished frame",
         ),
         Refusal::ClockBack => say::words(b"a clock that goes back"),
+        Refusal::BucketsNotWhole => say::words(b"buckets that hold a wrong, doubled or base key"),
     }
 }
 

@@ -1,12 +1,12 @@
--- Copying a list over the front of another, and an output that is written piece by piece. Assumes nothing.
+-- Copying a list over the front of another, an output that is written piece by piece, and parts of a list. Assumes nothing.
 use mathlib.Core.Path.{_≡_, _∙_, refl, sym, ap, ap₂}
 use mathlib.Core.List.{List, [], _∷_, _++_, append-assoc, append-nil}
-use Prim.Native.Nat.{ℕ, zero, suc, _+_, _<_, _≤_}
+use Prim.Native.Nat.{ℕ, zero, suc, _+_, _-_, _<_, _≤_}
 use native.Mathlib.Omega.{arith}
-use native.Mathlib.Nat.{le-of-suc-le-suc, not-suc-le-zero}
+use native.Mathlib.Nat.{le-of-suc-le-suc, not-suc-le-zero, sub-zero, zero-sub, suc-sub-suc}
 use native.Mathlib.Numerals.{add-one}
 use lib.ListN.{length, getD, take, drop, set, length-append, length-drop, drop-of-length-le}
-use lib.Seq.{take-length, length-take-le, drop-cons, drop-drop, set-at, take-at, drop-at}
+use lib.Seq.{take-length, take-nil, take-take, length-take-le, drop-cons, drop-drop, set-at, take-at, drop-at}
 
 stored : (src dst : List ℕ) (i : ℕ) → i < length src → i < length dst → set (take i src ++ drop i dst) i (getD src i 0) ≡ take (suc i) src ++ drop (suc i) dst
 stored [] dst i h k = absurd (not-suc-le-zero h)
@@ -51,3 +51,15 @@ length-lent l a k h = length-take-le k (drop a l) (let e = length-drop a l in om
 -- writing keeps the length
 pub length-written : (w out : List ℕ) (n : ℕ) → length w ≡ n → n ≤ length out → length (w ++ drop n out) ≡ length out
 length-written w out n e h = length-append w (drop n out) ∙ (let d = length-drop n out in omega arith)
+
+-- ---- a part of a part
+
+pub drop-take : (m n : ℕ) (l : List ℕ) → drop m (take n l) ≡ take (n - m) (drop m l)
+drop-take zero n l = rw sub-zero
+drop-take (suc m) zero l = rw zero-sub
+drop-take (suc m) (suc n) [] = rw take-nil
+drop-take (suc m) (suc n) (x ∷ xs) = rw suc-sub-suc (drop-take m n xs)
+
+-- is a part of the whole
+pub part-of-part : (w k n : ℕ) (l : List ℕ) → k + w ≤ n → take w (drop k (take n l)) ≡ take w (drop k l)
+part-of-part w k n l h = ap (take w) (drop-take k n l) ∙ take-take w (n - k) (drop k l) (omega arith)

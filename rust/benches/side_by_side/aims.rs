@@ -1,5 +1,6 @@
 //! What the library is to reach, and whether it does.
 
+use crate::buckets::{ALL, OFFER, QUESTION, SOME};
 use crate::frames::{self, COPY, WHOLE};
 use crate::room_tests::PASS;
 use crate::rooms::{Filling, FULL, THIN};
@@ -39,6 +40,11 @@ pub fn lines(tables: &Tables) -> Vec<Vec<String>> {
         idle_tick(&tables.ticks, 1.2),
         frame_in_piece(&tables.frames, 15.0),
         frames_cut(&tables.frames, 3.0),
+        on_buckets(&tables.buckets, OFFER, SOME.held, 3_000.0),
+        on_buckets(&tables.buckets, QUESTION, SOME.held, 5_000.0),
+        on_buckets(&tables.buckets, OFFER, ALL.held, 60_000.0),
+        on_buckets(&tables.buckets, QUESTION, ALL.held, 60_000.0),
+        buckets_beside(&tables.buckets, 1.0),
     ]
 }
 
@@ -103,6 +109,21 @@ fn frames_cut(table: &Table, limit: f64) -> Vec<String> {
     let rows = table.rows.iter().filter(|row| row.name == name);
     let ratio = most(rows.map(|row| row.ratio(COPY)));
     let aim = format!("frames of {name}: at most {limit} times a plain copy");
+    line(aim, format!("{ratio:.2} times"), ratio <= limit)
+}
+
+/// The slowest of the offers, or of the questions, on buckets that hold so much.
+fn on_buckets(table: &Table, call: &str, held: &str, limit: f64) -> Vec<String> {
+    let name = format!("{held}: {call}");
+    let rows = table.rows.iter().filter(|row| row.name.starts_with(&name));
+    let aim = format!("{call} on buckets of {held}");
+    under(aim, most(rows.map(Row::library)), limit)
+}
+
+/// The slowest beside the second program of all calls on buckets.
+fn buckets_beside(table: &Table, limit: f64) -> Vec<String> {
+    let ratio = most(table.rows.iter().map(|row| row.ratio(table.same_tests)));
+    let aim = format!("a call on buckets: at most {limit} times the second program's");
     line(aim, format!("{ratio:.2} times"), ratio <= limit)
 }
 

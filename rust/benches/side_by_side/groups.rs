@@ -1,7 +1,6 @@
 //! Calls that change a room, in groups after which it is as before, so that
 //! each group meets the same room.
 
-use crate::keys::key;
 use crate::rooms::{Filling, Rooms};
 use crate::traffic::Traffic;
 use reference::call::Call;
@@ -44,7 +43,7 @@ impl Groups {
         let mut random = Random::new(7);
         let seat = BASE.seats as u8 - 1;
         let mut pair = || {
-            let key = key(&mut random);
+            let key = random.key();
             vec![Call::Arrive { key }, Call::Leave { seat }]
         };
         Groups::new((0..DIFFERENT).map(|_| pair()).collect(), TURN)

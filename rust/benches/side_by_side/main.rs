@@ -5,6 +5,7 @@
 //! is printed; with `--markdown` the tables are those of docs/PERFORMANCE.md.
 
 mod aims;
+mod buckets;
 mod calls;
 mod changes;
 mod clock;
@@ -12,7 +13,6 @@ mod frames;
 mod grid;
 mod groups;
 mod harness;
-mod keys;
 mod lookups;
 mod nearest;
 mod nodes;

@@ -1,7 +1,6 @@
 //! Packed nodes, read and written, and lists of them, walked.
 
 use crate::harness::{used, Harness};
-use crate::keys::key;
 use crate::table::{Row, Table};
 use banavoge::raw::node::{self as library, Parts};
 use reference::node::{self as second, Node};
@@ -118,7 +117,7 @@ pub fn node(family: u8, random: &mut Random) -> Node {
         family,
         address,
         port: 33_445,
-        key: key(random),
+        key: random.key(),
     }
 }
 
@@ -133,8 +132,5 @@ pub fn parts(node: &Node) -> Parts {
 }
 
 fn packed(node: &Node) -> Vec<u8> {
-    let mut out = vec![0; 51];
-    let count = second::write(node, &mut out).expect("a known family");
-    out.truncate(count);
-    out
+    second::packed(node).expect("a known family")
 }

@@ -1,6 +1,5 @@
 //! A packet of each kind, as bytes and as the second program's value.
 
-use crate::keys::key;
 use crate::table::thousands;
 use reference::packet::{write_from_client, write_from_relay, LONGEST_PACKET};
 use reference::packet::{FromClient, FromRelay};
@@ -31,7 +30,7 @@ impl<P> Sample<P> {
 /// What a client sends.
 pub fn client_packets() -> Vec<Sample<FromClient>> {
     let mut random = Random::new(2);
-    let key = key(&mut random);
+    let key = random.key();
     let (number, id) = (23, 0x0102_0304_0506_0708);
     let mut data = |length| random.bytes(length);
     let packets = [
@@ -58,7 +57,7 @@ pub fn client_packets() -> Vec<Sample<FromClient>> {
 /// What the relay sends.
 pub fn relay_packets() -> Vec<Sample<FromRelay>> {
     let mut random = Random::new(3);
-    let key = key(&mut random);
+    let key = random.key();
     let (number, id) = (23, 0x0102_0304_0506_0708);
     let mut data = |length| random.bytes(length);
     let packets = [

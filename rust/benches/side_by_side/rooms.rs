@@ -1,7 +1,6 @@
 //! The rooms that calls are measured on, as the library has them and as the
 //! second program has them.
 
-use crate::keys::key;
 use reference::memory;
 use reference::random::Random;
 use reference::room::{Room, BASE};
@@ -49,7 +48,7 @@ impl Rooms {
     /// The room of this filling; its keys are random.
     pub fn filled(filling: &Filling) -> Rooms {
         let mut random = Random::new(1);
-        let keys: Vec<_> = (0..filling.seats).map(|_| key(&mut random)).collect();
+        let keys: Vec<_> = (0..filling.seats).map(|_| random.key()).collect();
         let mut plain = Room::empty(BASE);
         for place in 0..filling.seats {
             let mut seat = Seat::taken_by(&keys[place], BASE.numbers, 0);

@@ -2,8 +2,8 @@
 
 use crate::harness::Harness;
 use crate::table::Table;
-use crate::{changes, frames, lookups, nearest, nodes, packet_calls, readers, reconnects};
-use crate::{room_tests, runs, ticks, writers};
+use crate::{buckets, changes, frames, lookups, nearest, nodes, packet_calls, readers};
+use crate::{reconnects, room_tests, runs, ticks, writers};
 
 /// The tables, in the order in which they are measured and printed.
 pub struct Tables {
@@ -12,6 +12,7 @@ pub struct Tables {
     pub writers: Table,
     pub nodes: Table,
     pub nearest: Table,
+    pub buckets: Table,
     pub room_tests: Table,
     pub packet_calls: Table,
     pub runs: Table,
@@ -40,6 +41,7 @@ impl Tables {
             writers: writers::table(harness),
             nodes: nodes::table(harness),
             nearest: nearest::table(harness),
+            buckets: buckets::table(harness),
             room_tests: room_tests::table(harness),
             packet_calls: packet_calls::table(harness),
             runs: runs::table(harness),
@@ -56,6 +58,7 @@ impl Tables {
         self.writers.add(other.writers);
         self.nodes.add(other.nodes);
         self.nearest.add(other.nearest);
+        self.buckets.add(other.buckets);
         self.room_tests.add(other.room_tests);
         self.packet_calls.add(other.packet_calls);
         self.runs.add(other.runs);
@@ -65,13 +68,14 @@ impl Tables {
         self.lookups.add(other.lookups);
     }
 
-    pub fn all(&self) -> [&Table; 12] {
+    pub fn all(&self) -> [&Table; 13] {
         [
             &self.frames,
             &self.readers,
             &self.writers,
             &self.nodes,
             &self.nearest,
+            &self.buckets,
             &self.room_tests,
             &self.packet_calls,
             &self.runs,

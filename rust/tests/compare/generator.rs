@@ -68,6 +68,13 @@ impl Generator {
         choices[self.below(choices.len())]
     }
 
+    /// Brings these in any order.
+    pub fn shuffle<T>(&mut self, items: &mut [T]) {
+        for place in 1..items.len() {
+            items.swap(place, self.below(place + 1));
+        }
+    }
+
     /// A ping number that is not 0, often with most of its bits 0.
     fn ping_number(&mut self) -> u64 {
         match self.below(3) {

@@ -4,6 +4,7 @@
 //! inputs it ran and how often each refusal was met, and fails when a refusal
 //! was met too seldom to say anything.
 
+mod buckets;
 mod frames;
 mod generator;
 mod keys;
@@ -13,6 +14,7 @@ mod nodes;
 mod outcome;
 mod output;
 mod own_key;
+mod owned_buckets;
 mod owned_frames;
 mod owned_lists;
 mod owned_plays;
@@ -24,6 +26,7 @@ mod reconnects;
 mod relay;
 mod runs;
 mod sitting;
+mod table;
 mod tally;
 mod ticks;
 mod writers;

@@ -8,10 +8,10 @@
 
 use crate::generator::Generator;
 use crate::output::Output;
+use crate::table::{Table, KEY};
 use crate::tally::say;
 use banavoge::raw;
 use reference::generate::Generator as Histories;
-use reference::key::Key;
 use reference::memory;
 use reference::room::{Room, BASE};
 
@@ -23,7 +23,6 @@ const CLOCK: usize = 2;
 pub const SEATS_TABLE: usize = 10;
 /// key (32), ping time (8), outstanding ping (8), table of routes
 const SEAT_BYTES: usize = 1_105;
-const KEY: usize = 32;
 const PING_TIME_IN_SEAT: usize = 32;
 const OUTSTANDING_IN_SEAT: usize = 40;
 const ROUTES_IN_SEAT: usize = 48;
@@ -34,14 +33,6 @@ const NUMBERS: usize = 32;
 
 /// How many rooms are damaged, each in every way.
 const ROOMS: usize = 1_500;
-
-/// A table in memory: where it stands, its places and the width of a record.
-#[derive(Clone, Copy)]
-pub struct Table {
-    start: usize,
-    places: usize,
-    width: usize,
-}
 
 const TABLE_OF_SEATS: Table = Table {
     start: SEATS_TABLE,
@@ -54,63 +45,6 @@ pub fn table_of_routes(seat: usize) -> Table {
         start: TABLE_OF_SEATS.record(seat) + ROUTES_IN_SEAT,
         places: NUMBERS,
         width: KEY,
-    }
-}
-
-impl Table {
-    const fn order(self) -> usize {
-        self.start + 1
-    }
-
-    const fn record(self, place: usize) -> usize {
-        self.start + 1 + self.places + place * self.width
-    }
-
-    fn count(self, memory: &[u8]) -> usize {
-        usize::from(memory[self.start])
-    }
-
-    /// The key with which the record of a place begins.
-    fn key(self, memory: &[u8], place: usize) -> Key {
-        let key = &memory[self.record(place)..][..KEY];
-        key.try_into().expect("32 bytes")
-    }
-
-    /// The places that the table lists, in its order.
-    fn listed(self, memory: &[u8]) -> Vec<usize> {
-        let order = &memory[self.order()..][..self.count(memory)];
-        order.iter().map(|place| usize::from(*place)).collect()
-    }
-
-    /// Lists a key at a place, where the order has it and nowhere else: what the
-    /// place had before is gone.
-    fn list(self, memory: &mut [u8], place: usize, key: &Key) {
-        let mut listed = self.listed(memory);
-        listed.retain(|other| *other != place && self.key(memory, *other) != *key);
-        let lower = listed.partition_point(|other| self.key(memory, *other) < *key);
-        listed.insert(lower, place);
-        memory[self.record(place)..][..KEY].copy_from_slice(key);
-        memory[self.start] = listed.len() as u8;
-        for (at, place) in listed.into_iter().enumerate() {
-            memory[self.order() + at] = place as u8;
-        }
-    }
-
-    /// Puts a key in the record of a place that is not listed, and that place
-    /// behind the count of the order: the count alone keeps it out.
-    pub fn hide(self, memory: &mut [u8], place: usize, key: &Key) {
-        let count = self.count(memory);
-        memory[self.record(place)..][..KEY].copy_from_slice(key);
-        memory[self.order() + count] = place as u8;
-    }
-
-    /// Fills the order behind the count and the records that are not listed.
-    fn fill_unlisted(self, memory: &mut [u8], random: &mut Generator) {
-        let listed = self.listed(memory);
-        random.fill(&mut memory[self.order()..][listed.len()..self.places]);
-        for place in (0..self.places).filter(|place| !listed.contains(place)) {
-            random.fill(&mut memory[self.record(place)..][..self.width]);
-        }
     }
 }
 

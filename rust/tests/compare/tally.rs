@@ -5,14 +5,14 @@ use std::io::Write;
 /// How often a call was accepted and how often each refusal was met.
 pub struct Tally {
     accepted: u64,
-    refused: [u64; 20],
+    refused: [u64; 21],
 }
 
 impl Tally {
     pub fn new() -> Tally {
         Tally {
             accepted: 0,
-            refused: [0; 20],
+            refused: [0; 21],
         }
     }
 

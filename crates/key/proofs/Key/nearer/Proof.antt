@@ -42,8 +42,12 @@ returns : tie.Need-returns Inv-loop μ-loop
 returns c =
     let l = c .before .before .before .before .before .before .loop in
     let s = c .before .before .before .before .before .before .before in
-    let h = c .before .before .before .before .before .loop-test .taken in
-    sym (l .inv .1 ∙ byte-decides (s .args .t1 .0) (s .args .t2 .0) (s .args .t3 .0) (known-t1 s) (known-t2 s) (known-t3 s) (l .i) h (c .if1 .taken))
+    let t = known-t1 s in
+    let a = known-t2 s in
+    let b = known-t3 s in
+    let x = t .long in
+    sym (l .inv .1 ∙ byte-decides (s .args .t1 .0) (s .args .t2 .0) (s .args .t3 .0) (x ∙ sym (a .long)) (x ∙ sym (b .long)) (l .i) (omega arith)
+    (t .bytes) (a .bytes) (b .bytes) (c .if1 .taken))
 
 add-i : tie.Need-add-i Inv-loop μ-loop
 add-i c = omega arith
@@ -55,14 +59,19 @@ loop-again : tie.Need-loop-again Inv-loop μ-loop
 loop-again c =
     let l = c .before .before .before .before .before .before .loop in
     let s = c .before .before .before .before .before .before .before in
-    let h = c .before .before .before .before .before .loop-test .taken in
-    (omega arith, l .inv .1 ∙ byte-same (s .args .t1 .0) (s .args .t2 .0) (s .args .t3 .0) (known-t1 s) (known-t2 s) (known-t3 s) (l .i) h (c .if1 .left))
+    let x = known-t1 s .long in
+    let y = known-t2 s .long in
+    let z = known-t3 s .long in
+    (omega arith, l .inv .1 ∙ byte-same (s .args .t1 .0) (s .args .t2 .0) (s .args .t3 .0) (x ∙ sym y) (x ∙ sym z) (l .i) (omega arith) (c .if1 .left))
 
 returns-2 : tie.Need-returns-2 Inv-loop μ-loop
 returns-2 c =
     let l = c .before .loop in
     let s = c .before .before in
-    sym (l .inv .1 ∙ bytes-end (s .args .t1 .0) (s .args .t2 .0) (s .args .t3 .0) (known-t1 s) (known-t2 s) (known-t3 s) (l .i) (c .loop-test .left))
+    let x = known-t1 s .long in
+    let y = known-t2 s .long in
+    let z = known-t3 s .long in
+    sym (l .inv .1 ∙ bytes-end (s .args .t1 .0) (s .args .t2 .0) (s .args .t3 .0) (x ∙ sym y) (x ∙ sym z) (l .i) (omega arith))
 
 pub nearer-spec : {M : Type 1} → statement M
 nearer-spec =
