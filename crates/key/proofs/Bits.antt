@@ -15,7 +15,7 @@ use borrow.Author.Tests.{eq-eqb, ne-eqb, eqb-true, eqb-false}
 use Rattle.wire.specs.Numbers.{Bytes}
 use Rattle.key.specs.Keys.{IsKey, sameKey}
 use Rattle.key.specs.Bits.{bitsOf, bits, alike, sharedBits}
-use Rattle.key.proofs.Same.{same-sound, same-apart, same-comm}
+use Rattle.key.proofs.Same.{same-sound, same-apart}
 use Rattle.key.proofs.Cancel.{xor-cancels}
 
 -- ---- two lists, from the front on
@@ -217,9 +217,6 @@ module _ (a b : List ℕ) (ha : IsKey a) (hb : IsKey b) where
           let g = ap (sharedBits a) (same-sound a b e) in
           eq-eqb (sharedBits a b) 256 (omega arith) ∙ sym e
       by false e = ne-eqb (sharedBits a b) 256 (λ (h : sharedBits a b ≡ 256). same-apart a b e (shares-all-same h)) ∙ sym e
-
-  pub base-shares-all-turned : eqb (sharedBits a b) 256 ≡ sameKey b a
-  base-shares-all-turned = base-shares-all ∙ same-comm a b
 
   -- so there is a bucket for each other key
   pub others-share-fewer : (a ≡ b → ⊥) → sharedBits a b < 256

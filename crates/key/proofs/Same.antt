@@ -38,13 +38,6 @@ not-so {t} h = go t refl
 pub same-apart : (a b : List ℕ) → sameKey a b ≡ false → a ≡ b → ⊥
 same-apart a b h e = true≢false (sym (same-refl a) ∙ ap (sameKey a) e ∙ h)
 
-pub same-comm : (a b : List ℕ) → sameKey a b ≡ sameKey b a
-same-comm a b = by (sameKey a b) refl
-  where
-    by : (t : Bool) → sameKey a b ≡ t → sameKey a b ≡ sameKey b a
-    by true e = e ∙ sym (ap (sameKey b) (same-sound a b e) ∙ same-refl b)
-    by false e = e ∙ sym (not-so (λ (h : sameKey b a ≡ true). same-apart a b e (sym (same-sound b a h))))
-
 -- ---- byte by byte, in two lists of one length
 
 module _ (a b : List ℕ) (i : ℕ) (ha : i < length a) (hb : i < length b) where

@@ -1,11 +1,11 @@
 -- The k nearest found by keeping k on the way. The idea: what stands behind the first k has no say in which are the first k once one more is put in, so it
 -- may be dropped at each step. Assumes nothing.
-use mathlib.Core.Path.{_≡_, _∙_, refl, sym, ap, subst}
+use mathlib.Core.Path.{_≡_, _∙_, refl, sym, ap}
 use mathlib.Core.Bool.{Bool, true, false}
 use mathlib.Core.List.{List, [], _∷_, _++_}
-use Prim.Native.Nat.{ℕ, zero, suc, _≤_}
+use Prim.Native.Nat.{ℕ, zero, suc}
 use native.Mathlib.Omega.{arith}
-use lib.ListN.{length, take}
+use lib.ListN.{take}
 use lib.Seq.{take-nil, take-take}
 use Rattle.key.specs.Keys.{nearer}
 use Rattle.node.specs.declared.Node.{Node}
@@ -13,8 +13,7 @@ use Rattle.nearest.specs.Lists.{nodeKey}
 use Rattle.nearest.specs.Effect.{insert}
 use Rattle.nearest.proofs.Steps.{insert-one}
 use Rattle.nearest_first.specs.NearestFirst.{arrangedOnto, nearestOf}
-use Rattle.nearest_first.specs.Kept.{keptOnto, Sorted}
-use Rattle.nearest_first.proofs.NearestLaws.{nearest-short, nearest-sorted}
+use Rattle.nearest_first.specs.Kept.{keptOnto}
 
 module _ (t : List ℕ) (n : Node) where
   front-step : (k : ℕ) (m : Node) (ms : List Node) (b : Bool) → nearer t (nodeKey m) (nodeKey n) ≡ b → take k (insert t n (take k ms)) ≡ take k (insert t n ms)
@@ -44,13 +43,3 @@ module _ (k : ℕ) (t : List ℕ) where
   pub kept-append : (best xs ys : List Node) → keptOnto k t best (xs ++ ys) ≡ keptOnto k t (keptOnto k t best xs) ys
   kept-append best [] ys = refl
   kept-append best (x ∷ xs) ys = kept-append (take k (insert t x best)) xs ys
-
-  -- one node more
-  pub kept-more : (best xs : List Node) (n : Node) → keptOnto k t best (xs ++ (n ∷ [])) ≡ take k (insert t n (keptOnto k t best xs))
-  kept-more best xs n = kept-append best xs (n ∷ [])
-
-  pub kept-short : (ns : List Node) → length (keptOnto k t [] ns) ≤ k
-  kept-short ns = let e = ap length (kept-is-nearest ns) in let h = nearest-short k t ns in omega arith
-
-  pub kept-sorted : (ns : List Node) → Sorted t (keptOnto k t [] ns)
-  kept-sorted ns = subst (Sorted t) (sym (kept-is-nearest ns)) (nearest-sorted k t ns)

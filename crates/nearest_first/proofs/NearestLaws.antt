@@ -8,7 +8,7 @@ use native.Mathlib.Omega.{arith}
 use lib.ListN.{length, length-take}
 use Rattle.node.specs.declared.Node.{Node}
 use Rattle.nearest.specs.Lists.{allKnown}
-use Rattle.nearest.specs.Sequence.{In, Keyed}
+use Rattle.nearest.specs.Sequence.{In}
 use Rattle.nearest.proofs.Members.{in-take}
 use Rattle.nearest.proofs.Known.{known-each, each-known}
 use Rattle.nearest_first.specs.NearestFirst.{nearestFirst, nearestOf}
@@ -31,9 +31,6 @@ module _ (k : ℕ) (t : List ℕ) (ns : List Node) where
   -- each is one of the given nodes
   pub nearest-in : (x : Node) → In x (nearestOf k t ns) → In x ns
   nearest-in x i = ⊎-elim (λ j. absurd j) (λ j. j) (in-arranged t [] ns x (in-take k (nearestFirst t ns) x i))
-
-  pub nearest-keyed : Keyed ns → Keyed (nearestOf k t ns)
-  nearest-keyed hs x i = hs x (nearest-in x i)
 
   pub nearest-known : allKnown ns ≡ true → allKnown (nearestOf k t ns) ≡ true
   nearest-known f = each-known (nearestOf k t ns) (λ x i. known-each ns f x (nearest-in x i))

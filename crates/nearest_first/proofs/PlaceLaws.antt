@@ -1,19 +1,16 @@
--- Where a node is put in among those kept, as a scan from the front finds it; what k slots then hold; and when nothing changes. Assumes nothing.
-use mathlib.Core.Path.{_≡_, _∙_, refl, sym, ap}
-use mathlib.Core.Bool.{true, false}
+-- Where a node is put in among those kept, and when nothing changes. Assumes nothing.
+use mathlib.Core.Path.{_≡_, _∙_, refl, ap}
+use mathlib.Core.Bool.{true}
 use mathlib.Core.Logic.{inl, inr}
 use mathlib.Core.List.{List, [], _∷_}
-use Prim.Native.Nat.{ℕ, zero, suc, _+_, _<_, _≤_}
+use Prim.Native.Nat.{ℕ, zero, suc, _<_, _≤_}
 use native.Mathlib.Nat.{le-of-suc-le-suc, not-suc-le-zero}
 use native.Mathlib.Omega.{arith}
-use native.Mathlib.Numerals.{add-one}
-use lib.ListN.{length, getD, take, drop}
-use lib.Seq.{take-all, take-take, length-take-le}
+use lib.ListN.{length, getD, take}
+use lib.Seq.{take-all}
 use Rattle.key.specs.Keys.{nearer}
 use Rattle.key.proofs.Cancel.{nearer-lt, lt-nearer}
 use Rattle.lists.specs.Insert.{insertAt}
-use Rattle.lists.proofs.Found.{leading-turn, leading-end}
-use Rattle.lists.proofs.Shift.{length-in, take-more-in}
 use Rattle.node.specs.declared.Node.{Node}
 use Rattle.nearest.specs.Lists.{nodeKey}
 use Rattle.nearest.specs.Effect.{insert}
@@ -23,49 +20,11 @@ use Rattle.nearest.proofs.Steps.{position-one}
 use Rattle.nearest.proofs.Place.{place-le, insert-at}
 use Rattle.nearest_first.specs.Kept.{Sorted}
 
--- ---- a scan from the front
-
-module _ (t key : List ℕ) (b : List Node) where
-  -- the first i are nearer than the key, and the rest decides
-  abbrev pub Passed : ℕ → Type 0
-  Passed i = (i ≤ length b) × (position t key b ≡ i + position t key (drop i b))
-
-  pub scan-begins : Passed 0
-  scan-begins = (omega arith, omega arith)
-
-  module _ (d : Node) (i : ℕ) (passed : Passed i) (h : i < length b) where
-    pub scan-passes : nearer t (nodeKey (getD b i d)) key ≡ true → Passed (i + 1)
-    scan-passes e = let r = leading-turn (λ (m : Node). nearer t (nodeKey m) key) b d i h true e in (omega arith, omega arith)
-
-    pub scan-stops : nearer t (nodeKey (getD b i d)) key ≡ false → position t key b ≡ i
-    scan-stops e = let r = leading-turn (λ (m : Node). nearer t (nodeKey m) key) b d i h false e in omega arith
-
-  pub scan-ends : (i : ℕ) → Passed i → length b ≤ i → position t key b ≡ i
-  scan-ends i passed h = let r = leading-end (λ (m : Node). nearer t (nodeKey m) key) b i h in omega arith
-
 -- ---- put in at its place, and k kept
 
 module _ (t : List ℕ) (n : Node) where
-  pub kept-at : (k p : ℕ) (b : List Node) → position t (nodeKey n) b ≡ p → take k (insert t n b) ≡ take k (insertAt p n b)
+  kept-at : (k p : ℕ) (b : List Node) → position t (nodeKey n) b ≡ p → take k (insert t n b) ≡ take k (insertAt p n b)
   kept-at k p b e = ap (take k) (insert-at t n b ∙ ap (λ (x : ℕ). insertAt x n b) e)
-
-  -- the same of slots, of which the first c are in use
-  module _ (slots : List Node) (c p : ℕ) (fits : c ≤ length slots) (e : position t (nodeKey n) (take c slots) ≡ p) where
-    put-in : insert t n (take c slots) ≡ take (suc c) (insertAt p n slots)
-    put-in =
-        let h = place-le t n (take c slots) in
-        let l = length-take-le c slots fits in
-        insert-at t n (take c slots) ∙ ap (λ (x : ℕ). insertAt x n (take c slots)) e ∙ sym (take-more-in p c n slots (omega arith) fits)
-
-    -- with room for one more
-    pub slots-with-room : (k : ℕ) → c < k → take k (insert t n (take c slots)) ≡ take (c + 1) (insertAt p n slots)
-    slots-with-room k h =
-        let l = length-take-le (suc c) (insertAt p n slots) (let m = length-in p n slots in omega arith) in
-        ap (take k) put-in ∙ take-all k (take (suc c) (insertAt p n slots)) (omega arith) ∙ ap (λ (x : ℕ). take x (insertAt p n slots)) (sym (add-one c))
-
-    -- all k in use: the last gives way
-    pub slots-when-full : take c (insert t n (take c slots)) ≡ take c (insertAt p n slots)
-    slots-when-full = ap (take c) put-in ∙ take-take c (suc c) (insertAt p n slots) (omega arith)
 
 -- ---- nothing changes
 
@@ -98,8 +57,3 @@ module _ (t : List ℕ) (n d : Node) where
       let r = position-one t (nodeKey n) m b true (lt-nearer t (nodeKey m) (nodeKey n) (omega arith)) in
       let ih = last-nearer b j (omega arith) e (s .1) in
       omega arith
-
-  -- k are kept, and the last of them is nearer
-  pub full-stays : (b : List Node) (j : ℕ) → length b ≡ suc j → nearer t (nodeKey (getD b j d)) (nodeKey n) ≡ true → Sorted t b
-      → take (suc j) (insert t n b) ≡ b
-  full-stays b j l e s = behind-stays (suc j) b (omega arith) (let h = last-nearer b j l e s in omega arith)
