@@ -12,280 +12,280 @@ use native.Mathlib.Omega.{arith}
 use lib.Dec.{eqb}
 use lib.ListN.{get_or, length}
 use borrow.Author.Tests.{eqb-false}
-use Rattle.key.specs.Keys.{sameKey}
-use Rattle.key.proofs.Same.{same_refl, same-sound}
+use Rattle.key.specs.Keys.{same_key}
+use Rattle.key.proofs.Same.{same_refl, same_sound}
 use Rattle.packet_laws.specs.Read as read
 use Rattle.packet_laws.specs.FromClient as client
 use Rattle.packet_laws.specs.FromRelay as relay
-use Rattle.rules.specs.Room.{Sizes, Key, Route, free, wants, Held, Seat, vacant, holds, Room, setKey, setRoute, setSeat, emptyRoom, Found, none, at, find, seatOf, routeTo, isFree, routesOf, seatAt, routeAt, firstNumber, numberOfPlace, Peer, alone, joined}
+use Rattle.rules.specs.Room.{Sizes, Key, Route, free, wants, Held, Seat, vacant, holds, Room, set_key, set_route, set_seat, empty_room, Found, none, at, find, seat_of, route_to, is_free, routes_of, seat_at, route_at, first_number, number_of_place, Peer, alone, joined}
 use Rattle.rules.specs.Whole.{Whole}
-use Rattle.rules.specs.Call.{Call, leave, packetCall, Sent}
-use Rattle.rules.specs.Outcome.{withRoute, apply, applyAll, refuse, accept, to, roomAfter, joinedBy, peerAt, peerIn, peer, toPeer, tellPeer, tellPeers, leaveFrom, tellBoth, requestAt, drop_at, act, actOn, packetFrom, outcome}
+use Rattle.rules.specs.Call.{Call, leave, packet_call, Sent}
+use Rattle.rules.specs.Outcome.{with_route, apply, apply_all, refuse, accept, to, room_after, joined_by, peer_at, peer_in, peer, to_peer, tell_peer, tell_peers, leave_from, tell_both, request_at, drop_at, act, act_on, packet_from, outcome}
 use Rattle.rules.specs.History.{Event, event, transcript}
-use Rattle.rules.specs.Transcript.{Past, nobody, clientOf, Start, from_empty, sitter, stands}
-use Rattle.rules.specs.After.{pastAfter, clientIn, Tied}
+use Rattle.rules.specs.Transcript.{Past, nobody, client_of, Start, from_empty, sitter, stands}
+use Rattle.rules.specs.After.{past_after, client_in, Tied}
 use Rattle.after_calls.specs.GoesOn.{Connected, OnlyPeer}
-use Rattle.after_calls.specs.Told.{peerIs, noPeer, Disconnects, InTurn, LeaveTells, Connects, RequestTells}
-use Rattle.rules.proofs.FindLaws.{clash, find-hit, find-miss, find-within, find-set-same, find-once, held_of, seat-set, seat-set-other, held-within, route-to-wants, route-at-place, wanted-high, wanted-place, route-set}
-use Rattle.rules.proofs.Whole.{wanted-once, whole-after}
-use Rattle.rules.proofs.Tied.{tied-after, seat-holds, stands-wants, wants-stands}
-use Rattle.after_calls.proofs.PeerConnected.{connected-asks, peer-is-connected}
-use Rattle.rules.proofs.EachEvent.{from-empty}
+use Rattle.after_calls.specs.Told.{peer_is, no_peer, Disconnects, InTurn, LeaveTells, Connects, RequestTells}
+use Rattle.rules.proofs.FindLaws.{clash, find_hit, find_miss, find_within, find_set_same, find_once, held_of, seat_set, seat_set_other, held_within, route_to_wants, route_at_place, wanted_high, wanted_place, route_set}
+use Rattle.rules.proofs.Whole.{wanted_once, whole_after}
+use Rattle.rules.proofs.Tied.{tied_after, seat_holds, stands_wants, wants_stands}
+use Rattle.after_calls.proofs.PeerConnected.{connected_asks, peer_is_connected}
+use Rattle.rules.proofs.EachEvent.{from_empty_lem}
 
 -- ---- what is told at a disconnect
 
 -- a record tells its seat and its number
-same-notice : (i j n m : ℕ) → ◌≡◌ {A = List Sent} (to i (relay.disconnectNotice n) ∷ []) (to j (relay.disconnectNotice m) ∷ []) → (i ≡ j) × (n ≡ m)
-unfolding to relay.relayBytes
-same-notice i j n m e =
-    let s : to i (relay.disconnectNotice n) ≡ to j (relay.disconnectNotice m) = cc in
+same_notice : (i j n m : ℕ) → ◌≡◌ {A = List Sent} (to i (relay.disconnect_notice n) ∷ []) (to j (relay.disconnect_notice m) ∷ []) → (i ≡ j) × (n ≡ m)
+unfolding to relay.relay_bytes
+same_notice i j n m e =
+    let s : to i (relay.disconnect_notice n) ≡ to j (relay.disconnect_notice m) = cc in
     let b : ◌≡◌ {A = List ℕ} (3 ∷ n ∷ []) (3 ∷ m ∷ []) = ap (λ (r : Sent). r.bytes) s in
     (ap (λ (r : Sent). r.seat) s, cc)
 
 module _ (start : Start) (past : Past) (seat number : ℕ) where
   none_told : ((other number' : ℕ) → Connected start past seat number other number' → ⊥) → Disconnects start past seat number []
-  none_told never = record { decided = noPeer never; told = λ other number'. (λ q. clash (cc), λ c. absurd (never other number' c)); otherwise = λ q. refl }
+  none_told never = record { decided = no_peer never; told = λ other number'. (λ q. clash (cc), λ c. absurd (never other number' c)); otherwise = λ q. refl }
 
-  peer-told : (p : Peer) → OnlyPeer start past seat number p → Disconnects start past seat number (toPeer relay.disconnectNotice p)
-  unfolding toPeer OnlyPeer
-  peer-told alone only = none_told only
-  peer-told (joined other place) only = record {
-    decided = peerIs other (numberOfPlace place) only.0;
+  peer_told : (p : Peer) → OnlyPeer start past seat number p → Disconnects start past seat number (to_peer relay.disconnect_notice p)
+  unfolding to_peer OnlyPeer
+  peer_told alone only = none_told only
+  peer_told (joined other place) only = record {
+    decided = peer_is other (number_of_place place) only.0;
     told = λ other' n. (
-      λ s. (let q = same-notice other other' (numberOfPlace place) n s in rw (← q.0, ← q.1) only.0),
+      λ s. (let q = same_notice other other' (number_of_place place) n s in rw (← q.0, ← q.1) only.0),
       λ c. (let q = only.1 other' n c in rw (← q.0, ← q.1)),
     );
-    otherwise = λ never. absurd (never other (numberOfPlace place) only.0);
+    otherwise = λ never. absurd (never other (number_of_place place) only.0);
   }
 
 -- ---- who is connected sits there, and asked
 
 module _ (sizes : Sizes) (start : Start) (past : Past) (room : Room) (whole : Whole sizes room) (tie : Tied start past room) (seat : ℕ) where
-  empty-alone : seatAt room seat ≡ vacant → (number other number' : ℕ) → Connected start past seat number other number' → ⊥
-  unfolding clientIn
-  empty-alone h number other number' c = let a : sitter start past seat ≡ nobody = tie.sits seat ∙ ap clientIn h in let b = c.here.sits in clash (cc)
+  empty_alone : seat_at room seat ≡ vacant → (number other number' : ℕ) → Connected start past seat number other number' → ⊥
+  unfolding client_in
+  empty_alone h number other number' c = let a : sitter start past seat ≡ nobody = tie.sits seat ∙ ap client_in h in let b = c.here.sits in clash (cc)
 
-  module _ (held : Held) (sits : seatAt room seat ≡ holds held) where
-    free-alone : (number : ℕ) → routeAt held.routes number ≡ free → (other number' : ℕ) → Connected start past seat number other number' → ⊥
-    free-alone number h other number' c = let a = (connected-asks sizes start past room whole tie seat held sits number other number' c).1 in clash (cc)
+  module _ (held : Held) (sits : seat_at room seat ≡ holds held) where
+    free_alone : (number : ℕ) → route_at held.routes number ≡ free → (other number' : ℕ) → Connected start past seat number other number' → ⊥
+    free_alone number h other number' c = let a = (connected_asks sizes start past room whole tie seat held sits number other number' c).1 in clash (cc)
 
     -- ---- a drop
 
-    drop-route : (number : ℕ) (route : Route) → routeAt held.routes number ≡ route → Disconnects start past seat number (drop_at route room seat held.key number).sent
+    drop_route_lem : (number : ℕ) (route : Route) → route_at held.routes number ≡ route → Disconnects start past seat number (drop_at route room seat held.key number).sent
     unfolding drop_at refuse accept
-    drop-route number free h = none_told start past seat number (free-alone number h)
-    drop-route number (wants wanted) h =
-        peer-told start past seat number (peer room seat held.key wanted) (peer-is-connected sizes start past room whole tie seat held sits number wanted h)
+    drop_route_lem number free h = none_told start past seat number (free_alone number h)
+    drop_route_lem number (wants wanted) h =
+        peer_told start past seat number (peer room seat held.key wanted) (peer_is_connected sizes start past room whole tie seat held sits number wanted h)
 
-  drop-seat : (number : ℕ) (bytes : List ℕ) → client.relayRead bytes ≡ read.packet (client.dropRoute number) → (s : Seat) → seatAt room seat ≡ s
-      → Disconnects start past seat number (packetFrom s room seat bytes).sent
-  unfolding packetFrom actOn act refuse
-  drop-seat number bytes e vacant h = none_told start past seat number (empty-alone h number)
-  drop-seat number bytes e (holds held) h = rw e (drop-route held h number (routeAt held.routes number) refl)
+  drop_seat : (number : ℕ) (bytes : List ℕ) → client.relay_read bytes ≡ read.packet (client.drop_route number) → (s : Seat) → seat_at room seat ≡ s
+      → Disconnects start past seat number (packet_from s room seat bytes).sent
+  unfolding packet_from act_on act refuse
+  drop_seat number bytes e vacant h = none_told start past seat number (empty_alone h number)
+  drop_seat number bytes e (holds held) h = rw e (drop_route_lem held h number (route_at held.routes number) refl)
 
-  pub drop-tells : (number : ℕ) (bytes : List ℕ) → client.relayRead bytes ≡ read.packet (client.dropRoute number)
-      → Disconnects start past seat number (event room (packetCall seat bytes)).sent
+  pub drop_tells : (number : ℕ) (bytes : List ℕ) → client.relay_read bytes ≡ read.packet (client.drop_route number)
+      → Disconnects start past seat number (event room (packet_call seat bytes)).sent
   unfolding event outcome
-  drop-tells number bytes e = drop-seat number bytes e (seatAt room seat) refl
+  drop_tells number bytes e = drop_seat number bytes e (seat_at room seat) refl
 
 -- ---- a leave
 
 module _ (sizes : Sizes) (start : Start) (past : Past) (room : Room) (whole : Whole sizes room) (tie : Tied start past room) (seat : ℕ) where
-  none-in-turn : ((number other number' : ℕ) → Connected start past seat number other number' → ⊥) → (number many : ℕ) → InTurn start past seat number many []
+  none_in_turn : ((number other number' : ℕ) → Connected start past seat number other number' → ⊥) → (number many : ℕ) → InTurn start past seat number many []
   unfolding InTurn
-  none-in-turn never number zero = refl
-  none-in-turn never number (suc many) =
-      record { front = []; back = []; both = refl; first = none_told start past seat number (never number); rest = none-in-turn never (suc number) many }
+  none_in_turn never number zero = refl
+  none_in_turn never number (suc many) =
+      record { front = []; back = []; both = refl; first = none_told start past seat number (never number); rest = none_in_turn never (suc number) many }
 
-  module _ (held : Held) (sits : seatAt room seat ≡ holds held) where
-    route-told : (number : ℕ) (route : Route) → routeAt held.routes number ≡ route → Disconnects start past seat number (tellPeer room seat held.key route)
-    unfolding tellPeer
-    route-told number free h = none_told start past seat number (free-alone sizes start past room whole tie seat held sits number h)
-    route-told number (wants wanted) h =
-        peer-told start past seat number (peer room seat held.key wanted) (peer-is-connected sizes start past room whole tie seat held sits number wanted h)
+  module _ (held : Held) (sits : seat_at room seat ≡ holds held) where
+    route_told : (number : ℕ) (route : Route) → route_at held.routes number ≡ route → Disconnects start past seat number (tell_peer room seat held.key route)
+    unfolding tell_peer
+    route_told number free h = none_told start past seat number (free_alone sizes start past room whole tie seat held sits number h)
+    route_told number (wants wanted) h =
+        peer_told start past seat number (peer room seat held.key wanted) (peer_is_connected sizes start past room whole tie seat held sits number wanted h)
 
-    routes-told : (rest : List Route) (number : ℕ) → ((i : ℕ) → routeAt held.routes (number + i) ≡ get_or rest i free) → InTurn start past seat number (length rest) (tellPeers room seat held.key rest)
-    unfolding tellPeers InTurn
-    routes-told [] number h = refl
-    routes-told (route ∷ rest) number h = record {
-      front = tellPeer room seat held.key route;
-      back = tellPeers room seat held.key rest;
+    routes_told : (rest : List Route) (number : ℕ) → ((i : ℕ) → route_at held.routes (number + i) ≡ get_or rest i free) → InTurn start past seat number (length rest) (tell_peers room seat held.key rest)
+    unfolding tell_peers InTurn
+    routes_told [] number h = refl
+    routes_told (route ∷ rest) number h = record {
+      front = tell_peer room seat held.key route;
+      back = tell_peers room seat held.key rest;
       both = refl;
-      first = route-told number route (let z : number ≡ number + 0 = omega arith in ap (routeAt held.routes) z ∙ h 0);
-      rest = routes-told rest (suc number) (λ i. (let z : suc number + i ≡ number + suc i = omega arith in ap (routeAt held.routes) z ∙ h (suc i)));
+      first = route_told number route (let z : number ≡ number + 0 = omega arith in ap (route_at held.routes) z ∙ h 0);
+      rest = routes_told rest (suc number) (λ i. (let z : suc number + i ≡ number + suc i = omega arith in ap (route_at held.routes) z ∙ h (suc i)));
     }
 
-    in-range : (number : ℕ) (wanted : Key) → routeAt held.routes number ≡ wants wanted → (firstNumber ≤ number) × (number < firstNumber + sizes.numbers)
-    unfolding routeTo
-    in-range number wanted h =
-        let high = wanted-high held.routes number wanted h in
-        let there : routeTo wanted (get_or held.routes (number - firstNumber) free) ≡ true = ap (routeTo wanted) (wanted-place held.routes number wanted h) ∙ same_refl wanted in
-        let found = find-once (routeTo wanted) free held.routes (number - firstNumber) refl (wanted-once sizes room whole seat held sits wanted) there in
-        let within = find-within (routeTo wanted) held.routes (number - firstNumber) found in
+    in_range : (number : ℕ) (wanted : Key) → route_at held.routes number ≡ wants wanted → (first_number ≤ number) × (number < first_number + sizes.numbers)
+    unfolding route_to
+    in_range number wanted h =
+        let high = wanted_high held.routes number wanted h in
+        let there : route_to wanted (get_or held.routes (number - first_number) free) ≡ true = ap (route_to wanted) (wanted_place held.routes number wanted h) ∙ same_refl wanted in
+        let found = find_once (route_to wanted) free held.routes (number - first_number) refl (wanted_once sizes room whole seat held sits wanted) there in
+        let within = find_within (route_to wanted) held.routes (number - first_number) found in
         let many = whole.numbers seat held sits in
         (omega arith, omega arith)
 
-    holder-tells : LeaveTells sizes start past seat (tellPeers room seat held.key held.routes)
-    holder-tells = record {
-      in_turn = subst (λ (n : ℕ). InTurn start past seat firstNumber n (tellPeers room seat held.key held.routes)) (whole.numbers seat held sits) (routes-told held.routes firstNumber (route-at-place held.routes));
-      all = λ number other number' c. in-range number c.wanted (connected-asks sizes start past room whole tie seat held sits number other number' c).1;
+    holder_tells : LeaveTells sizes start past seat (tell_peers room seat held.key held.routes)
+    holder_tells = record {
+      in_turn = subst (λ (n : ℕ). InTurn start past seat first_number n (tell_peers room seat held.key held.routes)) (whole.numbers seat held sits) (routes_told held.routes first_number (route_at_place held.routes));
+      all = λ number other number' c. in_range number c.wanted (connected_asks sizes start past room whole tie seat held sits number other number' c).1;
     }
 
-  leave-seat : (s : Seat) → seatAt room seat ≡ s → LeaveTells sizes start past seat (leaveFrom s room seat).sent
-  unfolding leaveFrom refuse accept
-  leave-seat vacant h =
-      let never = empty-alone sizes start past room whole tie seat h in
-      record { in_turn = none-in-turn never firstNumber sizes.numbers; all = λ number other number' c. absurd (never number other number' c) }
-  leave-seat (holds held) h = holder-tells held h
+  leave_seat : (s : Seat) → seat_at room seat ≡ s → LeaveTells sizes start past seat (leave_from s room seat).sent
+  unfolding leave_from refuse accept
+  leave_seat vacant h =
+      let never = empty_alone sizes start past room whole tie seat h in
+      record { in_turn = none_in_turn never first_number sizes.numbers; all = λ number other number' c. absurd (never number other number' c) }
+  leave_seat (holds held) h = holder_tells held h
 
-  pub leave-tells : LeaveTells sizes start past seat (event room (leave seat)).sent
+  pub leave_tells : LeaveTells sizes start past seat (event room (leave seat)).sent
   unfolding event outcome
-  leave-tells = leave-seat (seatAt room seat) refl
+  leave_tells = leave_seat (seat_at room seat) refl
 
 -- ---- a request
 
-same-notices : (seat number i j n m : ℕ)
-    → ◌≡◌ {A = List Sent} (to seat (relay.connectNotice number) ∷ to i (relay.connectNotice n) ∷ []) (to seat (relay.connectNotice number) ∷ to j (relay.connectNotice m) ∷ []) → (i ≡ j) × (n ≡ m)
-unfolding to relay.relayBytes
-same-notices seat number i j n m e =
-    let s : to i (relay.connectNotice n) ≡ to j (relay.connectNotice m) = cc in
+same_notices : (seat number i j n m : ℕ)
+    → ◌≡◌ {A = List Sent} (to seat (relay.connect_notice number) ∷ to i (relay.connect_notice n) ∷ []) (to seat (relay.connect_notice number) ∷ to j (relay.connect_notice m) ∷ []) → (i ≡ j) × (n ≡ m)
+unfolding to relay.relay_bytes
+same_notices seat number i j n m e =
+    let s : to i (relay.connect_notice n) ≡ to j (relay.connect_notice m) = cc in
     let b : ◌≡◌ {A = List ℕ} (2 ∷ n ∷ []) (2 ∷ m ∷ []) = ap (λ (r : Sent). r.bytes) s in
     (ap (λ (r : Sent). r.seat) s, cc)
 
-both-connected : (start : Start) (past : Past) (seat number : ℕ) (p : Peer) → OnlyPeer start past seat number p → Connects start past seat number (tellBoth seat number p)
-unfolding tellBoth OnlyPeer
-both-connected start past seat number alone only = record { decided = noPeer only; told = λ other number'. (λ q. clash (cc), λ c. absurd (only other number' c)); otherwise = λ q. refl }
-both-connected start past seat number (joined other place) only = record {
-  decided = peerIs other (numberOfPlace place) only.0;
+both_connected : (start : Start) (past : Past) (seat number : ℕ) (p : Peer) → OnlyPeer start past seat number p → Connects start past seat number (tell_both seat number p)
+unfolding tell_both OnlyPeer
+both_connected start past seat number alone only = record { decided = no_peer only; told = λ other number'. (λ q. clash (cc), λ c. absurd (only other number' c)); otherwise = λ q. refl }
+both_connected start past seat number (joined other place) only = record {
+  decided = peer_is other (number_of_place place) only.0;
   told = λ other' n. (
-    λ s. (let q = same-notices seat number other other' (numberOfPlace place) n s in rw (← q.0, ← q.1) only.0),
+    λ s. (let q = same_notices seat number other other' (number_of_place place) n s in rw (← q.0, ← q.1) only.0),
     λ c. (let q = only.1 other' n c in rw (← q.0, ← q.1)),
   );
-  otherwise = λ never. absurd (never other (numberOfPlace place) only.0);
+  otherwise = λ never. absurd (never other (number_of_place place) only.0);
 }
 
 module _ (sizes : Sizes) (start : Start) (past : Past) (room : Room) (whole : Whole sizes room) (tie : Tied start past room) (seat : ℕ) (held : Held)
-    (sits : seatAt room seat ≡ holds held) (wanted : Key) where
+    (sits : seat_at room seat ≡ holds held) (wanted : Key) where
   -- the search for a peer does not see the asker's own routes
-  peer-kept : (held' : Held) → held'.key ≡ held.key → peer (setSeat room seat (holds held')) seat held.key wanted ≡ peer room seat held.key wanted
-  unfolding peer peerIn peerAt seatAt seatOf
-  peer-kept held' same = rw (find-set-same (seatOf wanted) vacant room.seats seat (holds held') (rw (sits, same))) (go (find (seatOf wanted) room.seats))
+  peer_kept : (held' : Held) → held'.key ≡ held.key → peer (set_seat room seat (holds held')) seat held.key wanted ≡ peer room seat held.key wanted
+  unfolding peer peer_in peer_at seat_at seat_of
+  peer_kept held' same = rw (find_set_same (seat_of wanted) vacant room.seats seat (holds held') (rw (sits, same))) (go (find (seat_of wanted) room.seats))
     where
-      on : (other : ℕ) (t : Bool) → eqb seat other ≡ t → peerAt t (setSeat room seat (holds held')) held.key other ≡ peerAt t room held.key other
+      on : (other : ℕ) (t : Bool) → eqb seat other ≡ t → peer_at t (set_seat room seat (holds held')) held.key other ≡ peer_at t room held.key other
       on other true e = refl
-      on other false e = ap (λ (s : Seat). joinedBy other (find (routeTo held.key) (routesOf s))) (seat-set-other room seat (holds held') other (λ q. eqb-false seat other e (sym q)))
+      on other false e = ap (λ (s : Seat). joined_by other (find (route_to held.key) (routes_of s))) (seat_set_other room seat (holds held') other (λ q. eqb-false seat other e (sym q)))
 
-      go : (f : Found) → peerIn f (setSeat room seat (holds held')) seat held.key ≡ peerIn f room seat held.key
+      go : (f : Found) → peer_in f (set_seat room seat (holds held')) seat held.key ≡ peer_in f room seat held.key
       go none = refl
       go (at other) = on other (eqb seat other) refl
 
   -- where the lowest free number is given
-  module _ (bytes : List ℕ) (asks : client.relayRead bytes ≡ read.packet (client.routingRequest wanted)) (place : ℕ) (other : sameKey wanted held.key ≡ false)
-      (notAsked : find (routeTo wanted) held.routes ≡ none)
-      (lowest : find isFree held.routes ≡ at place) where
+  module _ (bytes : List ℕ) (asks : client.relay_read bytes ≡ read.packet (client.routing_request wanted)) (place : ℕ) (other : same_key wanted held.key ≡ false)
+      (not_asked : find (route_to wanted) held.routes ≡ none)
+      (lowest : find is_free held.routes ≡ at place) where
     abbrev now : Past
-    now = event room (packetCall seat bytes) ∷ past
+    now = event room (packet_call seat bytes) ∷ past
 
     abbrev next : Room
-    next = roomAfter sizes room (outcome room (packetCall seat bytes))
+    next = room_after sizes room (outcome room (packet_call seat bytes))
 
-    given : next ≡ setSeat room seat (holds (setRoute held place (wants wanted)))
-    unfolding outcome packetFrom actOn act requestAt accept roomAfter applyAll apply withRoute
-    given = rw (sits, asks, other, notAsked, lowest) (ap (λ (s : Seat). setSeat room seat (withRoute s place (wants wanted))) sits)
+    given : next ≡ set_seat room seat (holds (set_route held place (wants wanted)))
+    unfolding outcome packet_from act_on act request_at accept room_after apply_all apply with_route
+    given = rw (sits, asks, other, not_asked, lowest) (ap (λ (s : Seat). set_seat room seat (with_route s place (wants wanted))) sits)
 
-    now-connected : Connects start now seat (numberOfPlace place) (tellBoth seat (numberOfPlace place) (peer room seat held.key wanted))
-    now-connected =
-        let here : seatAt next seat ≡ holds (setRoute held place (wants wanted)) = ap (λ (r : Room). seatAt r seat) given ∙ seat-set room seat _ (held-within room seat held sits) in
-        let only = peer-is-connected sizes start now next (whole-after sizes room whole (packetCall seat bytes)) (tied-after sizes start past room whole tie (packetCall seat bytes))
-        seat (setRoute held place (wants wanted)) here (numberOfPlace place) wanted (route-set held.routes place (wants wanted) (find-within isFree held.routes place lowest)) in
-        both-connected start now seat (numberOfPlace place) (peer room seat held.key wanted)
-        (subst (OnlyPeer start now seat (numberOfPlace place)) (ap (λ (r : Room). peer r seat held.key wanted) given ∙ peer-kept (setRoute held place (wants wanted)) refl) only)
+    now_connected : Connects start now seat (number_of_place place) (tell_both seat (number_of_place place) (peer room seat held.key wanted))
+    now_connected =
+        let here : seat_at next seat ≡ holds (set_route held place (wants wanted)) = ap (λ (r : Room). seat_at r seat) given ∙ seat_set room seat _ (held_within room seat held sits) in
+        let only = peer_is_connected sizes start now next (whole_after sizes room whole (packet_call seat bytes)) (tied_after sizes start past room whole tie (packet_call seat bytes))
+        seat (set_route held place (wants wanted)) here (number_of_place place) wanted (route_set held.routes place (wants wanted) (find_within is_free held.routes place lowest)) in
+        both_connected start now seat (number_of_place place) (peer room seat held.key wanted)
+        (subst (OnlyPeer start now seat (number_of_place place)) (ap (λ (r : Room). peer r seat held.key wanted) given ∙ peer_kept (set_route held place (wants wanted)) refl) only)
 
-  module _ (bytes : List ℕ) (asks : client.relayRead bytes ≡ read.packet (client.routingRequest wanted)) where
+  module _ (bytes : List ℕ) (asks : client.relay_read bytes ≡ read.packet (client.routing_request wanted)) where
     -- with no route that names the key, no request for it stands
-    not-asked : {A : Type 0} → find (routeTo wanted) held.routes ≡ none → (n : ℕ) → stands start past held.key n wanted ≡ true → A
-    unfolding routeTo
-    not-asked h n t =
-        let there : get_or held.routes (n - firstNumber) free ≡ wants wanted = wanted-place held.routes n wanted (stands-wants sizes start past room whole tie seat held sits n wanted t) in
-        absurd (true≢false (sym (ap (routeTo wanted) there ∙ same_refl wanted) ∙ find-miss (routeTo wanted) free held.routes refl h (n - firstNumber)))
+    not_asked_lem : {A : Type 0} → find (route_to wanted) held.routes ≡ none → (n : ℕ) → stands start past held.key n wanted ≡ true → A
+    unfolding route_to
+    not_asked_lem h n t =
+        let there : get_or held.routes (n - first_number) free ≡ wants wanted = wanted_place held.routes n wanted (stands_wants sizes start past room whole tie seat held sits n wanted t) in
+        absurd (true≢false (sym (ap (route_to wanted) there ∙ same_refl wanted) ∙ find_miss (route_to wanted) free held.routes refl h (n - first_number)))
 
     -- no request for the own key stands
-    own-not-asked : {A : Type 0} → wanted ≡ held.key → (n : ℕ) → stands start past held.key n wanted ≡ true → A
-    own-not-asked q n t =
-        absurd (whole.notOwn seat held sits n (stands-wants sizes start past room whole tie seat held sits n wanted t ∙ ap wants q))
+    own_not_asked : {A : Type 0} → wanted ≡ held.key → (n : ℕ) → stands start past held.key n wanted ≡ true → A
+    own_not_asked q n t =
+        absurd (whole.not_own seat held sits n (stands_wants sizes start past room whole tie seat held sits n wanted t ∙ ap wants q))
 
-    request-found : (own : Bool) (old lowest : Found) → sameKey wanted held.key ≡ own → find (routeTo wanted) held.routes ≡ old → find isFree held.routes ≡ lowest
-        → (event room (packetCall seat bytes)).sent ≡ (requestAt own old lowest room seat held.key wanted).sent → RequestTells start past seat held.key wanted (event room (packetCall seat bytes))
-    unfolding requestAt accept
-    request-found true old lowest o h l s = record {
+    request_found : (own : Bool) (old lowest : Found) → same_key wanted held.key ≡ own → find (route_to wanted) held.routes ≡ old → find is_free held.routes ≡ lowest
+        → (event room (packet_call seat bytes)).sent ≡ (request_at own old lowest room seat held.key wanted).sent → RequestTells start past seat held.key wanted (event room (packet_call seat bytes))
+    unfolding request_at accept
+    request_found true old lowest o h l s = record {
       number = 0;
       later = [];
       answered = s;
-      old = λ n t. own-not-asked (same-sound wanted held.key o) n t;
+      old = λ n t. own_not_asked (same_sound wanted held.key o) n t;
       zero = λ q. refl;
       new = λ none-stands q. absurd (q refl);
     }
-    request-found false (at place) lowest o h l s =
-        let there : routeAt held.routes (numberOfPlace place) ≡ wants wanted = route-at-place held.routes place ∙ route-to-wants wanted _ (find-hit (routeTo wanted) free held.routes place h) in
+    request_found false (at place) lowest o h l s =
+        let there : route_at held.routes (number_of_place place) ≡ wants wanted = route_at_place held.routes place ∙ route_to_wants wanted _ (find_hit (route_to wanted) free held.routes place h) in
         record {
-          number = numberOfPlace place;
+          number = number_of_place place;
           later = [];
           answered = s;
-          old = λ n t. (whole.wanted seat held sits wanted (numberOfPlace place) n there (stands-wants sizes start past room whole tie seat held sits n wanted t), refl);
+          old = λ n t. (whole.wanted seat held sits wanted (number_of_place place) n there (stands_wants sizes start past room whole tie seat held sits n wanted t), refl);
           zero = λ q. refl;
-          new = λ none-stands q. absurd (true≢false (sym (wants-stands sizes start past room whole tie seat held sits (numberOfPlace place) wanted there) ∙ none-stands (numberOfPlace place)));
+          new = λ none-stands q. absurd (true≢false (sym (wants_stands sizes start past room whole tie seat held sits (number_of_place place) wanted there) ∙ none-stands (number_of_place place)));
         }
-    request-found false none none o h l s = record {
+    request_found false none none o h l s = record {
       number = 0;
       later = [];
       answered = s;
-      old = λ n t. not-asked h n t;
+      old = λ n t. not_asked_lem h n t;
       zero = λ q. refl;
       new = λ none-stands q. absurd (q refl);
     }
-    request-found false none (at place) o h l s = record {
-      number = numberOfPlace place;
-      later = tellBoth seat (numberOfPlace place) (peer room seat held.key wanted);
+    request_found false none (at place) o h l s = record {
+      number = number_of_place place;
+      later = tell_both seat (number_of_place place) (peer room seat held.key wanted);
       answered = s;
-      old = λ n t. not-asked h n t;
+      old = λ n t. not_asked_lem h n t;
       zero = λ q. absurd (omega arith);
-      new = λ none-stands q. now-connected bytes asks place o h l;
+      new = λ none-stands q. now_connected bytes asks place o h l;
     }
 
-    pub request-tells : RequestTells start past seat held.key wanted (event room (packetCall seat bytes))
-    unfolding event outcome packetFrom actOn act
-    request-tells =
-        request-found (sameKey wanted held.key) (find (routeTo wanted) held.routes) (find isFree held.routes) refl refl refl (rw (sits, asks))
+    pub request_tells : RequestTells start past seat held.key wanted (event room (packet_call seat bytes))
+    unfolding event outcome packet_from act_on act
+    request_tells =
+        request_found (same_key wanted held.key) (find (route_to wanted) held.routes) (find is_free held.routes) refl refl refl (rw (sits, asks))
 
 -- ---- every history, from the empty room
 
-pub drop-tells-from-empty : (sizes : Sizes) (calls : List Call) (before : List Event) (e : Event) (later : List Event)
-    → transcript sizes (emptyRoom sizes) calls ≡ before ++ (e ∷ later)
-    → (seat number : ℕ) (bytes : List ℕ) → e.call ≡ packetCall seat bytes → client.relayRead bytes ≡ read.packet (client.dropRoute number)
-    → Disconnects (from_empty sizes) (pastAfter [] before) seat number e.sent
+pub drop_tells_from_empty : (sizes : Sizes) (calls : List Call) (before : List Event) (e : Event) (later : List Event)
+    → transcript sizes (empty_room sizes) calls ≡ before ++ (e ∷ later)
+    → (seat number : ℕ) (bytes : List ℕ) → e.call ≡ packet_call seat bytes → client.relay_read bytes ≡ read.packet (client.drop_route number)
+    → Disconnects (from_empty sizes) (past_after [] before) seat number e.sent
 unfolding event
-drop-tells-from-empty sizes calls before e later t seat number bytes c r =
-    from-empty sizes (λ past e. e.call ≡ packetCall seat bytes → Disconnects (from_empty sizes) past seat number e.sent)
-    (λ past room whole tie call c. subst (λ (x : Call). Disconnects (from_empty sizes) past seat number (event room x).sent) (sym c) (drop-tells sizes (from_empty sizes) past room whole tie seat number bytes r))
+drop_tells_from_empty sizes calls before e later t seat number bytes c r =
+    from_empty_lem sizes (λ past e. e.call ≡ packet_call seat bytes → Disconnects (from_empty sizes) past seat number e.sent)
+    (λ past room whole tie call c. subst (λ (x : Call). Disconnects (from_empty sizes) past seat number (event room x).sent) (sym c) (drop_tells sizes (from_empty sizes) past room whole tie seat number bytes r))
     calls before e later t c
 
-pub leave-tells-from-empty : (sizes : Sizes) (calls : List Call) (before : List Event) (e : Event) (later : List Event)
-    → transcript sizes (emptyRoom sizes) calls ≡ before ++ (e ∷ later)
-    → (seat : ℕ) → e.call ≡ leave seat → LeaveTells sizes (from_empty sizes) (pastAfter [] before) seat e.sent
+pub leave_tells_from_empty : (sizes : Sizes) (calls : List Call) (before : List Event) (e : Event) (later : List Event)
+    → transcript sizes (empty_room sizes) calls ≡ before ++ (e ∷ later)
+    → (seat : ℕ) → e.call ≡ leave seat → LeaveTells sizes (from_empty sizes) (past_after [] before) seat e.sent
 unfolding event
-leave-tells-from-empty sizes calls before e later t seat c =
-    from-empty sizes (λ past e. e.call ≡ leave seat → LeaveTells sizes (from_empty sizes) past seat e.sent)
-    (λ past room whole tie call c. subst (λ (x : Call). LeaveTells sizes (from_empty sizes) past seat (event room x).sent) (sym c) (leave-tells sizes (from_empty sizes) past room whole tie seat))
+leave_tells_from_empty sizes calls before e later t seat c =
+    from_empty_lem sizes (λ past e. e.call ≡ leave seat → LeaveTells sizes (from_empty sizes) past seat e.sent)
+    (λ past room whole tie call c. subst (λ (x : Call). LeaveTells sizes (from_empty sizes) past seat (event room x).sent) (sym c) (leave_tells sizes (from_empty sizes) past room whole tie seat))
     calls before e later t c
 
-pub request-tells-from-empty : (sizes : Sizes) (calls : List Call) (before : List Event) (e : Event) (later : List Event)
-    → transcript sizes (emptyRoom sizes) calls ≡ before ++ (e ∷ later)
-    → (seat : ℕ) (bytes : List ℕ) (key wanted : Key) → e.call ≡ packetCall seat bytes → client.relayRead bytes ≡ read.packet (client.routingRequest wanted)
-    → sitter (from_empty sizes) (pastAfter [] before) seat ≡ clientOf key → RequestTells (from_empty sizes) (pastAfter [] before) seat key wanted e
+pub request_tells_from_empty : (sizes : Sizes) (calls : List Call) (before : List Event) (e : Event) (later : List Event)
+    → transcript sizes (empty_room sizes) calls ≡ before ++ (e ∷ later)
+    → (seat : ℕ) (bytes : List ℕ) (key wanted : Key) → e.call ≡ packet_call seat bytes → client.relay_read bytes ≡ read.packet (client.routing_request wanted)
+    → sitter (from_empty sizes) (past_after [] before) seat ≡ client_of key → RequestTells (from_empty sizes) (past_after [] before) seat key wanted e
 unfolding event
-request-tells-from-empty sizes calls before e later t seat bytes key wanted c r =
-    from-empty sizes (λ past e. e.call ≡ packetCall seat bytes → sitter (from_empty sizes) past seat ≡ clientOf key → RequestTells (from_empty sizes) past seat key wanted e)
+request_tells_from_empty sizes calls before e later t seat bytes key wanted c r =
+    from_empty_lem sizes (λ past e. e.call ≡ packet_call seat bytes → sitter (from_empty sizes) past seat ≡ client_of key → RequestTells (from_empty sizes) past seat key wanted e)
     (λ past room whole tie call c by.
     subst (λ (x : Call). RequestTells (from_empty sizes) past seat key wanted (event room x)) (sym c)
-    (request-tells sizes (from_empty sizes) past room whole tie seat (setKey (held_of (seatAt room seat)) key) (seat-holds sizes (from_empty sizes) past room whole tie seat key by) wanted bytes r))
+    (request_tells sizes (from_empty sizes) past room whole tie seat (set_key (held_of (seat_at room seat)) key) (seat_holds sizes (from_empty sizes) past room whole tie seat key by) wanted bytes r))
     calls before e later t c

@@ -4,20 +4,20 @@ use Rattle.std.specs.Prelude.{List, [], ◌∷◌, ◌≡◌, ℕ}
 use Rattle.rules.specs.Room.{Sizes, Key}
 use Rattle.rules.specs.Call.{Sent}
 use Rattle.rules.specs.History.{Event}
-use Rattle.rules.specs.Transcript.{Past, clientOf, Start, sitter}
+use Rattle.rules.specs.Transcript.{Past, client_of, Start, sitter}
 use Rattle.after_calls.specs.Ticks.{LeavesFrom, done, leaves, stays, TickDoes}
 
 -- a client sits in the seat of a record after `now`, which is when it is written or, of an arrival or a Leave, after the call; and the same client sat there before
 -- the call, after `past`
 pub record SameSitter (start : Start) (past now : Past) (s : Sent) : Type 0 where
   pub key : Key
-  pub written : sitter start now s.seat ≡ clientOf key
-  pub before : sitter start past s.seat ≡ clientOf key
+  pub written : sitter start now s.seat ≡ client_of key
+  pub before : sitter start past s.seat ≡ client_of key
 
 -- a client sat there before the call
 pub record SatBefore (start : Start) (past : Past) (s : Sent) : Type 0 where
   pub key : Key
-  pub sits : sitter start past s.seat ≡ clientOf key
+  pub sits : sitter start past s.seat ≡ client_of key
 
 -- of each record
 unfoldable pub EachSent : (Sent → Type 0) → List Sent → Type 0
@@ -32,16 +32,16 @@ EachWritten {start = start} {past = past} (leaves {now = now} front o tells rest
 EachWritten (stays remains rest) = EachWritten rest
 
 -- what has happened after the departures, when the pings are written
-unfoldable pub afterLeaves : {sizes : Sizes} {start : Start} {past : Past} {time : ℕ} {now : Past} {seat many : ℕ} {sent : List Sent}
+unfoldable pub after_leaves : {sizes : Sizes} {start : Start} {past : Past} {time : ℕ} {now : Past} {seat many : ℕ} {sent : List Sent}
     → LeavesFrom sizes start past time now seat many sent → Past
-afterLeaves (done {now = now}) = now
-afterLeaves (leaves front o tells rest) = afterLeaves rest
-afterLeaves (stays remains rest) = afterLeaves rest
+after_leaves (done {now = now}) = now
+after_leaves (leaves front o tells rest) = after_leaves rest
+after_leaves (stays remains rest) = after_leaves rest
 
 -- of an accepted tick, whose records are those of the departures and then the pings: for each, whoever sits in its seat when it is written is the client that
 -- sat there before the call, and there is one
 pub record TickHanded {sizes : Sizes} {start : Start} {past : Past} {time number : ℕ} {e : Event} (does : TickDoes sizes start past time number e) : Type 0 where
   pub departures : EachWritten does.sent.first
-  pub pings : EachSent (SameSitter start past (afterLeaves does.sent.first)) does.sent.back
+  pub pings : EachSent (SameSitter start past (after_leaves does.sent.first)) does.sent.back
   -- so each record that the tick sends goes to a seat in which a client sat before the call
   pub all : EachSent (SatBefore start past) e.sent

@@ -1,7 +1,7 @@
 -- Who is told of a connection, by what has happened alone: document 01, "The room", and document 02, "A client that asks for itself".
 use Rattle.std.specs.Prelude.{true, false, List, [], ◌∷◌, ◌++◌, ◌↔◌, ◌≢◌, ◌≡◌, ℕ, zero, suc, ◌+◌, ◌<◌, ◌≤◌}
 use Rattle.packet_laws.specs.FromRelay as relay
-use Rattle.rules.specs.Room.{Sizes, Key, firstNumber}
+use Rattle.rules.specs.Room.{Sizes, Key, first_number}
 use Rattle.rules.specs.Call.{Sent}
 use Rattle.rules.specs.Outcome.{to, Outcome}
 use Rattle.rules.specs.History.{Event}
@@ -12,13 +12,13 @@ use Rattle.after_calls.specs.GoesOn.{Connected}
 
 -- on `number` of the client in `seat`, one of these is so: there is a connected peer, or none
 pub data PeerOrNone (start : Start) (past : Past) (seat number : ℕ) : Type 0 where
-  peerIs : (other number' : ℕ) → Connected start past seat number other number' → PeerOrNone start past seat number
-  noPeer : ((other number' : ℕ) → Connected start past seat number other number' → ⊥) → PeerOrNone start past seat number
+  peer_is : (other number' : ℕ) → Connected start past seat number other number' → PeerOrNone start past seat number
+  no_peer : ((other number' : ℕ) → Connected start past seat number other number' → ⊥) → PeerOrNone start past seat number
 
 -- one disconnect notification for the connected peer, under the peer's number, exactly where there is one; else nothing
 pub record Disconnects (start : Start) (past : Past) (seat number : ℕ) (sent : List Sent) : Type 0 where
   pub decided : PeerOrNone start past seat number
-  pub told : (other number' : ℕ) → (sent ≡ to other (relay.disconnectNotice number') ∷ []) ↔ Connected start past seat number other number'
+  pub told : (other number' : ℕ) → (sent ≡ to other (relay.disconnect_notice number') ∷ []) ↔ Connected start past seat number other number'
   pub otherwise : ((other number' : ℕ) → Connected start past seat number other number' → ⊥) → sent ≡ []
 
 -- ---- a leave: "in rising route number, each connected peer is told disconnected with the peer's own number"
@@ -38,8 +38,8 @@ InTurn start past seat number (suc many) sent = Parts (Disconnects start past se
 
 -- what a leave tells: on each of the seat's numbers in turn, and those are all that can be connected
 pub record LeaveTells (sizes : Sizes) (start : Start) (past : Past) (seat : ℕ) (sent : List Sent) : Type 0 where
-  pub in_turn : InTurn start past seat firstNumber sizes.numbers sent
-  pub all : (number other number' : ℕ) → Connected start past seat number other number' → (firstNumber ≤ number) × (number < firstNumber + sizes.numbers)
+  pub in_turn : InTurn start past seat first_number sizes.numbers sent
+  pub all : (number other number' : ℕ) → Connected start past seat number other number' → (first_number ≤ number) × (number < first_number + sizes.numbers)
 
 -- ---- a request. Of the client's own key, document 02: "The answer becomes 0 and no route is taken". Of another's: "a key already named by this seat gets its old
 -- number again and nothing else happens. Otherwise the lowest free number is taken, or, with none free, the answer is 0 and nothing changes. Then, if the two
@@ -49,7 +49,7 @@ pub record LeaveTells (sizes : Sizes) (start : Start) (past : Past) (seat : ℕ)
 pub record Connects (start : Start) (past : Past) (seat number : ℕ) (sent : List Sent) : Type 0 where
   pub decided : PeerOrNone start past seat number
   pub told : (other number' : ℕ)
-      → (sent ≡ to seat (relay.connectNotice number) ∷ to other (relay.connectNotice number') ∷ []) ↔ Connected start past seat number other number'
+      → (sent ≡ to seat (relay.connect_notice number) ∷ to other (relay.connect_notice number') ∷ []) ↔ Connected start past seat number other number'
   pub otherwise : ((other number' : ℕ) → Connected start past seat number other number' → ⊥) → sent ≡ []
 
 -- what the client `key` in `seat` and its peer are told where it asks for `wanted`: `e` is the event, so that `e ∷ past` is now
@@ -57,7 +57,7 @@ pub record RequestTells (start : Start) (past : Past) (seat : ℕ) (key wanted :
   pub number : ℕ
   pub later : List Sent
   -- the answer comes first
-  pub answered : e.sent ≡ to seat (relay.routingResponse number wanted) ∷ later
+  pub answered : e.sent ≡ to seat (relay.routing_response number wanted) ∷ later
   -- "a key already named by this seat gets its old number again and nothing else happens"
   pub old : (n : ℕ) → stands start past key n wanted ≡ true → (number ≡ n) × (later ≡ [])
   -- "the answer is 0 and nothing changes", of the own key too
@@ -70,4 +70,4 @@ pub record RequestTells (start : Start) (past : Past) (seat : ℕ) (key wanted :
 -- the asker, in `seat`, is answered with a number, and it and then the one in `other` are told connected, each with its own number
 pub record BothTold (o : Outcome) (seat other number : ℕ) (wanted : Key) : Type 0 where
   pub own : ℕ
-  pub sent : o.sent ≡ to seat (relay.routingResponse own wanted) ∷ to seat (relay.connectNotice own) ∷ to other (relay.connectNotice number) ∷ []
+  pub sent : o.sent ≡ to seat (relay.routing_response own wanted) ∷ to seat (relay.connect_notice own) ∷ to other (relay.connect_notice number) ∷ []

@@ -1,9 +1,9 @@
 // Answers as one number.
 ghost use Rattle.std.specs.Prelude.{◌≡◌, ◌≤◌, pos};
-ghost use Rattle.banavoge_laws.specs.Answers.{refusalCode, writtenCode, Counted};
-ghost use Rattle.banavoge_laws.specs.Nodes.{nodeWrittenCode, CountedNodes};
-ghost use Rattle.banavoge_laws.specs.Nearest.{doneCode, keptCode};
-ghost use Rattle.banavoge_laws.specs.Rooms.{doneOr};
+ghost use Rattle.banavoge_laws.specs.Answers.{refusal_code, written_code, Counted};
+ghost use Rattle.banavoge_laws.specs.Nodes.{node_written_code, CountedNodes};
+ghost use Rattle.banavoge_laws.specs.Nearest.{done_code, kept_code};
+ghost use Rattle.banavoge_laws.specs.Rooms.{done_or};
 
 use nearest::{Answer, OfferAnswer};
 use node::writer;
@@ -12,7 +12,7 @@ use refusal::Refusal;
 
 // Minus the refusal's number.
 pub(crate) fn refused(why: Refusal) -> i32
-    ensures { result ≡ refusalCode why }
+    ensures { result ≡ refusal_code why }
 {
     let number = why.number() as i32;
     -number
@@ -29,7 +29,7 @@ pub(crate) fn count(bytes: usize) -> i32
 // The byte count, or minus the refusal's number.
 pub(crate) fn written(answer: Written) -> i32
     requires { Counted answer }
-    ensures { result ≡ writtenCode answer }
+    ensures { result ≡ written_code answer }
 {
     match answer {
         Written::Bytes(bytes) => count(bytes),
@@ -40,7 +40,7 @@ pub(crate) fn written(answer: Written) -> i32
 // The byte count of packed nodes, or minus the refusal's number.
 pub(crate) fn packed(answer: writer::Written) -> i32
     requires { CountedNodes answer }
-    ensures { result ≡ nodeWrittenCode answer }
+    ensures { result ≡ node_written_code answer }
 {
     match answer {
         writer::Written::Bytes(bytes) => count(bytes),
@@ -50,7 +50,7 @@ pub(crate) fn packed(answer: writer::Written) -> i32
 
 // 0, or minus the refusal's number.
 pub(crate) fn done(answer: Answer) -> i32
-    ensures { result ≡ doneCode answer }
+    ensures { result ≡ done_code answer }
 {
     match answer {
         Answer::Done => 0,
@@ -60,7 +60,7 @@ pub(crate) fn done(answer: Answer) -> i32
 
 // 1 kept, 0 not kept, or minus the refusal's number.
 pub(crate) fn kept(answer: OfferAnswer) -> i32
-    ensures { result ≡ keptCode answer }
+    ensures { result ≡ kept_code answer }
 {
     match answer {
         OfferAnswer::Kept => 1,
@@ -71,7 +71,7 @@ pub(crate) fn kept(answer: OfferAnswer) -> i32
 
 // 0 where it is done, or else minus the refusal's number.
 pub(crate) fn done_or(why: Refusal, done: bool) -> i32
-    ensures { result ≡ doneOr why done }
+    ensures { result ≡ done_or why done }
 {
     if !done {
         return refused(why);

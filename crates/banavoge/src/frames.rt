@@ -1,14 +1,14 @@
 // The reader of frames. Document 02, Req 01; the keep and the number of bytes held are the host's.
 ghost use Rattle.std.specs.Prelude.{◌≡◌};
-ghost use Rattle.frame.specs.Reader.{readerHolding, readFrame};
-ghost use Rattle.banavoge_laws.specs.Frames.{framePlaces, shownCode, endAfter, ReadsFrame};
+ghost use Rattle.frame.specs.Reader.{reader_holding, read_frame};
+ghost use Rattle.banavoge_laws.specs.Frames.{frame_places, shown_code, end_after, ReadsFrame};
 
 use crate::answer;
 use frame::{Reader, Shown};
 
 // 0 more, 1 a frame in the piece, 2 a frame in the keep, or minus the refusal's number.
 fn shown_code(shown: Shown) -> i32
-    ensures { result ≡ shownCode shown }
+    ensures { result ≡ shown_code shown }
 {
     match shown {
         Shown::More => 0,
@@ -20,7 +20,7 @@ fn shown_code(shown: Shown) -> i32
 
 // Where a frame that is shown ends; where none is, what stood there.
 fn end_after(shown: Shown, before: usize) -> usize
-    ensures { result ≡ endAfter shown before }
+    ensures { result ≡ end_after shown before }
 {
     match shown {
         Shown::More => before,
@@ -39,7 +39,7 @@ pub extern "C" fn banavoge_frame_read(
     used: &mut usize,
     end: &mut usize,
 ) -> i32
-    ensures { ReadsFrame (readFrame (readerHolding held.old) keep.old piece.now) result (framePlaces held.old used.old end.old) (framePlaces held.new used.new end.new) keep.new }
+    ensures { ReadsFrame (read_frame (reader_holding held.old) keep.old piece.now) result (frame_places held.old used.old end.old) (frame_places held.new used.new end.new) keep.new }
 {
     let reader = Reader { held: *held };
     let read = frame_reader::read(reader, keep, piece);

@@ -3,11 +3,11 @@
 // Every call but banavoge_buckets_begin tests all buckets first: 20, also where the memory is too short. An offer that is refused or
 // not kept leaves every byte of the memory.
 ghost use Rattle.std.specs.Prelude.{◌≡◌};
-ghost use Rattle.buckets_laws.specs.Layout.{bucketsLength};
+ghost use Rattle.buckets_laws.specs.Layout.{buckets_length};
 ghost use Rattle.buckets_laws.specs.Calls.{Begins, Offers, Asks};
 ghost use Rattle.banavoge_laws.specs.Answers.{ToldAs};
-ghost use Rattle.banavoge_laws.specs.Nodes.{nodeGiven, nodeWrittenCode};
-ghost use Rattle.banavoge_laws.specs.Nearest.{keyGiven, doneCode, keptCode};
+ghost use Rattle.banavoge_laws.specs.Nodes.{node_given, node_written_code};
+ghost use Rattle.banavoge_laws.specs.Nearest.{key_given, done_code, kept_code};
 
 use crate::answer;
 use key::Key;
@@ -16,7 +16,7 @@ use node::Node;
 // How many bytes of memory buckets take; longer memory is taken too.
 #[unsafe(no_mangle)]
 pub extern "C" fn banavoge_buckets_bytes() -> usize
-    ensures { result ≡ bucketsLength }
+    ensures { result ≡ buckets_length }
 {
     buckets::BYTES
 }
@@ -24,7 +24,7 @@ pub extern "C" fn banavoge_buckets_bytes() -> usize
 // Begins buckets that hold nothing, for a base key: 0, or minus 10 for memory too short.
 #[unsafe(no_mangle)]
 pub extern "C" fn banavoge_buckets_begin(buckets: &mut [u8], base: &[u8; 32]) -> i32
-    ensures { ToldAs doneCode (Begins (keyGiven base.now) buckets.old buckets.new) result }
+    ensures { ToldAs done_code (Begins (key_given base.now) buckets.old buckets.new) result }
 {
     let answer = buckets::begin(buckets, Key(*base));
     answer::done(answer)
@@ -39,7 +39,7 @@ pub extern "C" fn banavoge_buckets_offer(
     port: u16,
     key: &[u8; 32],
 ) -> i32
-    ensures { ToldAs keptCode (Offers (nodeGiven family address.now port key.now) buckets.old buckets.new) result }
+    ensures { ToldAs kept_code (Offers (node_given family address.now port key.now) buckets.old buckets.new) result }
 {
     let node = Node {
         family,
@@ -54,7 +54,7 @@ pub extern "C" fn banavoge_buckets_offer(
 // Writes the nodes nearest to a target, nearest first, as a node list: the byte count, or minus 20 or 10.
 #[unsafe(no_mangle)]
 pub extern "C" fn banavoge_buckets_nearest(buckets: &[u8], target: &[u8; 32], out: &mut [u8]) -> i32
-    ensures { ToldAs nodeWrittenCode (Asks (keyGiven target.now) buckets.now out.old out.new) result }
+    ensures { ToldAs node_written_code (Asks (key_given target.now) buckets.now out.old out.new) result }
 {
     let answer = buckets::nearest(buckets, Key(*target), out);
     answer::packed(answer)

@@ -1,13 +1,13 @@
 // Keys: equality, and which of two is nearer to a third.
 ghost use Rattle.std.specs.Prelude.{◌≡◌};
-ghost use Rattle.key.specs.Keys.{sameKey, Compares};
+ghost use Rattle.key.specs.Keys.{same_key, Compares};
 
 use key::{Key, in_place};
 
 // Whether two keys are the same.
 #[unsafe(no_mangle)]
 pub extern "C" fn banavoge_same_key(a: &[u8; 32], b: &[u8; 32]) -> bool
-    ensures { result ≡ sameKey a.now b.now }
+    ensures { result ≡ same_key a.now b.now }
 {
     Key(*a).equals(Key(*b))
 }

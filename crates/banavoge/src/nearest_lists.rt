@@ -3,12 +3,12 @@
 // Every call but banavoge_nearest_begin tests all of the list first: 12, then 14. Memory too short gets 14, or 12 where its first byte is no size. A refused
 // offer or removal leaves every byte of the memory.
 ghost use Rattle.std.specs.Prelude.{◌≡◌};
-ghost use Rattle.lent_list_laws.specs.Layout.{listLength};
+ghost use Rattle.lent_list_laws.specs.Layout.{list_length};
 ghost use Rattle.lent_list_laws.specs.Calls.{Begins, Offers, Removes};
 ghost use Rattle.lent_list.specs.Held.{held_at};
 ghost use Rattle.banavoge_laws.specs.Answers.{ToldAs};
-ghost use Rattle.banavoge_laws.specs.Nodes.{nodeGiven};
-ghost use Rattle.banavoge_laws.specs.Nearest.{keyGiven, doneCode, keptCode, heldPlaces, heldPlacesOf, ShowsHeld};
+ghost use Rattle.banavoge_laws.specs.Nodes.{node_given};
+ghost use Rattle.banavoge_laws.specs.Nearest.{key_given, done_code, kept_code, held_places, held_places_of, ShowsHeld};
 
 use crate::answer;
 use key::Key;
@@ -18,7 +18,7 @@ use node::Node;
 // How many bytes of memory a list takes; longer memory is taken too.
 #[unsafe(no_mangle)]
 pub extern "C" fn banavoge_nearest_bytes() -> usize
-    ensures { result ≡ listLength }
+    ensures { result ≡ list_length }
 {
     memory::BYTES
 }
@@ -26,7 +26,7 @@ pub extern "C" fn banavoge_nearest_bytes() -> usize
 // Begins the empty list of a size for a target: 0, or minus 12, or minus 14 for memory too short. A bad size begins the empty list of size 8.
 #[unsafe(no_mangle)]
 pub extern "C" fn banavoge_nearest_begin(list: &mut [u8], target: &[u8; 32], size: usize) -> i32
-    ensures { ToldAs doneCode (Begins (keyGiven target.now) size list.old list.new) result }
+    ensures { ToldAs done_code (Begins (key_given target.now) size list.old list.new) result }
 {
     let answer = lent_list::begin(list, Key(*target), size);
     answer::done(answer)
@@ -41,7 +41,7 @@ pub extern "C" fn banavoge_nearest_offer(
     port: u16,
     key: &[u8; 32],
 ) -> i32
-    ensures { ToldAs keptCode (Offers (nodeGiven family address.now port key.now) list.old list.new) result }
+    ensures { ToldAs kept_code (Offers (node_given family address.now port key.now) list.old list.new) result }
 {
     let node = Node {
         family,
@@ -56,7 +56,7 @@ pub extern "C" fn banavoge_nearest_offer(
 // Takes out the node of a key: 0, or minus 12, 14 or 13.
 #[unsafe(no_mangle)]
 pub extern "C" fn banavoge_nearest_remove(list: &mut [u8], key: &[u8; 32]) -> i32
-    ensures { ToldAs doneCode (Removes (keyGiven key.now) list.old list.new) result }
+    ensures { ToldAs done_code (Removes (key_given key.now) list.old list.new) result }
 {
     let answer = lent_list::remove(list, Key(*key));
     answer::done(answer)
@@ -70,7 +70,7 @@ fn tell_held(
     port: &mut u16,
     key: &mut [u8; 32],
 )
-    ensures { heldPlaces family.new address.new port.new key.new ≡ heldPlacesOf node }
+    ensures { held_places family.new address.new port.new key.new ≡ held_places_of node }
 {
     let bytes = node.address;
     let owner = node.key;
@@ -91,7 +91,7 @@ pub extern "C" fn banavoge_nearest_node(
     port: &mut u16,
     key: &mut [u8; 32],
 ) -> i32
-    ensures { ShowsHeld (held_at list.now index) result (heldPlaces family.old address.old port.old key.old) (heldPlaces family.new address.new port.new key.new) }
+    ensures { ShowsHeld (held_at list.now index) result (held_places family.old address.old port.old key.old) (held_places family.new address.new port.new key.new) }
 {
     let shown = lent_list::held_at(list, index);
     let held = shown.held;

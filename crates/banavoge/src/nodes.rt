@@ -4,7 +4,7 @@ ghost use Rattle.node.specs.Nodes.{read_node};
 ghost use Rattle.node.specs.Steps.{step_of};
 ghost use Rattle.node.specs.Written.{WritesNode};
 ghost use Rattle.banavoge_laws.specs.Answers.{OfBytes, ToldAs};
-ghost use Rattle.banavoge_laws.specs.Nodes.{nodePlaces, nodePlacesOf, nodeGiven, ReadsNode, StepsNode, nodeWrittenCode};
+ghost use Rattle.banavoge_laws.specs.Nodes.{node_places, node_places_of, node_given, ReadsNode, StepsNode, node_written_code};
 
 use crate::answer;
 use key::Key;
@@ -22,7 +22,7 @@ fn tell_node(
     key: &mut [u8; 32],
     next: &mut usize,
 )
-    ensures { nodePlaces family.new address.new port.new key.new next.new ≡ nodePlacesOf node after }
+    ensures { node_places family.new address.new port.new key.new next.new ≡ node_places_of node after }
 {
     let bytes = node.address;
     let owner = node.key;
@@ -45,7 +45,7 @@ pub extern "C" fn banavoge_node_read(
     key: &mut [u8; 32],
     next: &mut usize,
 ) -> i32
-    ensures { OfBytes bytes.now (ReadsNode at (read_node (drop at bytes.now)) result (nodePlaces family.old address.old port.old key.old next.old) (nodePlaces family.new address.new port.new key.new next.new)) }
+    ensures { OfBytes bytes.now (ReadsNode at (read_node (drop at bytes.now)) result (node_places family.old address.old port.old key.old next.old) (node_places family.new address.new port.new key.new next.new)) }
 {
     let read = reader::read(bytes, at);
     let found = read.found;
@@ -71,7 +71,7 @@ pub extern "C" fn banavoge_nodes_step(
     key: &mut [u8; 32],
     next: &mut usize,
 ) -> i32
-    ensures { OfBytes list.now (StepsNode place (step_of list.now place count) result (nodePlaces family.old address.old port.old key.old next.old) (nodePlaces family.new address.new port.new key.new next.new)) }
+    ensures { OfBytes list.now (StepsNode place (step_of list.now place count) result (node_places family.old address.old port.old key.old next.old) (node_places family.new address.new port.new key.new next.new)) }
 {
     let stepped = walker::step_from(list, place, count);
     let shown = stepped.shown;
@@ -96,7 +96,7 @@ pub extern "C" fn banavoge_node_write(
     key: &[u8; 32],
     out: &mut [u8],
 ) -> i32
-    ensures { ToldAs nodeWrittenCode (WritesNode (nodeGiven family address.now port key.now) out.old out.new) result }
+    ensures { ToldAs node_written_code (WritesNode (node_given family address.now port key.now) out.old out.new) result }
 {
     let node = Node {
         family,

@@ -1,10 +1,10 @@
 // The two readers. What a kind does not have is set to 0.
 ghost use Rattle.std.specs.Prelude.{◌≡◌, pos};
-ghost use Rattle.packet_laws.specs.FromClient.{relayRead, relayKey};
-ghost use Rattle.packet_laws.specs.FromRelay.{clientRead, clientKey};
+ghost use Rattle.packet_laws.specs.FromClient.{relay_read, relay_key};
+ghost use Rattle.packet_laws.specs.FromRelay.{client_read, client_key};
 ghost use Rattle.banavoge_laws.specs.Answers.{OfBytes};
 ghost use Rattle.banavoge_laws.specs.Fields.{places, places_of, ReadsFields, ReadsKey};
-ghost use Rattle.fields.specs.Fields.{clientFields, relayFields};
+ghost use Rattle.fields.specs.Fields.{client_fields, relay_fields};
 
 use crate::answer;
 use fields::Fields;
@@ -39,7 +39,7 @@ pub extern "C" fn banavoge_relay_read(
     start: &mut usize,
     length: &mut usize,
 ) -> i32
-    ensures { OfBytes packet.now (ReadsFields clientFields (relayRead packet.now) result (places number.old ping.old start.old length.old) (places number.new ping.new start.new length.new)) }
+    ensures { OfBytes packet.now (ReadsFields client_fields (relay_read packet.now) result (places number.old ping.old start.old length.old) (places number.new ping.new start.new length.new)) }
 {
     match relay_end::read(packet) {
         RelayRead::Packet(shown) => tell(fields::of_client(shown), number, ping, start, length),
@@ -56,7 +56,7 @@ pub extern "C" fn banavoge_client_read(
     start: &mut usize,
     length: &mut usize,
 ) -> i32
-    ensures { OfBytes packet.now (ReadsFields relayFields (clientRead packet.now) result (places number.old ping.old start.old length.old) (places number.new ping.new start.new length.new)) }
+    ensures { OfBytes packet.now (ReadsFields relay_fields (client_read packet.now) result (places number.old ping.old start.old length.old) (places number.new ping.new start.new length.new)) }
 {
     match client::read(packet) {
         ClientRead::Packet(shown) => tell(fields::of_relay(shown), number, ping, start, length),
@@ -67,7 +67,7 @@ pub extern "C" fn banavoge_client_read(
 // The key of a routing request or an out-of-band send, and the answer of `banavoge_relay_read`; zeros where a packet has no key.
 #[unsafe(no_mangle)]
 pub extern "C" fn banavoge_relay_key(packet: &[u8], key: &mut [u8; 32]) -> i32
-    ensures { ReadsKey clientFields relayKey (relayRead packet.now) result key.old key.new }
+    ensures { ReadsKey client_fields relay_key (relay_read packet.now) result key.old key.new }
 {
     match relay_end::read(packet) {
         RelayRead::Packet(shown) => {
@@ -83,7 +83,7 @@ pub extern "C" fn banavoge_relay_key(packet: &[u8], key: &mut [u8; 32]) -> i32
 // The key of a routing response or an out-of-band packet, and the answer of `banavoge_client_read`; zeros where a packet has no key.
 #[unsafe(no_mangle)]
 pub extern "C" fn banavoge_client_key(packet: &[u8], key: &mut [u8; 32]) -> i32
-    ensures { ReadsKey relayFields clientKey (clientRead packet.now) result key.old key.new }
+    ensures { ReadsKey relay_fields client_key (client_read packet.now) result key.old key.new }
 {
     match client::read(packet) {
         ClientRead::Packet(shown) => {

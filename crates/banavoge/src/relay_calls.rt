@@ -5,7 +5,7 @@
 ghost use Rattle.std.specs.Prelude.{◌≡◌};
 ghost use Rattle.relay_laws.specs.Calls.{answer_of, Arrives, Departs, Sends, Ticks};
 ghost use Rattle.banavoge_laws.specs.Answers.{ToldAs};
-ghost use Rattle.banavoge_laws.specs.RelayCalls.{countCode, CallCounted, told, arrivalTold};
+ghost use Rattle.banavoge_laws.specs.RelayCalls.{count_code, CallCounted, told, arrival_told};
 
 use crate::answer;
 use key::Key;
@@ -15,7 +15,7 @@ use seat::Seat;
 // The byte count of an accepted call, or minus the refusal's number.
 fn count_of(given: Answer) -> i32
     requires { CallCounted (answer_of given) }
-    ensures { result ≡ countCode (answer_of given) }
+    ensures { result ≡ count_code (answer_of given) }
 {
     match given {
         Answer::Accepted(_, bytes) => bytes as i32,
@@ -31,7 +31,7 @@ pub extern "C" fn banavoge_arrive(
     out: &mut [u8],
     seat: &mut u8,
 ) -> i32
-    ensures { ToldAs (arrivalTold seat.old) (Arrives 40 32 key.now room.old out.old room.new out.new) (told result seat.new) }
+    ensures { ToldAs (arrival_told seat.old) (Arrives 40 32 key.now room.old out.old room.new out.new) (told result seat.new) }
 {
     match calls::arrive(room, Key(*key), out) {
         Answer::Accepted(taken, bytes) => {
@@ -45,7 +45,7 @@ pub extern "C" fn banavoge_arrive(
 // The client in a seat leaves: the byte count of what is sent, or minus 10, 11 or 3.
 #[unsafe(no_mangle)]
 pub extern "C" fn banavoge_leave(room: &mut [u8], seat: u8, out: &mut [u8]) -> i32
-    ensures { ToldAs countCode (Departs 40 32 seat room.old out.old room.new out.new) result }
+    ensures { ToldAs count_code (Departs 40 32 seat room.old out.old room.new out.new) result }
 {
     let given = calls::leave(room, Seat(seat), out);
     count_of(given)
@@ -54,7 +54,7 @@ pub extern "C" fn banavoge_leave(room: &mut [u8], seat: u8, out: &mut [u8]) -> i
 // The client in a seat sends a packet: the byte count of what is sent, or minus 10, 11 or 3 to 9.
 #[unsafe(no_mangle)]
 pub extern "C" fn banavoge_packet(room: &mut [u8], seat: u8, packet: &[u8], out: &mut [u8]) -> i32
-    ensures { ToldAs countCode (Sends 40 32 seat packet.now room.old out.old room.new out.new) result }
+    ensures { ToldAs count_code (Sends 40 32 seat packet.now room.old out.old room.new out.new) result }
 {
     let given = calls::packet(room, Seat(seat), packet, out);
     count_of(given)
@@ -63,7 +63,7 @@ pub extern "C" fn banavoge_packet(room: &mut [u8], seat: u8, packet: &[u8], out:
 // The clock moves on to a time, in whole seconds, with the number for those who are pinged: the byte count of what is sent, or minus 10, 11, 7 or 19.
 #[unsafe(no_mangle)]
 pub extern "C" fn banavoge_tick(room: &mut [u8], time: u64, number: u64, out: &mut [u8]) -> i32
-    ensures { ToldAs countCode (Ticks 40 32 time number room.old out.old room.new out.new) result }
+    ensures { ToldAs count_code (Ticks 40 32 time number room.old out.old room.new out.new) result }
 {
     let given = calls::tick(room, time, number, out);
     count_of(given)

@@ -1,10 +1,10 @@
 // The room in the host's memory: its size, the empty room, and the test. Document 01's section "The room"; docs/ARCHITECTURE.md draws the memory.
 ghost use Rattle.std.specs.Prelude.{◌≡◌};
-ghost use Rattle.room_laws.specs.Layout.{roomBytes};
+ghost use Rattle.room_laws.specs.Layout.{room_bytes};
 ghost use Rattle.refusal.specs.declared.Refusal.TheVariants.{OutputTooShort};
 ghost use Rattle.room_laws.specs.Store.{MakesEmpty};
 ghost use Rattle.banavoge_laws.specs.Answers.{ToldAs};
-ghost use Rattle.banavoge_laws.specs.Rooms.{doneOr, roomCode};
+ghost use Rattle.banavoge_laws.specs.Rooms.{done_or, room_code};
 
 use crate::answer;
 use refusal::Refusal;
@@ -13,7 +13,7 @@ use room::{Room, whole};
 // How many bytes of memory a room takes; longer memory is taken too.
 #[unsafe(no_mangle)]
 pub extern "C" fn banavoge_room_bytes() -> usize
-    ensures { result ≡ roomBytes 40 32 }
+    ensures { result ≡ room_bytes 40 32 }
 {
     Room::BYTES
 }
@@ -21,7 +21,7 @@ pub extern "C" fn banavoge_room_bytes() -> usize
 // Makes the memory the empty room: 0, or minus 10 for memory too short, and then nothing changes.
 #[unsafe(no_mangle)]
 pub extern "C" fn banavoge_room_empty(room: &mut [u8]) -> i32
-    ensures { ToldAs (doneOr OutputTooShort) (MakesEmpty 40 32 room.old room.new) result }
+    ensures { ToldAs (done_or OutputTooShort) (MakesEmpty 40 32 room.old room.new) result }
 {
     let made = Room::empty(room);
     answer::done_or(Refusal::OutputTooShort, made)
@@ -30,7 +30,7 @@ pub extern "C" fn banavoge_room_empty(room: &mut [u8]) -> i32
 // Tests the memory in full: 0 where it holds a whole room, or minus 11.
 #[unsafe(no_mangle)]
 pub extern "C" fn banavoge_room_check(room: &[u8]) -> i32
-    ensures { result ≡ roomCode room.now }
+    ensures { result ≡ room_code room.now }
 {
     let is_whole = whole::is_whole(room, Room::SEATS, Room::NUMBERS);
     answer::done_or(Refusal::RoomNotWhole, is_whole)

@@ -2,7 +2,7 @@
 ghost use Rattle.std.specs.Prelude.{◌≡◌, pos};
 ghost use Rattle.relay.specs.Play.{Plays};
 ghost use Rattle.banavoge_laws.specs.Answers.{ToldAs};
-ghost use Rattle.banavoge_laws.specs.Runs.{stopNumber, counts, telling, runTold};
+ghost use Rattle.banavoge_laws.specs.Runs.{stop_number, counts, telling, run_told};
 
 use crate::answer;
 use relay::play;
@@ -10,7 +10,7 @@ use relay::play::{Run, Stop};
 
 // Why a run stopped, as a number.
 fn stop_code(why: Stop) -> i32
-    ensures { result ≡ pos (stopNumber why) }
+    ensures { result ≡ pos (stop_number why) }
 {
     match why {
         Stop::End => 0,
@@ -31,7 +31,7 @@ pub extern "C" fn banavoge_play(
     read: &mut usize,
     written: &mut usize,
 ) -> i32
-    ensures { ToldAs (runTold (counts played.old read.old written.old)) (Plays 40 32 allowance calls.now room.old out.old room.new out.new) (telling result played.new read.new written.new) }
+    ensures { ToldAs (run_told (counts played.old read.old written.old)) (Plays 40 32 allowance calls.now room.old out.old room.new out.new) (telling result played.new read.new written.new) }
 {
     match play::play(room, calls, allowance, out) {
         Run::Stopped {

@@ -3,7 +3,7 @@
 //
 // Both test the room in full before they look, and write nothing of it.
 ghost use Rattle.std.specs.Prelude.{◌≡◌};
-ghost use Rattle.banavoge_laws.specs.Sitting.{TellsSitter, seatOfKey};
+ghost use Rattle.banavoge_laws.specs.Sitting.{TellsSitter, seat_of_key};
 
 use crate::answer;
 use key::Key;
@@ -32,7 +32,7 @@ pub extern "C" fn banavoge_key_in(room: &[u8], seat: u8, key: &mut [u8; 32]) -> 
 // The seat of a key, or minus 11 or 3.
 #[unsafe(no_mangle)]
 pub extern "C" fn banavoge_seat_of(room: &[u8], key: &[u8; 32]) -> i32
-    ensures { result ≡ seatOfKey 40 32 room.now key.now }
+    ensures { result ≡ seat_of_key 40 32 room.now key.now }
 {
     if !whole::is_whole(room, Room::SEATS, Room::NUMBERS) {
         return answer::refused(Refusal::RoomNotWhole);

@@ -1,8 +1,8 @@
 // The writers: the byte count, or minus the refusal number; on a refusal the output is as before.
-ghost use Rattle.banavoge_laws.specs.Answers.{ToldAs, writtenCode};
+ghost use Rattle.banavoge_laws.specs.Answers.{ToldAs, written_code};
 ghost use Rattle.packet_write.specs.Written.{ClientWrites, RelayWrites, PingWrites, PongWrites, DataWrites};
-ghost use Rattle.packet_laws.specs.FromClient.{routingRequest, dropRoute, oobSend};
-ghost use Rattle.packet_laws.specs.FromRelay.{routingResponse, connectNotice, disconnectNotice, oobReceived};
+ghost use Rattle.packet_laws.specs.FromClient.{routing_request, drop_route, oob_send};
+ghost use Rattle.packet_laws.specs.FromRelay.{routing_response, connect_notice, disconnect_notice, oob_received};
 
 use crate::answer;
 use key::Key;
@@ -11,7 +11,7 @@ use packet::ConnectionNumber;
 // The client's routing request: minus 10.
 #[unsafe(no_mangle)]
 pub extern "C" fn banavoge_routing_request(key: &[u8; 32], out: &mut [u8]) -> i32
-    ensures { ToldAs writtenCode (ClientWrites (routingRequest key.now) out.old out.new) result }
+    ensures { ToldAs written_code (ClientWrites (routing_request key.now) out.old out.new) result }
 {
     answer::written(packet_write::routing_request(Key(*key), out))
 }
@@ -19,7 +19,7 @@ pub extern "C" fn banavoge_routing_request(key: &[u8; 32], out: &mut [u8]) -> i3
 // The relay's routing response, with the number given or 0: minus 8 or 10.
 #[unsafe(no_mangle)]
 pub extern "C" fn banavoge_routing_response(number: u8, key: &[u8; 32], out: &mut [u8]) -> i32
-    ensures { ToldAs writtenCode (RelayWrites (routingResponse number key.now) out.old out.new) result }
+    ensures { ToldAs written_code (RelayWrites (routing_response number key.now) out.old out.new) result }
 {
     answer::written(packet_write::routing_response(ConnectionNumber(number), Key(*key), out))
 }
@@ -27,7 +27,7 @@ pub extern "C" fn banavoge_routing_response(number: u8, key: &[u8; 32], out: &mu
 // The relay's connect notification: minus 8 or 10.
 #[unsafe(no_mangle)]
 pub extern "C" fn banavoge_connect_notification(number: u8, out: &mut [u8]) -> i32
-    ensures { ToldAs writtenCode (RelayWrites (connectNotice number) out.old out.new) result }
+    ensures { ToldAs written_code (RelayWrites (connect_notice number) out.old out.new) result }
 {
     answer::written(packet_write::connect_notification(ConnectionNumber(number), out))
 }
@@ -35,7 +35,7 @@ pub extern "C" fn banavoge_connect_notification(number: u8, out: &mut [u8]) -> i
 // The relay's disconnect notification: minus 8 or 10.
 #[unsafe(no_mangle)]
 pub extern "C" fn banavoge_disconnect_notification(number: u8, out: &mut [u8]) -> i32
-    ensures { ToldAs writtenCode (RelayWrites (disconnectNotice number) out.old out.new) result }
+    ensures { ToldAs written_code (RelayWrites (disconnect_notice number) out.old out.new) result }
 {
     answer::written(packet_write::disconnect_notification(ConnectionNumber(number), out))
 }
@@ -43,7 +43,7 @@ pub extern "C" fn banavoge_disconnect_notification(number: u8, out: &mut [u8]) -
 // The client's drop: minus 10.
 #[unsafe(no_mangle)]
 pub extern "C" fn banavoge_drop(number: u8, out: &mut [u8]) -> i32
-    ensures { ToldAs writtenCode (ClientWrites (dropRoute number) out.old out.new) result }
+    ensures { ToldAs written_code (ClientWrites (drop_route number) out.old out.new) result }
 {
     answer::written(packet_write::drop_route(ConnectionNumber(number), out))
 }
@@ -51,7 +51,7 @@ pub extern "C" fn banavoge_drop(number: u8, out: &mut [u8]) -> i32
 // Either end's ping: minus 7 or 10.
 #[unsafe(no_mangle)]
 pub extern "C" fn banavoge_ping(n: u64, out: &mut [u8]) -> i32
-    ensures { ToldAs writtenCode (PingWrites n out.old out.new) result }
+    ensures { ToldAs written_code (PingWrites n out.old out.new) result }
 {
     answer::written(packet_write::ping(n, out))
 }
@@ -59,7 +59,7 @@ pub extern "C" fn banavoge_ping(n: u64, out: &mut [u8]) -> i32
 // Either end's pong: minus 7 or 10.
 #[unsafe(no_mangle)]
 pub extern "C" fn banavoge_pong(n: u64, out: &mut [u8]) -> i32
-    ensures { ToldAs writtenCode (PongWrites n out.old out.new) result }
+    ensures { ToldAs written_code (PongWrites n out.old out.new) result }
 {
     answer::written(packet_write::pong(n, out))
 }
@@ -67,7 +67,7 @@ pub extern "C" fn banavoge_pong(n: u64, out: &mut [u8]) -> i32
 // The client's out-of-band send: minus 4, 6 or 10.
 #[unsafe(no_mangle)]
 pub extern "C" fn banavoge_oob_send(key: &[u8; 32], data: &[u8], out: &mut [u8]) -> i32
-    ensures { ToldAs writtenCode (ClientWrites (oobSend key.now «data».now) out.old out.new) result }
+    ensures { ToldAs written_code (ClientWrites (oob_send key.now «data».now) out.old out.new) result }
 {
     answer::written(packet_write::oob_send(Key(*key), data, out))
 }
@@ -75,7 +75,7 @@ pub extern "C" fn banavoge_oob_send(key: &[u8; 32], data: &[u8], out: &mut [u8])
 // The relay's out-of-band packet: minus 4, 6 or 10.
 #[unsafe(no_mangle)]
 pub extern "C" fn banavoge_oob_received(key: &[u8; 32], data: &[u8], out: &mut [u8]) -> i32
-    ensures { ToldAs writtenCode (RelayWrites (oobReceived key.now «data».now) out.old out.new) result }
+    ensures { ToldAs written_code (RelayWrites (oob_received key.now «data».now) out.old out.new) result }
 {
     answer::written(packet_write::oob_received(Key(*key), data, out))
 }
@@ -83,7 +83,7 @@ pub extern "C" fn banavoge_oob_received(key: &[u8; 32], data: &[u8], out: &mut [
 // Either end's data: minus 4, 5, 6 or 10.
 #[unsafe(no_mangle)]
 pub extern "C" fn banavoge_data(number: u8, data: &[u8], out: &mut [u8]) -> i32
-    ensures { ToldAs writtenCode (DataWrites number «data».now out.old out.new) result }
+    ensures { ToldAs written_code (DataWrites number «data».now out.old out.new) result }
 {
     answer::written(packet_write::data(ConnectionNumber(number), data, out))
 }

@@ -6,37 +6,37 @@ use lib.IntN.{pos, negsuc}
 use Rattle.refusal.specs.declared.Refusal.TheVariants.{RoomFull, NotSeated, OutputTooShort, RoomNotWhole, BadFrame}
 use Rattle.rules.specs.Room.{vacant, none, at}
 use Rattle.rules.specs.Call.{accepted, refused}
-use Rattle.room_laws.specs.Layout.{fitsRoom, sizesRight}
-use Rattle.room_laws.specs.Whole.{roomWhole}
+use Rattle.room_laws.specs.Layout.{fits_room, sizes_right}
+use Rattle.room_laws.specs.Whole.{room_whole}
 use Rattle.frame.specs.declared.Shown.{Shown}
 use Rattle.frame.specs.declared.Shown.TheVariants.{More, InPiece, InKeep, Refused}
 use Rattle.frame.specs.declared.Read.{Read}
 use Rattle.relay.specs.declared.play.Stop.TheVariants.{End, NoCall, Allowance, Output}
-use Rattle.banavoge_laws.specs.Answers.{refusalCode}
-use Rattle.banavoge_laws.specs.Frames.{framePlaces, shownCode, endAfter, framePlacesAfter}
-use Rattle.banavoge_laws.specs.Rooms.{doneOr}
-use Rattle.banavoge_laws.specs.RelayCalls.{countCode, told, seatAfter, arrivalTold}
-use Rattle.banavoge_laws.specs.Sitting.{turned, sits, sitting, whoSits, sitCode, keyThen, placeCode, seatOfKey}
-use Rattle.banavoge_laws.specs.Runs.{stopNumber}
+use Rattle.banavoge_laws.specs.Answers.{refusal_code}
+use Rattle.banavoge_laws.specs.Frames.{frame_places, shown_code, end_after, frame_places_after}
+use Rattle.banavoge_laws.specs.Rooms.{done_or}
+use Rattle.banavoge_laws.specs.RelayCalls.{count_code, told, seat_after, arrival_told}
+use Rattle.banavoge_laws.specs.Sitting.{turned, sits, sitting, who_sits, sit_code, key_then, place_code, seat_of_key}
+use Rattle.banavoge_laws.specs.Runs.{stop_number}
 
 -- ---- refusals: the numbers of document 01, below 0
 
-pub room-full : refusalCode RoomFull ≡ negsuc 0
-unfolding refusalCode
-room-full = refl
+pub room_full : refusal_code RoomFull ≡ negsuc 0
+unfolding refusal_code
+room_full = refl
 
-pub not-whole : refusalCode RoomNotWhole ≡ negsuc 10
-unfolding refusalCode
-not-whole = refl
+pub not_whole : refusal_code RoomNotWhole ≡ negsuc 10
+unfolding refusal_code
+not_whole = refl
 
 -- ---- an empty room: 0, or minus 10
 
-pub made : doneOr OutputTooShort true ≡ pos 0
-unfolding doneOr
+pub made : done_or OutputTooShort true ≡ pos 0
+unfolding done_or
 made = refl
 
-pub too_short : doneOr OutputTooShort false ≡ negsuc 9
-unfolding doneOr refusalCode
+pub too_short : done_or OutputTooShort false ≡ negsuc 9
+unfolding done_or refusal_code
 too_short = refl
 
 -- ---- frames: 5 bytes were held, 3 used, and the last frame ended at 7
@@ -44,93 +44,93 @@ too_short = refl
 abbrev read : Shown → Read
 read shown = record { shown = shown; reader = record { held = 9 }; used = 4 }
 
-pub no-frame-told : shownCode More ≡ pos 0
-unfolding shownCode
-no-frame-told = refl
+pub no_frame_told : shown_code More ≡ pos 0
+unfolding shown_code
+no_frame_told = refl
 
-pub in-piece-told : shownCode (InPiece 8) ≡ pos 1
-unfolding shownCode
-in-piece-told = refl
+pub in_piece_told : shown_code (InPiece 8) ≡ pos 1
+unfolding shown_code
+in_piece_told = refl
 
-pub in-keep-told : shownCode (InKeep 8) ≡ pos 2
-unfolding shownCode
-in-keep-told = refl
+pub in_keep_told : shown_code (InKeep 8) ≡ pos 2
+unfolding shown_code
+in_keep_told = refl
 
-pub bad-frame-told : shownCode (Refused BadFrame) ≡ negsuc 17
-unfolding shownCode refusalCode
-bad-frame-told = refl
+pub bad_frame_told : shown_code (Refused BadFrame) ≡ negsuc 17
+unfolding shown_code refusal_code
+bad_frame_told = refl
 
-pub places-without-frame : framePlacesAfter (read More) (framePlaces 5 3 7) ≡ framePlaces 9 4 7
-unfolding framePlacesAfter endAfter
-places-without-frame = refl
+pub places_without_frame : frame_places_after (read More) (frame_places 5 3 7) ≡ frame_places 9 4 7
+unfolding frame_places_after end_after
+places_without_frame = refl
 
-pub places-of-a-frame : framePlacesAfter (read (InKeep 8)) (framePlaces 5 3 7) ≡ framePlaces 9 4 8
-unfolding framePlacesAfter endAfter
-places-of-a-frame = refl
+pub places_of_a_frame : frame_places_after (read (InKeep 8)) (frame_places 5 3 7) ≡ frame_places 9 4 8
+unfolding frame_places_after end_after
+places_of_a_frame = refl
 
 -- ---- a call on a room, accepted in seat 3 with 9 bytes of records: it tells the count, and an arrival the seat too, whose place a refusal leaves
 
-pub seat-told : arrivalTold 7 (accepted 3 9) ≡ told (pos 9) 3
-unfolding arrivalTold countCode seatAfter
-seat-told = refl
+pub seat_told : arrival_told 7 (accepted 3 9) ≡ told (pos 9) 3
+unfolding arrival_told count_code seat_after
+seat_told = refl
 
-pub seat-left : arrivalTold 7 (refused RoomFull) ≡ told (negsuc 0) 7
-unfolding arrivalTold countCode seatAfter refusalCode
-seat-left = refl
+pub seat_left : arrival_told 7 (refused RoomFull) ≡ told (negsuc 0) 7
+unfolding arrival_told count_code seat_after refusal_code
+seat_left = refl
 
-pub count-told : countCode (accepted 3 9) ≡ pos 9
-unfolding countCode
-count-told = refl
+pub count_told : count_code (accepted 3 9) ≡ pos 9
+unfolding count_code
+count_told = refl
 
 -- ---- who sits: 3 of an empty seat, and of a key that sits in none
 
-pub empty-seat : sitting vacant ≡ turned NotSeated
+pub empty_seat : sitting vacant ≡ turned NotSeated
 unfolding sitting
-empty-seat = refl
+empty_seat = refl
 
-pub client-seated : sitCode (sits (5 ∷ [])) ≡ pos 0
-unfolding sitCode
-client-seated = refl
+pub client_seated : sit_code (sits (5 ∷ [])) ≡ pos 0
+unfolding sit_code
+client_seated = refl
 
-pub key-handed : keyThen (sits (5 ∷ [])) (7 ∷ []) ≡ 5 ∷ []
-unfolding keyThen
-key-handed = refl
+pub key_handed : key_then (sits (5 ∷ [])) (7 ∷ []) ≡ 5 ∷ []
+unfolding key_then
+key_handed = refl
 
-pub key_left : keyThen (turned NotSeated) (7 ∷ []) ≡ 7 ∷ []
-unfolding keyThen
+pub key_left : key_then (turned NotSeated) (7 ∷ []) ≡ 7 ∷ []
+unfolding key_then
 key_left = refl
 
-pub nowhere : placeCode none ≡ negsuc 2
-unfolding placeCode refusalCode
+pub nowhere : place_code none ≡ negsuc 2
+unfolding place_code refusal_code
 nowhere = refl
 
-pub in-seat-4 : placeCode (at 4) ≡ pos 4
-unfolding placeCode
-in-seat-4 = refl
+pub in_seat_4 : place_code (at 4) ≡ pos 4
+unfolding place_code
+in_seat_4 = refl
 
 -- 11 of memory that holds no room, though nobody would sit in it
-pub no_room : whoSits 40 32 [] 0 ≡ turned RoomNotWhole
-unfolding whoSits roomWhole fitsRoom sizesRight
+pub no_room : who_sits 40 32 [] 0 ≡ turned RoomNotWhole
+unfolding who_sits room_whole fits_room sizes_right
 no_room = refl
 
-pub no-room-to-sit-in : seatOfKey 40 32 [] (5 ∷ []) ≡ negsuc 10
-unfolding seatOfKey roomWhole fitsRoom sizesRight refusalCode
-no-room-to-sit-in = refl
+pub no_room_to_sit_in : seat_of_key 40 32 [] (5 ∷ []) ≡ negsuc 10
+unfolding seat_of_key room_whole fits_room sizes_right refusal_code
+no_room_to_sit_in = refl
 
 -- ---- why a run stopped
 
-pub stopped-at-the-end : stopNumber End ≡ 0
-unfolding stopNumber
-stopped-at-the-end = refl
+pub stopped_at_the_end : stop_number End ≡ 0
+unfolding stop_number
+stopped_at_the_end = refl
 
-pub stopped-by-no-call : stopNumber NoCall ≡ 1
-unfolding stopNumber
-stopped-by-no-call = refl
+pub stopped_by_no_call : stop_number NoCall ≡ 1
+unfolding stop_number
+stopped_by_no_call = refl
 
-pub stopped-by-allowance : stopNumber Allowance ≡ 2
-unfolding stopNumber
-stopped-by-allowance = refl
+pub stopped_by_allowance : stop_number Allowance ≡ 2
+unfolding stop_number
+stopped_by_allowance = refl
 
-pub stopped-by-output : stopNumber Output ≡ 3
-unfolding stopNumber
-stopped-by-output = refl
+pub stopped_by_output : stop_number Output ≡ 3
+unfolding stop_number
+stopped_by_output = refl

@@ -2,16 +2,16 @@
 use Rattle.std.specs.Prelude.{List, ◌≡◌, ℕ, ◌≤◌, ℤ, pos, neg_ℤ}
 use Rattle.wire.specs.Numbers as wire
 use Rattle.refusal.specs.declared.Refusal.{Refusal}
-use Rattle.refusal.specs.Numbers.{refusalNumber}
+use Rattle.refusal.specs.Numbers.{refusal_number}
 use Rattle.packet_write.specs.declared.Written.{Written}
 use Rattle.packet_write.specs.declared.Written.TheVariants.{Bytes, Refused}
 
-unfoldable pub refusalCode : Refusal → ℤ
-refusalCode why = neg_ℤ (pos (refusalNumber why))
+unfoldable pub refusal_code : Refusal → ℤ
+refusal_code why = neg_ℤ (pos (refusal_number why))
 
-unfoldable pub writtenCode : Written → ℤ
-writtenCode (Bytes count) = pos count
-writtenCode (Refused why) = refusalCode why
+unfoldable pub written_code : Written → ℤ
+written_code (Bytes count) = pos count
+written_code (Refused why) = refusal_code why
 
 -- a count that a writer can have
 unfoldable pub Counted : Written → Type 0

@@ -1,11 +1,11 @@
--- What the exported reader of frames tells through references: the outcome is that of `frame` (`readFrame`). A refusal sets held and used alone, as document 02 has it:
+-- What the exported reader of frames tells through references: the outcome is that of `frame` (`read_frame`). A refusal sets held and used alone, as document 02 has it:
 -- "0 if refused", "After 18 the reader gives 18 until begun anew; after 10 it is as before."
 use Rattle.std.specs.Prelude.{List, ◌≡◌, ℕ, ℤ, pos}
 use Rattle.frame.specs.declared.Shown.{Shown}
 use Rattle.frame.specs.declared.Shown.TheVariants.{More, InPiece, InKeep, Refused}
 use Rattle.frame.specs.declared.Read.{Read}
 use Rattle.frame.specs.Reader.{Outcome}
-use Rattle.banavoge_laws.specs.Answers.{refusalCode}
+use Rattle.banavoge_laws.specs.Answers.{refusal_code}
 
 -- what the three references refer to
 pub record FramePlaces : Type 0 where
@@ -13,27 +13,27 @@ pub record FramePlaces : Type 0 where
   pub used : ℕ
   pub end : ℕ
 
-abbrev pub framePlaces : ℕ → ℕ → ℕ → FramePlaces
-framePlaces held used end = record { held = held; used = used; end = end }
+abbrev pub frame_places : ℕ → ℕ → ℕ → FramePlaces
+frame_places held used end = record { held = held; used = used; end = end }
 
 -- 0 more, 1 a frame in the piece, 2 a frame in the keep, or minus the refusal
-unfoldable pub shownCode : Shown → ℤ
-shownCode More = pos 0
-shownCode (InPiece end) = pos 1
-shownCode (InKeep end) = pos 2
-shownCode (Refused why) = refusalCode why
+unfoldable pub shown_code : Shown → ℤ
+shown_code More = pos 0
+shown_code (InPiece end) = pos 1
+shown_code (InKeep end) = pos 2
+shown_code (Refused why) = refusal_code why
 
 -- where a frame ends; only a frame that is shown sets it
-unfoldable pub endAfter : Shown → ℕ → ℕ
-endAfter More before = before
-endAfter (InPiece end) before = end
-endAfter (InKeep end) before = end
-endAfter (Refused why) before = before
+unfoldable pub end_after : Shown → ℕ → ℕ
+end_after More before = before
+end_after (InPiece end) before = end
+end_after (InKeep end) before = end
+end_after (Refused why) before = before
 
-unfoldable pub framePlacesAfter : Read → FramePlaces → FramePlaces
-framePlacesAfter read before = framePlaces read.reader.held read.used (endAfter read.shown before.end)
+unfoldable pub frame_places_after : Read → FramePlaces → FramePlaces
+frame_places_after read before = frame_places read.reader.held read.used (end_after read.shown before.end)
 
 pub record ReadsFrame (outcome : Outcome) (answer : ℤ) (before after : FramePlaces) (left : List ℕ) : Type 0 where
-  pub answers : answer ≡ shownCode outcome.read.shown
-  pub sets : after ≡ framePlacesAfter outcome.read before
+  pub answers : answer ≡ shown_code outcome.read.shown
+  pub sets : after ≡ frame_places_after outcome.read before
   pub leaves : left ≡ outcome.keep

@@ -10,22 +10,22 @@ use Rattle.nearest.specs.declared.OfferAnswer.TheVariants as offer
 use Rattle.lent_list.specs.declared.Held.{Held}
 use Rattle.lent_list.specs.declared.Held.TheVariants as found
 use Rattle.lent_list.specs.declared.HeldNode.{HeldNode}
-use Rattle.banavoge_laws.specs.Answers.{refusalCode}
+use Rattle.banavoge_laws.specs.Answers.{refusal_code}
 
 -- the key that a parameter of a call makes
-abbrev pub keyGiven : List ℕ → Key
-keyGiven bytes = record { 0 = bytes }
+abbrev pub key_given : List ℕ → Key
+key_given bytes = record { 0 = bytes }
 
 -- 0, or minus the refusal
-unfoldable pub doneCode : Answer → ℤ
-doneCode answer.Done = pos 0
-doneCode (answer.Refused why) = refusalCode why
+unfoldable pub done_code : Answer → ℤ
+done_code answer.Done = pos 0
+done_code (answer.Refused why) = refusal_code why
 
 -- 1 kept, 0 not kept, or minus the refusal
-unfoldable pub keptCode : OfferAnswer → ℤ
-keptCode offer.Kept = pos 1
-keptCode offer.NotKept = pos 0
-keptCode (offer.Refused why) = refusalCode why
+unfoldable pub kept_code : OfferAnswer → ℤ
+kept_code offer.Kept = pos 1
+kept_code offer.NotKept = pos 0
+kept_code (offer.Refused why) = refusal_code why
 
 -- ---- the node at an index: 1 shown, 0 none there, or minus the refusal
 
@@ -36,23 +36,23 @@ pub record HeldPlaces : Type 0 where
   pub port : ℕ
   pub key : List ℕ
 
-abbrev pub heldPlaces : ℕ → List ℕ → ℕ → List ℕ → HeldPlaces
-heldPlaces family address port key = record { family = family; address = address; port = port; key = key }
+abbrev pub held_places : ℕ → List ℕ → ℕ → List ℕ → HeldPlaces
+held_places family address port key = record { family = family; address = address; port = port; key = key }
 
-abbrev pub heldPlacesOf : Node → HeldPlaces
-heldPlacesOf n = heldPlaces n.family n.address n.port n.key.0
+abbrev pub held_places_of : Node → HeldPlaces
+held_places_of n = held_places n.family n.address n.port n.key.0
 
-unfoldable pub heldCode : Held → ℤ
-heldCode found.Node = pos 1
-heldCode found.Nothing = pos 0
-heldCode (found.Refused why) = refusalCode why
+unfoldable pub held_code : Held → ℤ
+held_code found.Node = pos 1
+held_code found.Nothing = pos 0
+held_code (found.Refused why) = refusal_code why
 
 -- only a node that is shown is set
-unfoldable pub heldAfter : Held → Node → HeldPlaces → HeldPlaces
-heldAfter found.Node n before = heldPlacesOf n
-heldAfter found.Nothing n before = before
-heldAfter (found.Refused why) n before = before
+unfoldable pub held_after : Held → Node → HeldPlaces → HeldPlaces
+held_after found.Node n before = held_places_of n
+held_after found.Nothing n before = before
+held_after (found.Refused why) n before = before
 
 pub record ShowsHeld (shown : HeldNode) (answer : ℤ) (before after : HeldPlaces) : Type 0 where
-  pub answers : answer ≡ heldCode shown.held
-  pub leaves : after ≡ heldAfter shown.held shown.node before
+  pub answers : answer ≡ held_code shown.held
+  pub leaves : after ≡ held_after shown.held shown.node before

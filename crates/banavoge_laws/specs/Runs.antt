@@ -5,19 +5,19 @@ use Rattle.relay.specs.declared.play.Run.{Run}
 use Rattle.relay.specs.declared.play.Run.TheVariants.{Stopped, Refused}
 use Rattle.relay.specs.declared.play.Stop.{Stop}
 use Rattle.relay.specs.declared.play.Stop.TheVariants.{End, NoCall, Allowance, Output}
-use Rattle.banavoge_laws.specs.Answers.{refusalCode}
+use Rattle.banavoge_laws.specs.Answers.{refusal_code}
 
 -- why it stopped
-unfoldable pub stopNumber : Stop → ℕ
-stopNumber End = 0
-stopNumber NoCall = 1
-stopNumber Allowance = 2
-stopNumber Output = 3
+unfoldable pub stop_number : Stop → ℕ
+stop_number End = 0
+stop_number NoCall = 1
+stop_number Allowance = 2
+stop_number Output = 3
 
 -- why it stopped, or minus the refusal
-unfoldable pub runCode : Run → ℤ
-runCode (Stopped why played read written) = pos (stopNumber why)
-runCode (Refused why) = refusalCode why
+unfoldable pub run_code : Run → ℤ
+run_code (Stopped why played read written) = pos (stop_number why)
+run_code (Refused why) = refusal_code why
 
 -- the caller's three places: calls played, bytes read, bytes written
 pub record Counts : Type 0 where
@@ -29,9 +29,9 @@ abbrev pub counts : ℕ → ℕ → ℕ → Counts
 counts played read written = record { played = played; read = read; written = written }
 
 -- a refusal leaves them as they were
-unfoldable pub runCounts : Run → Counts → Counts
-runCounts (Stopped why played read written) before = counts played read written
-runCounts (Refused why) before = before
+unfoldable pub run_counts : Run → Counts → Counts
+run_counts (Stopped why played read written) before = counts played read written
+run_counts (Refused why) before = before
 
 -- all that the host is told of a run
 pub record Telling : Type 0 where
@@ -41,5 +41,5 @@ pub record Telling : Type 0 where
 abbrev pub telling : ℤ → ℕ → ℕ → ℕ → Telling
 telling answer played read written = record { answer = answer; counts = counts played read written }
 
-unfoldable pub runTold : Counts → Run → Telling
-runTold before run = record { answer = runCode run; counts = runCounts run before }
+unfoldable pub run_told : Counts → Run → Telling
+run_told before run = record { answer = run_code run; counts = run_counts run before }

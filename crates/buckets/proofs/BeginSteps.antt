@@ -10,45 +10,45 @@ use Rattle.wire.specs.Numbers.{Bytes}
 use Rattle.wire.proofs.Copy.{written_byte}
 use Rattle.refusal.specs.declared.Refusal.TheVariants.{OutputTooShort}
 use Rattle.key.specs.declared.Key.{Key}
-use Rattle.key.specs.Keys.{IsKey, withKey}
-use Rattle.key.proofs.Lent.{with-key-whole}
+use Rattle.key.specs.Keys.{IsKey, with_key}
+use Rattle.key.proofs.Lent.{with_key_whole}
 use Rattle.nearest.specs.declared.Answer.TheVariants as answer
-use Rattle.buckets_laws.specs.Calls.{zeros, begunAnswer, begunMemory, Begins}
-use Rattle.buckets_laws.proofs.BeginLaws.{length-zeros}
+use Rattle.buckets_laws.specs.Calls.{zeros, begun_answer, begun_memory, Begins}
+use Rattle.buckets_laws.proofs.BeginLaws.{length_zeros}
 
 zero_more : (k : ℕ) → replicate {A = ℕ} (suc k) 0 ≡ replicate {A = ℕ} k 0 ++ (0 ∷ [])
 zero_more zero = refl
 zero_more (suc k) = ap (λ (l : List ℕ). 0 ∷ l) (zero_more k)
 
-zeros-more : (k : ℕ) → zeros (suc k) ≡ zeros k ++ (0 ∷ [])
+zeros_more : (k : ℕ) → zeros (suc k) ≡ zeros k ++ (0 ∷ [])
 unfolding zeros
-zeros-more k = zero_more k
+zeros_more k = zero_more k
 
 -- the memory m where the bytes from 32 to i have been written
-abbrev pub zeroedTo : List ℕ → ℕ → List ℕ
-zeroedTo m i = (take 32 m ++ zeros (i - 32)) ++ drop i m
+abbrev pub zeroed_to : List ℕ → ℕ → List ℕ
+zeroed_to m i = (take 32 m ++ zeros (i - 32)) ++ drop i m
 
 module _ (m : List ℕ) (long : 106784 ≤ length m) where
-  head-long : length (take 32 m) ≡ 32
-  head-long = length-take-le 32 m (omega arith)
+  head_long : length (take 32 m) ≡ 32
+  head_long = length-take-le 32 m (omega arith)
 
-  pub zeroed-none : m ≡ zeroedTo m 32
+  pub zeroed_none : m ≡ zeroed_to m 32
   unfolding zeros
-  zeroed-none = sym (ap (λ (l : List ℕ). l ++ drop 32 m) (append-nil (take 32 m)) ∙ take-append-drop 32 m)
+  zeroed_none = sym (ap (λ (l : List ℕ). l ++ drop 32 m) (append-nil (take 32 m)) ∙ take-append-drop 32 m)
 
-  pub zeroed-more : (i : ℕ) → 32 ≤ i → i < 106784 → set (zeroedTo m i) i 0 ≡ zeroedTo m (i + 1)
-  zeroed-more i l h =
-      let p : length (take 32 m ++ zeros (i - 32)) ≡ i = length-append (take 32 m) (zeros (i - 32)) ∙ ap₂ ◌+◌ head-long (length-zeros (i - 32)) ∙ (let q : 32 + (i - 32) ≡ i = omega arith in q) in
+  pub zeroed_more : (i : ℕ) → 32 ≤ i → i < 106784 → set (zeroed_to m i) i 0 ≡ zeroed_to m (i + 1)
+  zeroed_more i l h =
+      let p : length (take 32 m ++ zeros (i - 32)) ≡ i = length-append (take 32 m) (zeros (i - 32)) ∙ ap₂ ◌+◌ head_long (length_zeros (i - 32)) ∙ (let q : 32 + (i - 32) ≡ i = omega arith in q) in
       let k : i + 1 - 32 ≡ suc (i - 32) = omega arith in
       written_byte (take 32 m ++ zeros (i - 32)) m i 0 p (omega arith)
       ∙ ap (λ (x : List ℕ). x ++ drop (i + 1) m)
-      (append_assoc (take 32 m) (zeros (i - 32)) (0 ∷ []) ∙ ap (λ (x : List ℕ). take 32 m ++ x) (sym (zeros-more (i - 32)) ∙ ap zeros (sym k)))
+      (append_assoc (take 32 m) (zeros (i - 32)) (0 ∷ []) ∙ ap (λ (x : List ℕ). take 32 m ++ x) (sym (zeros_more (i - 32)) ∙ ap zeros (sym k)))
 
   -- with the base key over the first bytes
-  pub begun-done : (base : Key) → Bytes m → IsKey base.0 → (last part : List ℕ) (i : ℕ) → 32 ≤ i → 106784 ≤ i → i ≤ 106784 → length part ≡ 32 → last ≡ withKey base.0 part
-      → Begins base m (last ++ drop 32 (zeroedTo m i)) answer.Done
-  unfolding begunAnswer begunMemory
-  begun-done base bytes key last part i l g h e w =
+  pub begun_done : (base : Key) → Bytes m → IsKey base.0 → (last part : List ℕ) (i : ℕ) → 32 ≤ i → 106784 ≤ i → i ≤ 106784 → length part ≡ 32 → last ≡ with_key base.0 part
+      → Begins base m (last ++ drop 32 (zeroed_to m i)) answer.Done
+  unfolding begun_answer begun_memory
+  begun_done base bytes key last part i l g h e w =
       let z : i ≡ 106784 = omega arith in
       record {
         bytes = bytes;
@@ -56,12 +56,12 @@ module _ (m : List ℕ) (long : 106784 ≤ length m) where
         answers = rw (le-leb 106784 (length m) long);
         leaves =
             rw (le-leb 106784 (length m) long)
-            (ap₂ (λ (x y : List ℕ). x ++ y) (w ∙ with-key-whole base.0 part e)
-            (ap (λ (k : ℕ). drop 32 (zeroedTo m k)) z
+            (ap₂ (λ (x y : List ℕ). x ++ y) (w ∙ with_key_whole base.0 part e)
+            (ap (λ (k : ℕ). drop 32 (zeroed_to m k)) z
             ∙ ap (drop 32) (append_assoc (take 32 m) (zeros 106752) (drop 106784 m))
-            ∙ drop_at (take 32 m) (zeros 106752 ++ drop 106784 m) 32 head-long));
+            ∙ drop_at (take 32 m) (zeros 106752 ++ drop 106784 m) 32 head_long));
       }
 
-pub begun-short : (base : Key) (m : List ℕ) → Bytes m → IsKey base.0 → length m < 106784 → Begins base m m (answer.Refused OutputTooShort)
-unfolding begunAnswer begunMemory
-begun-short base m bytes key h = record { bytes = bytes; key = key; answers = rw (lt-leb 106784 (length m) h); leaves = rw (lt-leb 106784 (length m) h) }
+pub begun_short : (base : Key) (m : List ℕ) → Bytes m → IsKey base.0 → length m < 106784 → Begins base m m (answer.Refused OutputTooShort)
+unfolding begun_answer begun_memory
+begun_short base m bytes key h = record { bytes = bytes; key = key; answers = rw (lt-leb 106784 (length m) h); leaves = rw (lt-leb 106784 (length m) h) }

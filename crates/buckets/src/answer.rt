@@ -1,7 +1,7 @@
 // The answer to a question: the nodes found, packed one behind the other.
 ghost use Rattle.std.specs.Prelude.{◌≡◌, true, ◌++◌, ◌≤◌, length, drop};
-ghost use Rattle.nearest.specs.Lists.{allKnown};
-ghost use Rattle.buckets.specs.Kept.{Starts, keptNodes, keptBytes};
+ghost use Rattle.nearest.specs.Lists.{all_known};
+ghost use Rattle.buckets.specs.Kept.{Starts, kept_nodes, kept_bytes};
 
 use crate::search::Found;
 use crate::{layout, record};
@@ -10,7 +10,7 @@ use node::{family, writer};
 // How many bytes the packed nodes take.
 pub(crate) fn length(memory: &[u8], kept: Found) -> usize
     requires { Starts memory.now kept }
-    ensures { result ≡ length (keptBytes memory.now kept) }
+    ensures { result ≡ length (kept_bytes memory.now kept) }
 {
     let starts = kept.starts;
     let count = kept.count;
@@ -26,8 +26,8 @@ pub(crate) fn length(memory: &[u8], kept: Found) -> usize
 
 // Writes the packed nodes to the front of an output that is long enough. The writer refuses none: their families are known, and there is room.
 pub(crate) fn write(memory: &[u8], kept: Found, out: &mut [u8])
-    requires { Starts memory.now kept × (allKnown (keptNodes memory.now kept) ≡ true) × (length (keptBytes memory.now kept) ≤ length out.old) }
-    ensures { out.new ≡ keptBytes memory.now kept ++ drop (length (keptBytes memory.now kept)) out.old }
+    requires { Starts memory.now kept × (all_known (kept_nodes memory.now kept) ≡ true) × (length (kept_bytes memory.now kept) ≤ length out.old) }
+    ensures { out.new ≡ kept_bytes memory.now kept ++ drop (length (kept_bytes memory.now kept)) out.old }
 {
     let starts = kept.starts;
     let count = kept.count;

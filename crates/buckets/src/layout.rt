@@ -4,7 +4,7 @@
 //     bucket  | table of 8 places: count (1) | order (8) | record 0 | .. | record 7 |
 //     record  | key (32) | family (1) | address (16) | port (2) |
 ghost use Rattle.std.specs.Prelude.{◌≡◌, ◌<◌, ◌≤◌, length};
-ghost use Rattle.buckets_laws.specs.Layout.{bucketNumber, bucketSize, bucketsLength, bucketStart, bucketAt, recordStart};
+ghost use Rattle.buckets_laws.specs.Layout.{bucket_number, bucket_size, buckets_length, bucket_start, bucket_at, record_start};
 
 use key::Key;
 use node::family;
@@ -34,16 +34,16 @@ pub(crate) const END: usize = BASE_END + BUCKETS * BUCKET_END;
 
 // Where a bucket begins.
 pub(crate) fn bucket_start(bucket: usize) -> usize
-    requires { bucket < bucketNumber }
-    ensures { result ≡ bucketStart bucket }
+    requires { bucket < bucket_number }
+    ensures { result ≡ bucket_start bucket }
 {
     BASE_END + bucket * BUCKET_END
 }
 
 // The bytes of a bucket.
 pub(crate) fn bucket_at(memory: &[u8], bucket: usize) -> &[u8]
-    requires { (bucketsLength ≤ length memory.now) × (bucket < bucketNumber) }
-    ensures { result.now ≡ bucketAt memory.now bucket }
+    requires { (buckets_length ≤ length memory.now) × (bucket < bucket_number) }
+    ensures { result.now ≡ bucket_at memory.now bucket }
 {
     let at = bucket_start(bucket);
     let end = at + BUCKET_END;
@@ -52,8 +52,8 @@ pub(crate) fn bucket_at(memory: &[u8], bucket: usize) -> &[u8]
 
 // Where the record of a place of a bucket begins.
 pub(crate) fn record_start(bucket: usize, place: usize) -> usize
-    requires { (bucket < bucketNumber) × (place < bucketSize) }
-    ensures { result ≡ recordStart bucket place }
+    requires { (bucket < bucket_number) × (place < bucket_size) }
+    ensures { result ≡ record_start bucket place }
 {
     bucket_start(bucket) + RECORDS + place * RECORD_END
 }

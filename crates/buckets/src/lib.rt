@@ -3,8 +3,8 @@
 // A bucket is a table of 8 places whose records begin with their key. Every call but `begin` tests all buckets first. Nothing is ever put out: without a call that
 // removes, a full bucket holds the same keys for good. Where nodes come from, and who asks them for more, stay with the host.
 ghost use Rattle.std.specs.Prelude.{◌≡◌, true};
-ghost use Rattle.table_laws.specs.Table.{isTable};
-ghost use Rattle.buckets_laws.specs.Layout.{bucketSize, recordLength};
+ghost use Rattle.table_laws.specs.Table.{is_table};
+ghost use Rattle.buckets_laws.specs.Layout.{bucket_size, record_length};
 ghost use Rattle.buckets_laws.specs.Calls.{Begins, Offers, Asks};
 ghost use Rattle.buckets.specs.Entered.{Enters};
 
@@ -62,7 +62,7 @@ pub fn offer(memory: &mut [u8], node: Node) -> OfferAnswer
 
 // A bucket takes a node, where it holds its key or has room.
 fn enter(bucket: &mut [u8], node: Node) -> OfferAnswer
-    requires { isTable bucketSize recordLength bucket.old ≡ true }
+    requires { is_table bucket_size record_length bucket.old ≡ true }
     ensures { Enters node bucket.old bucket.new result }
 {
     let record = record::of(node);

@@ -1,6 +1,6 @@
 // The record of a node: read from lent bytes, and made.
 ghost use Rattle.std.specs.Prelude.{◌≡◌, length};
-ghost use Rattle.buckets_laws.specs.Layout.{recordLength, recordNode, nodeRecord};
+ghost use Rattle.buckets_laws.specs.Layout.{record_length, record_node, node_record};
 
 use crate::layout;
 use key::Key;
@@ -8,8 +8,8 @@ use node::Node;
 
 // The node that a record is.
 pub(crate) fn read(bytes: &[u8]) -> Node
-    requires { length bytes.now ≡ recordLength }
-    ensures { result ≡ recordNode bytes.now }
+    requires { length bytes.now ≡ record_length }
+    ensures { result ≡ record_node bytes.now }
 {
     Node {
         family: bytes[layout::FAMILY],
@@ -31,7 +31,7 @@ fn address(bytes: &[u8]) -> [u8; 16]
 
 // The record of a node.
 pub(crate) fn of(node: Node) -> [u8; layout::RECORD_END]
-    ensures { result ≡ nodeRecord node }
+    ensures { result ≡ node_record node }
 {
     let address = node.address;
     let port = node.port as u64;

@@ -1,9 +1,9 @@
 // The test of lent buckets: each is a table that keeps its rules, and each node that it lists belongs to it.
 ghost use Rattle.std.specs.Prelude.{◌≡◌, true, ◌+◌, ◌<◌, ◌≤◌, length};
-ghost use Rattle.table_laws.specs.Table.{isTable};
-ghost use Rattle.buckets_laws.specs.Layout.{bucketNumber, bucketSize, recordLength, bucketsLength, base_of, bucketAt, bucketNodes};
-ghost use Rattle.buckets_laws.specs.Whole.{belongs, allBelong, bucketWhole, bucketsWhole};
-ghost use Rattle.buckets.specs.Kept.{nodeAt};
+ghost use Rattle.table_laws.specs.Table.{is_table};
+ghost use Rattle.buckets_laws.specs.Layout.{bucket_number, bucket_size, record_length, buckets_length, base_of, bucket_at, bucket_nodes};
+ghost use Rattle.buckets_laws.specs.Whole.{belongs, all_belong, bucket_whole, buckets_whole};
+ghost use Rattle.buckets.specs.Kept.{node_at};
 
 use crate::layout;
 use key::in_place;
@@ -11,8 +11,8 @@ use node::family;
 
 // Whether the node whose record begins at `at` belongs to a bucket: document 02, "A key's bucket is the number of leading bits it shares with the base key."
 fn belongs(memory: &[u8], bucket: usize, at: usize) -> bool
-    requires { at + recordLength ≤ length memory.now }
-    ensures { result ≡ belongs (base_of memory.now) bucket (nodeAt memory.now at) }
+    requires { at + record_length ≤ length memory.now }
+    ensures { result ≡ belongs (base_of memory.now) bucket (node_at memory.now at) }
 {
     let end = at + layout::FAMILY;
     if in_place::shared_bits(&memory[0..layout::BASE_END], &memory[at..end]) != bucket {
@@ -23,8 +23,8 @@ fn belongs(memory: &[u8], bucket: usize, at: usize) -> bool
 
 // Whether each node that a bucket lists belongs to it.
 fn all_belong(memory: &[u8], bucket: usize) -> bool
-    requires { (bucketsLength ≤ length memory.now) × (bucket < bucketNumber) × (isTable bucketSize recordLength (bucketAt memory.now bucket) ≡ true) }
-    ensures { result ≡ allBelong (base_of memory.now) bucket (bucketNodes (bucketAt memory.now bucket)) }
+    requires { (buckets_length ≤ length memory.now) × (bucket < bucket_number) × (is_table bucket_size record_length (bucket_at memory.now bucket) ≡ true) }
+    ensures { result ≡ all_belong (base_of memory.now) bucket (bucket_nodes (bucket_at memory.now bucket)) }
 {
     let used = table::used(layout::bucket_at(memory, bucket), layout::PLACES);
     let mut i = 0;
@@ -43,8 +43,8 @@ fn all_belong(memory: &[u8], bucket: usize) -> bool
 
 // Whether a bucket keeps its rules.
 fn bucket_whole(memory: &[u8], bucket: usize) -> bool
-    requires { (bucketsLength ≤ length memory.now) × (bucket < bucketNumber) }
-    ensures { result ≡ bucketWhole (base_of memory.now) bucket (bucketAt memory.now bucket) }
+    requires { (buckets_length ≤ length memory.now) × (bucket < bucket_number) }
+    ensures { result ≡ bucket_whole (base_of memory.now) bucket (bucket_at memory.now bucket) }
 {
     if !table::is_whole(
         layout::bucket_at(memory, bucket),
@@ -58,7 +58,7 @@ fn bucket_whole(memory: &[u8], bucket: usize) -> bool
 
 // Whether memory holds whole buckets; it may be longer than they are.
 pub(crate) fn is_whole(memory: &[u8]) -> bool
-    ensures { result ≡ bucketsWhole memory.now }
+    ensures { result ≡ buckets_whole memory.now }
 {
     if memory.len() < layout::END {
         return false;

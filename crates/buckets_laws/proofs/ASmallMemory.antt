@@ -12,25 +12,25 @@ use Prim.Native.Nat.{ℕ}
 use lib.ListN.{drop, replicate}
 use Rattle.wire.specs.Numbers.{number_of, bytes_of}
 use Rattle.refusal.specs.declared.Refusal.TheVariants.{OutputTooShort, BucketsNotWhole}
-use Rattle.key.specs.Keys.{sameKey, xorBytes, distance, nearer}
-use Rattle.key.specs.Bits.{bits_of, bits, alike, sharedBits}
+use Rattle.key.specs.Keys.{same_key, xor_bytes, distance, nearer}
+use Rattle.key.specs.Bits.{bits_of, bits, alike, shared_bits}
 use Rattle.lists.specs.Find.{leading, member}
 use Rattle.node.specs.declared.Node.{Node}
 use Rattle.node.specs.declared.writer.Written.TheVariants as written
-use Rattle.node.specs.Families.{knownFamily, addressLength}
-use Rattle.node.specs.Nodes.{packedNode}
-use Rattle.node.specs.Values.{infoOf}
-use Rattle.node.specs.Walks.{packedNodes}
+use Rattle.node.specs.Families.{known_family, address_length}
+use Rattle.node.specs.Nodes.{packed_node}
+use Rattle.node.specs.Values.{info_of}
+use Rattle.node.specs.Walks.{packed_nodes}
 use Rattle.nearest.specs.declared.Answer.TheVariants as answer
 use Rattle.nearest.specs.declared.OfferAnswer.TheVariants as offer
 use Rattle.nearest.specs.Effect.{holds, insert}
-use Rattle.table_laws.specs.Bytes.{keyBefore}
-use Rattle.table_laws.specs.Table.{fitsTable, listed, recordAt, key_at, risingAfter, rising, tableWhole, isTable, findKey, found, lowest, lowestFree}
-use Rattle.table_laws.specs.Table.{entered, put, mayPut, put_in, refilled, mayOverwrite, overwrittenIn}
-use Rattle.buckets_laws.specs.Layout.{bucketAt, recordNode, bucketNodes, heldBelow, heldNodes, nodeFields, nodeRecord, withBucket}
-use Rattle.buckets_laws.specs.Whole.{bucketOf, belongs, allBelong, bucketWhole, wholeBelow, bucketsWhole}
-use Rattle.buckets_laws.specs.Effect.{added, replaced, full, baseKey, takenBy, bucketEffect, effectOn, isKept, bucketAfter, memoryAfter}
-use Rattle.buckets_laws.specs.Calls.{begunAnswer, begunMemory, offerAnswered, offerLeft, nearestHeld, answerBytes, nearestAnswered, nearestLeft}
+use Rattle.table_laws.specs.Bytes.{key_before}
+use Rattle.table_laws.specs.Table.{fits_table, listed, record_at, key_at, rising_after, rising, table_whole, is_table, find_key, found, lowest, lowest_free}
+use Rattle.table_laws.specs.Table.{entered, put, may_put, put_in, refilled, may_overwrite, overwritten_in}
+use Rattle.buckets_laws.specs.Layout.{bucket_at, record_node, bucket_nodes, held_below, held_nodes, node_fields, node_record, with_bucket}
+use Rattle.buckets_laws.specs.Whole.{bucket_of, belongs, all_belong, bucket_whole, whole_below, buckets_whole}
+use Rattle.buckets_laws.specs.Effect.{added, replaced, full, base_key, taken_by, bucket_effect, effect_on, is_kept, bucket_after, memory_after}
+use Rattle.buckets_laws.specs.Calls.{begun_answer, begun_memory, offer_answered, offer_left, nearest_held, answer_bytes, nearest_answered, nearest_left}
 
 abbrev key : ℕ → List ℕ
 key first = first ∷ replicate 31 0
@@ -67,181 +67,181 @@ eight = node 128 258 ∷ node 129 258 ∷ node 130 258 ∷ node 131 258 ∷ node
 
 -- ---- records
 
-pub record-written : nodeRecord (node 200 258) ≡ entry 200 2
-unfolding nodeRecord nodeFields bytes_of
-record-written = refl
+pub record_written : node_record (node 200 258) ≡ entry 200 2
+unfolding node_record node_fields bytes_of
+record_written = refl
 
-pub record-read : recordNode (entry 200 2) ≡ node 200 258
-unfolding recordNode number_of
-record-read = refl
+pub record_read : record_node (entry 200 2) ≡ node 200 258
+unfolding record_node number_of
+record_read = refl
 
 -- ---- buckets
 
-pub buckets-stand : bucketAt small 0 ∷ bucketAt small 1 ∷ [] ≡ bucket0 ∷ bucket1 ∷ []
-unfolding bucketAt
-buckets-stand = refl
+pub buckets_stand : bucket_at small 0 ∷ bucket_at small 1 ∷ [] ≡ bucket0 ∷ bucket1 ∷ []
+unfolding bucket_at
+buckets_stand = refl
 
 -- a bucket's nodes in the order in which it lists them, and those of one bucket behind those of the one before
-pub nodes-in-order : bucketNodes bucket0 ≡ node 150 259 ∷ node 200 258 ∷ []
-unfolding bucketNodes recordNode recordAt listed number_of
-nodes-in-order = refl
+pub nodes_in_order : bucket_nodes bucket0 ≡ node 150 259 ∷ node 200 258 ∷ []
+unfolding bucket_nodes record_node record_at listed number_of
+nodes_in_order = refl
 
-pub nodes-of-both : heldBelow small 2 ≡ node 150 259 ∷ node 200 258 ∷ node 100 260 ∷ []
-unfolding heldBelow bucketAt bucketNodes recordNode recordAt listed number_of
-nodes-of-both = refl
+pub nodes_of_both : held_below small 2 ≡ node 150 259 ∷ node 200 258 ∷ node 100 260 ∷ []
+unfolding held_below bucket_at bucket_nodes record_node record_at listed number_of
+nodes_of_both = refl
 
 -- what stands behind a bucket and before it stays
-pub bucket-replaced : withBucket small 0 bucket1 ≡ base ++ (bucket1 ++ bucket1)
-unfolding withBucket
-bucket-replaced = refl
+pub bucket_replaced : with_bucket small 0 bucket1 ≡ base ++ (bucket1 ++ bucket1)
+unfolding with_bucket
+bucket_replaced = refl
 
 -- ---- the leading bits
 
-pub buckets-of : bucketOf base (key 200) ∷ bucketOf base (key 100) ∷ bucketOf base (key 1) ∷ bucketOf base base ∷ [] ≡ 0 ∷ 1 ∷ 7 ∷ 256 ∷ []
-unfolding sharedBits alike bits bits_of
-buckets-of = refl
+pub buckets_of : bucket_of base (key 200) ∷ bucket_of base (key 100) ∷ bucket_of base (key 1) ∷ bucket_of base base ∷ [] ≡ 0 ∷ 1 ∷ 7 ∷ 256 ∷ []
+unfolding shared_bits alike bits bits_of
+buckets_of = refl
 
-pub belongs-there : belongs base 1 (node 100 260) ≡ true
-unfolding belongs knownFamily sharedBits alike bits bits_of
-belongs-there = refl
+pub belongs_there : belongs base 1 (node 100 260) ≡ true
+unfolding belongs known_family shared_bits alike bits bits_of
+belongs_there = refl
 
-pub belongs-elsewhere : belongs base 0 (node 100 260) ≡ false
-unfolding belongs sharedBits alike bits bits_of
-belongs-elsewhere = refl
+pub belongs_elsewhere : belongs base 0 (node 100 260) ≡ false
+unfolding belongs shared_bits alike bits bits_of
+belongs_elsewhere = refl
 
-pub belongs-unknown : belongs base 1 (record { family = 3; address = address; port = 260; key = record { 0 = key 100 } }) ≡ false
-unfolding belongs knownFamily sharedBits alike bits bits_of
-belongs-unknown = refl
+pub belongs_unknown : belongs base 1 (record { family = 3; address = address; port = 260; key = record { 0 = key 100 } }) ≡ false
+unfolding belongs known_family shared_bits alike bits bits_of
+belongs_unknown = refl
 
 -- ---- whole
 
-pub both-whole : wholeBelow small 2 ≡ true
-unfolding wholeBelow bucketWhole allBelong belongs knownFamily sharedBits alike bits bits_of bucketAt bucketNodes recordNode recordAt listed isTable fitsTable tableWhole rising risingAfter key_at keyBefore
-both-whole = refl
+pub both_whole : whole_below small 2 ≡ true
+unfolding whole_below bucket_whole all_belong belongs known_family shared_bits alike bits bits_of bucket_at bucket_nodes record_node record_at listed is_table fits_table table_whole rising rising_after key_at key_before
+both_whole = refl
 
 -- "20 for buckets that hold a wrong, doubled or base key"
-pub wrong-key : bucketWhole base 1 bucket0 ≡ false
-unfolding bucketWhole allBelong belongs sharedBits alike bits bits_of bucketNodes recordNode recordAt listed isTable fitsTable tableWhole rising risingAfter key_at keyBefore
-wrong-key = refl
+pub wrong_key : bucket_whole base 1 bucket0 ≡ false
+unfolding bucket_whole all_belong belongs shared_bits alike bits bits_of bucket_nodes record_node record_at listed is_table fits_table table_whole rising rising_after key_at key_before
+wrong_key = refl
 
-pub doubled-key : bucketWhole base 0 (2 ∷ 1 ∷ 1 ∷ drop 3 bucket0) ≡ false
-unfolding bucketWhole isTable fitsTable tableWhole listed rising risingAfter key_at keyBefore
-doubled-key = refl
+pub doubled_key : bucket_whole base 0 (2 ∷ 1 ∷ 1 ∷ drop 3 bucket0) ≡ false
+unfolding bucket_whole is_table fits_table table_whole listed rising rising_after key_at key_before
+doubled_key = refl
 
 -- the base key shares 256 bits with itself, and the last bucket is 255
-pub base_key : bucketWhole (key 100) 255 bucket1 ≡ false
-unfolding bucketWhole allBelong belongs sharedBits alike bits bits_of bucketNodes recordNode recordAt listed isTable fitsTable tableWhole rising risingAfter
+pub base_key : bucket_whole (key 100) 255 bucket1 ≡ false
+unfolding bucket_whole all_belong belongs shared_bits alike bits bits_of bucket_nodes record_node record_at listed is_table fits_table table_whole rising rising_after
 base_key = refl
 
-pub short-not-whole : bucketsWhole small ≡ false
-unfolding bucketsWhole
-short-not-whole = refl
+pub short_not_whole : buckets_whole small ≡ false
+unfolding buckets_whole
+short_not_whole = refl
 
 -- ---- what an offer does
 
-pub effect-added : takenBy (node 130 261) (bucketNodes bucket0) ≡ added
-unfolding takenBy holds sameKey bucketNodes recordNode recordAt listed
-effect-added = refl
+pub effect_added : taken_by (node 130 261) (bucket_nodes bucket0) ≡ added
+unfolding taken_by holds same_key bucket_nodes record_node record_at listed
+effect_added = refl
 
-pub effect-replaced : takenBy (node 200 261) (bucketNodes bucket0) ≡ replaced
-unfolding takenBy holds sameKey bucketNodes recordNode recordAt listed
-effect-replaced = refl
+pub effect_replaced : taken_by (node 200 261) (bucket_nodes bucket0) ≡ replaced
+unfolding taken_by holds same_key bucket_nodes record_node record_at listed
+effect_replaced = refl
 
 -- "a full bucket takes no new key; a held key has its node replaced"
-pub effect-full : takenBy (node 200 261) eight ≡ full
-unfolding takenBy holds sameKey
-effect-full = refl
+pub effect_full : taken_by (node 200 261) eight ≡ full
+unfolding taken_by holds same_key
+effect_full = refl
 
-pub effect-full-held : takenBy (node 131 261) eight ≡ replaced
-unfolding takenBy holds sameKey
-effect-full-held = refl
+pub effect_full_held : taken_by (node 131 261) eight ≡ replaced
+unfolding taken_by holds same_key
+effect_full_held = refl
 
 -- seven leave room
-pub effect-seven : takenBy (node 200 261) (drop 1 eight) ≡ added
-unfolding takenBy holds sameKey
-effect-seven = refl
+pub effect_seven : taken_by (node 200 261) (drop 1 eight) ≡ added
+unfolding taken_by holds same_key
+effect_seven = refl
 
-pub effect-base : bucketEffect base (node 0 261) (bucketNodes bucket0) ≡ baseKey
-unfolding bucketEffect sameKey
-effect-base = refl
+pub effect_base : bucket_effect base (node 0 261) (bucket_nodes bucket0) ≡ base_key
+unfolding bucket_effect same_key
+effect_base = refl
 
 -- the bucket asked is that of the key
-pub effects-on : effectOn small (node 100 261) ∷ effectOn small (node 101 261) ∷ effectOn small (node 150 261) ∷ effectOn small (node 0 261) ∷ []
-    ≡ replaced ∷ added ∷ replaced ∷ baseKey ∷ []
-unfolding effectOn bucketEffect takenBy holds sameKey sharedBits alike bits bits_of bucketAt bucketNodes recordNode recordAt listed
-effects-on = refl
+pub effects_on : effect_on small (node 100 261) ∷ effect_on small (node 101 261) ∷ effect_on small (node 150 261) ∷ effect_on small (node 0 261) ∷ []
+    ≡ replaced ∷ added ∷ replaced ∷ base_key ∷ []
+unfolding effect_on bucket_effect taken_by holds same_key shared_bits alike bits bits_of bucket_at bucket_nodes record_node record_at listed
+effects_on = refl
 
-pub kept-which : isKept added ∷ isKept replaced ∷ isKept full ∷ isKept baseKey ∷ [] ≡ true ∷ true ∷ false ∷ false ∷ []
-unfolding isKept
-kept-which = refl
+pub kept_which : is_kept added ∷ is_kept replaced ∷ is_kept full ∷ is_kept base_key ∷ [] ≡ true ∷ true ∷ false ∷ false ∷ []
+unfolding is_kept
+kept_which = refl
 
 -- ---- what it leaves
 
 -- put in place 2, the lowest that is free, and listed first, by its key
-pub after-added : bucketAfter added (node 130 261) bucket0
+pub after_added : bucket_after added (node 130 261) bucket0
     ≡ 3 ∷ 2 ∷ 1 ∷ 0 ∷ (replicate 5 0 ++ (entry 200 2 ++ (entry 150 3 ++ (entry 130 5 ++ replicate 255 0))))
-unfolding bucketAfter put_in mayPut put fitsTable entered leading listed key_at keyBefore lowestFree lowest member nodeRecord nodeFields bytes_of
-after-added = refl
+unfolding bucket_after put_in may_put put fits_table entered leading listed key_at key_before lowest_free lowest member node_record node_fields bytes_of
+after_added = refl
 
 -- of place 0 all behind the key is another: the family, the 16 address bytes and the port
-pub after-replaced : bucketAfter replaced other bucket0
+pub after_replaced : bucket_after replaced other bucket0
     ≡ 2 ∷ 1 ∷ 0 ∷ (replicate 6 0 ++ (key 200 ++ (10 ∷ (replicate 16 7 ++ (1 ∷ 5 ∷ (entry 150 3 ++ replicate 306 0))))))
-unfolding bucketAfter overwrittenIn mayOverwrite refilled fitsTable listed member found findKey key_at sameKey nodeFields bytes_of
-after-replaced = refl
+unfolding bucket_after overwritten_in may_overwrite refilled fits_table listed member found find_key key_at same_key node_fields bytes_of
+after_replaced = refl
 
-pub after-full : bucketAfter full (node 130 261) bucket0 ≡ bucket0
-unfolding bucketAfter
-after-full = refl
+pub after_full : bucket_after full (node 130 261) bucket0 ≡ bucket0
+unfolding bucket_after
+after_full = refl
 
-pub after-base : bucketAfter baseKey (node 0 261) bucket0 ≡ bucket0
-unfolding bucketAfter
-after-base = refl
+pub after_base : bucket_after base_key (node 0 261) bucket0 ≡ bucket0
+unfolding bucket_after
+after_base = refl
 
 -- the bucket of the key alone is changed
-pub memory-replaced : memoryAfter replaced small (node 100 261) ≡ base ++ (bucket0 ++ (1 ∷ 0 ∷ (replicate 7 0 ++ (entry 100 5 ++ replicate 357 0))))
-unfolding memoryAfter isKept withBucket bucketAfter overwrittenIn mayOverwrite refilled fitsTable listed member found findKey key_at sameKey nodeFields bytes_of sharedBits alike bits bits_of bucketAt
-memory-replaced = refl
+pub memory_replaced : memory_after replaced small (node 100 261) ≡ base ++ (bucket0 ++ (1 ∷ 0 ∷ (replicate 7 0 ++ (entry 100 5 ++ replicate 357 0))))
+unfolding memory_after is_kept with_bucket bucket_after overwritten_in may_overwrite refilled fits_table listed member found find_key key_at same_key node_fields bytes_of shared_bits alike bits bits_of bucket_at
+memory_replaced = refl
 
-pub memory-base : memoryAfter baseKey small (node 0 261) ≡ small
-unfolding memoryAfter isKept
-memory-base = refl
+pub memory_base : memory_after base_key small (node 0 261) ≡ small
+unfolding memory_after is_kept
+memory_base = refl
 
 -- ---- the question: the distances to the key 101 are 1 for 100, 173 for 200 and 243 for 150, at the highest byte
 
-pub nearest-of-three : nearestHeld small (key 101) ≡ node 100 260 ∷ node 200 258 ∷ node 150 259 ∷ []
-unfolding nearestHeld heldNodes heldBelow bucketAt bucketNodes recordNode recordAt listed insert nearer distance xorBytes number_of
-nearest-of-three = refl
+pub nearest_of_three : nearest_held small (key 101) ≡ node 100 260 ∷ node 200 258 ∷ node 150 259 ∷ []
+unfolding nearest_held held_nodes held_below bucket_at bucket_nodes record_node record_at listed insert nearer distance xor_bytes number_of
+nearest_of_three = refl
 
 -- written nearest first: of the address the 4 bytes that the family uses
 abbrev packed : ℕ → ℕ → List ℕ
 packed first low = 2 ∷ 127 ∷ 0 ∷ 0 ∷ 1 ∷ 1 ∷ low ∷ key first
 
-pub answer-of-three : answerBytes small (key 101) ≡ packed 100 4 ++ (packed 200 2 ++ packed 150 3)
-unfolding answerBytes packedNodes packedNode infoOf addressLength bytes_of nearestHeld heldNodes heldBelow bucketAt bucketNodes recordNode recordAt listed insert nearer distance xorBytes number_of
-answer-of-three = refl
+pub answer_of_three : answer_bytes small (key 101) ≡ packed 100 4 ++ (packed 200 2 ++ packed 150 3)
+unfolding answer_bytes packed_nodes packed_node info_of address_length bytes_of nearest_held held_nodes held_below bucket_at bucket_nodes record_node record_at listed insert nearer distance xor_bytes number_of
+answer_of_three = refl
 
 -- ---- refusals: memory too short for buckets
 
-pub begun-short : begunAnswer small ≡ answer.Refused OutputTooShort
-unfolding begunAnswer
-begun-short = refl
+pub begun_short : begun_answer small ≡ answer.Refused OutputTooShort
+unfolding begun_answer
+begun_short = refl
 
-pub begun-leaves : begunMemory (record { 0 = key 9 }) small ≡ small
-unfolding begunMemory
-begun-leaves = refl
+pub begun_leaves : begun_memory (record { 0 = key 9 }) small ≡ small
+unfolding begun_memory
+begun_leaves = refl
 
-pub offer-refused : offerAnswered small (node 130 261) ≡ offer.Refused BucketsNotWhole
-unfolding offerAnswered bucketsWhole
-offer-refused = refl
+pub offer_refused : offer_answered small (node 130 261) ≡ offer.Refused BucketsNotWhole
+unfolding offer_answered buckets_whole
+offer_refused = refl
 
-pub offer-leaves : offerLeft small (node 130 261) ≡ small
-unfolding offerLeft bucketsWhole
-offer-leaves = refl
+pub offer_leaves : offer_left small (node 130 261) ≡ small
+unfolding offer_left buckets_whole
+offer_leaves = refl
 
-pub question-refused : nearestAnswered small (key 101) [] ≡ written.Refused BucketsNotWhole
-unfolding nearestAnswered bucketsWhole
-question-refused = refl
+pub question_refused : nearest_answered small (key 101) [] ≡ written.Refused BucketsNotWhole
+unfolding nearest_answered buckets_whole
+question_refused = refl
 
-pub question-leaves : nearestLeft small (key 101) (7 ∷ []) ≡ 7 ∷ []
-unfolding nearestLeft bucketsWhole
-question-leaves = refl
+pub question_leaves : nearest_left small (key 101) (7 ∷ []) ≡ 7 ∷ []
+unfolding nearest_left buckets_whole
+question_leaves = refl

@@ -9,32 +9,32 @@ use borrow.Author.Tests.{eq-eqb}
 use Rattle.lists.specs.Find.{member}
 use Rattle.lists.proofs.Members.{Distinct}
 use Rattle.node.specs.declared.Node.{Node}
-use Rattle.nearest.specs.Lists.{nodeKey}
+use Rattle.nearest.specs.Lists.{node_key}
 use Rattle.nearest.specs.Sequence.{In}
-use Rattle.nearest.proofs.Members.{free_in, in-free}
+use Rattle.nearest.proofs.Members.{free_in, in_free}
 use Rattle.nearest_first.specs.NearestFirst.{Apart}
 use Rattle.table_laws.proofs.KeyOrder.{clash}
 use Rattle.buckets_laws.proofs.NodeLists.{in_either, in_place}
 
 -- no key stands twice in either, and none in both
-pub apart-append : (a b : List Node) → Apart a → Apart b → ((x y : Node) → In x a → In y b → nodeKey x ≡ nodeKey y → ⊥) → Apart (a ++ b)
-apart-append [] b p q d = q
-apart-append (n ∷ a) b p q d = (
-  in-free (nodeKey n) (a ++ b)
-      (λ x i e. ⊎_elim (λ (j : In x a). free_in (nodeKey n) a p.0 x j e) (λ (j : In x b). d n x (inl refl) j (sym e)) (in_either a b x i)),
-  apart-append a b p.1 q (λ x y i j. d x y (inr i) j),
+pub apart_append : (a b : List Node) → Apart a → Apart b → ((x y : Node) → In x a → In y b → node_key x ≡ node_key y → ⊥) → Apart (a ++ b)
+apart_append [] b p q d = q
+apart_append (n ∷ a) b p q d = (
+  in_free (node_key n) (a ++ b)
+      (λ x i e. ⊎_elim (λ (j : In x a). free_in (node_key n) a p.0 x j e) (λ (j : In x b). d n x (inl refl) j (sym e)) (in_either a b x i)),
+  apart_append a b p.1 q (λ x y i j. d x y (inr i) j),
 )
 
 -- each place stands once, and a key tells its place
-pub apart-places : (g : ℕ → Node) (xs : List ℕ) → Distinct xs
-    → ((x y : ℕ) → member x xs ≡ true → member y xs ≡ true → nodeKey (g x) ≡ nodeKey (g y) → x ≡ y) → Apart (map g xs)
+pub apart_places : (g : ℕ → Node) (xs : List ℕ) → Distinct xs
+    → ((x y : ℕ) → member x xs ≡ true → member y xs ≡ true → node_key (g x) ≡ node_key (g y) → x ≡ y) → Apart (map g xs)
 unfolding member
-apart-places g [] d same = tt
-apart-places g (x ∷ xs) d same = (
-  in-free (nodeKey (g x)) (map g xs)
+apart_places g [] d same = tt
+apart_places g (x ∷ xs) d same = (
+  in_free (node_key (g x)) (map g xs)
       (λ q i e.
       let w = in_place g xs q i in
-      let s : x ≡ w.0 = same x w.0 (rw (eq-eqb x x refl)) (rw (w.1, or-true (eqb x w.0))) (sym e ∙ ap nodeKey w.2) in
+      let s : x ≡ w.0 = same x w.0 (rw (eq-eqb x x refl)) (rw (w.1, or-true (eqb x w.0))) (sym e ∙ ap node_key w.2) in
       clash (ap (λ (y : ℕ). member y xs) s ∙ w.1) d.0),
-  apart-places g xs d.1 (λ y z i j. same y z (rw (i, or-true (eqb x y))) (rw (j, or-true (eqb x z)))),
+  apart_places g xs d.1 (λ y z i j. same y z (rw (i, or-true (eqb x y))) (rw (j, or-true (eqb x z)))),
 )

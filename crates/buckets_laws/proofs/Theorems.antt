@@ -1,10 +1,10 @@
 -- Buckets over any calls:
 --
 --   - the answer to a question on whole buckets is the node list of what a nearest list of size 4 holds to which every held node was offered
---     (`answers-as-a-list`). It is written where it has room (`answer-written`, `answer-no-room`), and walking over what was written shows just these nodes
---     (`answer-read-back`). Buckets that are not whole are refused (`answer-not-whole`);
---   - memory in which buckets were begun, and which only offers changed, is whole and keeps its base key (`reached-whole`). So no offer and no question on
---     it is refused with 20 (`offer-never-refused`, `question-never-refused`), and an offer of known family is answered yes or no (`offer-answered`).
+--     (`answers_as_a_list`). It is written where it has room (`answer_written`, `answer_no_room`), and walking over what was written shows just these nodes
+--     (`answer_read_back`). Buckets that are not whole are refused (`answer_not_whole`);
+--   - memory in which buckets were begun, and which only offers changed, is whole and keeps its base key (`reached_whole`). So no offer and no question on
+--     it is refused with 20 (`offer_never_refused`, `question_never_refused`), and an offer of known family is answered yes or no (`offer_answered`).
 --
 -- Assumes nothing.
 use mathlib.Core.Path.{◌≡◌, ◌∙◌, refl, sym, ap, ap₂}
@@ -23,64 +23,64 @@ use Rattle.key.specs.declared.Key.{Key}
 use Rattle.node.specs.declared.Node.{Node}
 use Rattle.node.specs.declared.writer.Written.{Written}
 use Rattle.node.specs.declared.writer.Written.TheVariants as written
-use Rattle.node.specs.Families.{knownFamily}
-use Rattle.node.specs.Values.{infoOf}
-use Rattle.node.specs.Walks.{Walk, ended, walkFrom, packedNodes}
+use Rattle.node.specs.Families.{known_family}
+use Rattle.node.specs.Values.{info_of}
+use Rattle.node.specs.Walks.{Walk, ended, walk_from, packed_nodes}
 use Rattle.nearest.specs.declared.OfferAnswer.{OfferAnswer}
 use Rattle.nearest.specs.declared.OfferAnswer.TheVariants as offer
 use Rattle.nearest.specs.Lists.{held}
-use Rattle.nearest.specs.Calls.{begun, offerAnswer}
+use Rattle.nearest.specs.Calls.{begun, offer_answer}
 use Rattle.nearest.specs.Sequence.{offers, Nearest}
-use Rattle.nearest_first.proofs.SameAsOffers.{nearest-of-is-nearest, offers-hold-nearest-of}
-use Rattle.buckets_laws.specs.Layout.{base_of, heldNodes}
-use Rattle.buckets_laws.specs.Whole.{bucketsWhole}
-use Rattle.buckets_laws.specs.Effect.{effectOn, isKept}
-use Rattle.buckets_laws.specs.Calls.{Offers, nearestHeld, answerBytes, nearestAnswered, nearestLeft, Asks}
+use Rattle.nearest_first.proofs.SameAsOffers.{nearest_of_is_nearest, offers_hold_nearest_of}
+use Rattle.buckets_laws.specs.Layout.{base_of, held_nodes}
+use Rattle.buckets_laws.specs.Whole.{buckets_whole}
+use Rattle.buckets_laws.specs.Effect.{effect_on, is_kept}
+use Rattle.buckets_laws.specs.Calls.{Offers, nearest_held, answer_bytes, nearest_answered, nearest_left, Asks}
 use Rattle.buckets_laws.specs.Sequence.{Reached, begins, offering}
-use Rattle.buckets_laws.proofs.HeldLaws.{held-keyed, held-known, held-apart}
-use Rattle.buckets_laws.proofs.BeginLaws.{begin-base, begin-bytes, begin-whole}
-use Rattle.buckets_laws.proofs.AnswerLaws.{answer-few, answer-walks}
-use Rattle.buckets_laws.proofs.OfferWays.{known-answer}
-use Rattle.buckets_laws.proofs.OfferLaws.{offer-keeps-whole, offer-keeps-base, offer-keeps-bytes, unknown-refused}
+use Rattle.buckets_laws.proofs.HeldLaws.{held_keyed, held_known, held_apart}
+use Rattle.buckets_laws.proofs.BeginLaws.{begin_base, begin_bytes, begin_whole}
+use Rattle.buckets_laws.proofs.AnswerLaws.{answer_few, answer_walks}
+use Rattle.buckets_laws.proofs.OfferWays.{known_answer}
+use Rattle.buckets_laws.proofs.OfferLaws.{offer_keeps_whole, offer_keeps_base, offer_keeps_bytes, unknown_refused}
 
 -- ---- a question
 
 module _ {target : Key} {memory out left : List ℕ} {said : Written} (is : Asks target memory out left said) where
-  module _ (whole : bucketsWhole memory ≡ true) where
-    nearest-as-a-list : nearestHeld memory target.0 ≡ held (offers (begun target 4).list (heldNodes memory))
-    unfolding nearestHeld
-    nearest-as-a-list =
-        sym (offers-hold-nearest-of target 4 (omega arith) (omega arith) is.key (heldNodes memory)
-        (held-keyed memory whole is.bytes) (held-known memory whole) (held-apart memory whole))
+  module _ (whole : buckets_whole memory ≡ true) where
+    nearest_as_a_list : nearest_held memory target.0 ≡ held (offers (begun target 4).list (held_nodes memory))
+    unfolding nearest_held
+    nearest_as_a_list =
+        sym (offers_hold_nearest_of target 4 (omega arith) (omega arith) is.key (held_nodes memory)
+        (held_keyed memory whole is.bytes) (held_known memory whole) (held_apart memory whole))
 
     -- THE THEOREM: the answer is what a nearest list of size 4 holds to which every held node was offered, nearest first, as a node list
-    pub answers-as-a-list : answerBytes memory target.0 ≡ packedNodes (map infoOf (held (offers (begun target 4).list (heldNodes memory))))
-    unfolding answerBytes
-    answers-as-a-list = ap (λ (ns : List Node). packedNodes (map infoOf ns)) nearest-as-a-list
+    pub answers_as_a_list : answer_bytes memory target.0 ≡ packed_nodes (map info_of (held (offers (begun target 4).list (held_nodes memory))))
+    unfolding answer_bytes
+    answers_as_a_list = ap (λ (ns : List Node). packed_nodes (map info_of ns)) nearest_as_a_list
 
     -- of the held nodes those are the 4 nearest in document 01's sense: no key twice, nearest first, and each that is left out is further than all of them
-    pub answer-nearest : Nearest target.0 4 (heldNodes memory) (nearestHeld memory target.0)
-    unfolding nearestHeld
-    answer-nearest = nearest-of-is-nearest target.0 (heldNodes memory) is.key (held-keyed memory whole is.bytes) (held-apart memory whole) 4
+    pub answer_nearest : Nearest target.0 4 (held_nodes memory) (nearest_held memory target.0)
+    unfolding nearest_held
+    answer_nearest = nearest_of_is_nearest target.0 (held_nodes memory) is.key (held_keyed memory whole is.bytes) (held_apart memory whole) 4
 
-    pub answer-written : length (answerBytes memory target.0) ≤ length out
-        → (said ≡ written.Bytes (length (answerBytes memory target.0)))
-        × (left ≡ answerBytes memory target.0 ++ drop (length (answerBytes memory target.0)) out)
-    unfolding nearestAnswered nearestLeft
-    answer-written h = let l = le-leb (length (answerBytes memory target.0)) (length out) h in (is.answers ∙ simp (whole, l), is.leaves ∙ simp (whole, l))
+    pub answer_written : length (answer_bytes memory target.0) ≤ length out
+        → (said ≡ written.Bytes (length (answer_bytes memory target.0)))
+        × (left ≡ answer_bytes memory target.0 ++ drop (length (answer_bytes memory target.0)) out)
+    unfolding nearest_answered nearest_left
+    answer_written h = let l = le-leb (length (answer_bytes memory target.0)) (length out) h in (is.answers ∙ simp (whole, l), is.leaves ∙ simp (whole, l))
 
     -- no answer is longer than 204 bytes, so these are always enough
-    pub answer-in-204 : 204 ≤ length out → said ≡ written.Bytes (length (answerBytes memory target.0))
-    answer-in-204 h = let f = answer-few memory whole is.bytes target.0 in (answer-written (omega arith)).0
+    pub answer_in_204 : 204 ≤ length out → said ≡ written.Bytes (length (answer_bytes memory target.0))
+    answer_in_204 h = let f = answer_few memory whole is.bytes target.0 in (answer_written (omega arith)).0
 
     -- 10 goes by the exact length
-    pub answer-no-room : length out < length (answerBytes memory target.0) → (said ≡ written.Refused OutputTooShort) × (left ≡ out)
-    unfolding nearestAnswered nearestLeft
-    answer-no-room h = let l = lt-leb (length (answerBytes memory target.0)) (length out) h in (is.answers ∙ simp (whole, l), is.leaves ∙ simp (whole, l))
+    pub answer_no_room : length out < length (answer_bytes memory target.0) → (said ≡ written.Refused OutputTooShort) × (left ≡ out)
+    unfolding nearest_answered nearest_left
+    answer_no_room h = let l = lt-leb (length (answer_bytes memory target.0)) (length out) h in (is.answers ∙ simp (whole, l), is.leaves ∙ simp (whole, l))
 
     -- the bytes that the answer counts are the node list
-    pub answer-front : (size : ℕ) → said ≡ written.Bytes size → take size left ≡ answerBytes memory target.0
-    answer-front size e = go (answerBytes memory target.0) answer-written answer-no-room (leb (length (answerBytes memory target.0)) (length out)) refl
+    pub answer_front : (size : ℕ) → said ≡ written.Bytes size → take size left ≡ answer_bytes memory target.0
+    answer_front size e = go (answer_bytes memory target.0) answer_written answer_no_room (leb (length (answer_bytes memory target.0)) (length out)) refl
       where
         go : (list : List ℕ) → (length list ≤ length out → (said ≡ written.Bytes (length list)) × (left ≡ list ++ drop (length list) out))
             → (length out < length list → (said ≡ written.Refused OutputTooShort) × (left ≡ out)) → (t : Bool) → leb (length list) (length out) ≡ t
@@ -96,69 +96,69 @@ module _ {target : Key} {memory out left : List ℕ} {said : Written} (is : Asks
             absurd (omega arith)
 
     -- so a walk over them shows these nodes and says end
-    pub answer-read-back : (size : ℕ) → said ≡ written.Bytes size
-        → walkFrom 5 (take size left) 0 0 ≡ record { nodes = map infoOf (held (offers (begun target 4).list (heldNodes memory))); ending = ended }
-    answer-read-back size e =
-        ap (λ (list : List ℕ). walkFrom 5 list 0 0) (answer-front size e) ∙ answer-walks memory whole is.bytes target.0 5 (omega arith)
-        ∙ ap {B = Walk} (λ (ns : List Node). record { nodes = map infoOf ns; ending = ended }) nearest-as-a-list
+    pub answer_read_back : (size : ℕ) → said ≡ written.Bytes size
+        → walk_from 5 (take size left) 0 0 ≡ record { nodes = map info_of (held (offers (begun target 4).list (held_nodes memory))); ending = ended }
+    answer_read_back size e =
+        ap (λ (list : List ℕ). walk_from 5 list 0 0) (answer_front size e) ∙ answer_walks memory whole is.bytes target.0 5 (omega arith)
+        ∙ ap {B = Walk} (λ (ns : List Node). record { nodes = map info_of ns; ending = ended }) nearest_as_a_list
 
-  pub answer-not-whole : bucketsWhole memory ≡ false → (said ≡ written.Refused BucketsNotWhole) × (left ≡ out)
-  unfolding nearestAnswered nearestLeft
-  answer-not-whole broken = (is.answers ∙ simp broken, is.leaves ∙ simp broken)
+  pub answer_not_whole : buckets_whole memory ≡ false → (said ≡ written.Refused BucketsNotWhole) × (left ≡ out)
+  unfolding nearest_answered nearest_left
+  answer_not_whole broken = (is.answers ∙ simp broken, is.leaves ∙ simp broken)
 
 -- ---- memory that buckets were begun in
 
-pub reached-whole : {base : Key} {m : List ℕ} → Reached base m → (bucketsWhole m ≡ true) × (base_of m ≡ base.0)
-reached-whole (begins is) = (begin-whole is, begin-base is)
-reached-whole (offering before n said is) =
-    let w = reached-whole before in
-    (offer-keeps-whole is w.0, offer-keeps-base is ∙ w.1)
+pub reached_whole : {base : Key} {m : List ℕ} → Reached base m → (buckets_whole m ≡ true) × (base_of m ≡ base.0)
+reached_whole (begins is) = (begin_whole is, begin_base is)
+reached_whole (offering before n said is) =
+    let w = reached_whole before in
+    (offer_keeps_whole is w.0, offer_keeps_base is ∙ w.1)
 
-pub reached-bytes : {base : Key} {m : List ℕ} → Reached base m → Bytes m
-reached-bytes (begins is) = begin-bytes is
-reached-bytes (offering before n said is) = offer-keeps-bytes is
+pub reached_bytes : {base : Key} {m : List ℕ} → Reached base m → Bytes m
+reached_bytes (begins is) = begin_bytes is
+reached_bytes (offering before n said is) = offer_keeps_bytes is
 
 -- ---- an offer to it
 
-kept_or_not : (b : Bool) → (offerAnswer b ≡ offer.Kept) ⊎ (offerAnswer b ≡ offer.NotKept)
-unfolding offerAnswer
+kept_or_not : (b : Bool) → (offer_answer b ≡ offer.Kept) ⊎ (offer_answer b ≡ offer.NotKept)
+unfolding offer_answer
 kept_or_not true = inl refl
 kept_or_not false = inr refl
 
 module _ {base : Key} {memory left : List ℕ} {n : Node} {said : OfferAnswer} (reached : Reached base memory) (is : Offers n memory left said) where
-  pub offer-answered : knownFamily n.family ≡ true → (said ≡ offer.Kept) ⊎ (said ≡ offer.NotKept)
-  offer-answered k =
-      go (offerAnswer (isKept (effectOn memory n))) (is.answers ∙ known-answer memory n (reached-whole reached).0 k)
-      (kept_or_not (isKept (effectOn memory n)))
+  pub offer_answered : known_family n.family ≡ true → (said ≡ offer.Kept) ⊎ (said ≡ offer.NotKept)
+  offer_answered k =
+      go (offer_answer (is_kept (effect_on memory n))) (is.answers ∙ known_answer memory n (reached_whole reached).0 k)
+      (kept_or_not (is_kept (effect_on memory n)))
     where
       go : (a : OfferAnswer) → said ≡ a → (a ≡ offer.Kept) ⊎ (a ≡ offer.NotKept) → (said ≡ offer.Kept) ⊎ (said ≡ offer.NotKept)
       go a e (inl p) = inl (e ∙ p)
       go a e (inr p) = inr (e ∙ p)
 
   -- not even one of unknown family, which gets 15
-  pub offer-never-refused : said ≡ offer.Refused BucketsNotWhole → ⊥
-  offer-never-refused e = go (knownFamily n.family) refl
+  pub offer_never_refused : said ≡ offer.Refused BucketsNotWhole → ⊥
+  offer_never_refused e = go (known_family n.family) refl
     where
       answered : (said ≡ offer.Kept) ⊎ (said ≡ offer.NotKept) → ⊥
       answered (inl p) = let z : ◌≡◌ {A = ℕ} 0 1 = cc in omega arith
       answered (inr p) = let z : ◌≡◌ {A = ℕ} 0 1 = cc in omega arith
 
-      go : (t : Bool) → knownFamily n.family ≡ t → ⊥
-      go true k = answered (offer-answered k)
-      go false k = let p = (unknown-refused is (reached-whole reached).0 k).1 in let z : ◌≡◌ {A = ℕ} 0 1 = cc in omega arith
+      go : (t : Bool) → known_family n.family ≡ t → ⊥
+      go true k = answered (offer_answered k)
+      go false k = let p = (unknown_refused is (reached_whole reached).0 k).1 in let z : ◌≡◌ {A = ℕ} 0 1 = cc in omega arith
 
 -- ---- a question on it
 
-pub question-never-refused : {base target : Key} {memory out left : List ℕ} {said : Written} → Reached base memory → Asks target memory out left said
+pub question_never_refused : {base target : Key} {memory out left : List ℕ} {said : Written} → Reached base memory → Asks target memory out left said
     → said ≡ written.Refused BucketsNotWhole → ⊥
-question-never-refused {target = target} {memory = memory} {out = out} reached is e = go (leb (length (answerBytes memory target.0)) (length out)) refl
+question_never_refused {target = target} {memory = memory} {out = out} reached is e = go (leb (length (answer_bytes memory target.0)) (length out)) refl
   where
-    go : (t : Bool) → leb (length (answerBytes memory target.0)) (length out) ≡ t → ⊥
+    go : (t : Bool) → leb (length (answer_bytes memory target.0)) (length out) ≡ t → ⊥
     go true l =
-        let p = (answer-written is (reached-whole reached).0 (leb-true (length (answerBytes memory target.0)) (length out) l)).0 in
+        let p = (answer_written is (reached_whole reached).0 (leb-true (length (answer_bytes memory target.0)) (length out) l)).0 in
         let z : ◌≡◌ {A = ℕ} 0 1 = cc in
         omega arith
     go false l =
-        let p = (answer-no-room is (reached-whole reached).0 (leb-false (length (answerBytes memory target.0)) (length out) l)).0 in
+        let p = (answer_no_room is (reached_whole reached).0 (leb-false (length (answer_bytes memory target.0)) (length out) l)).0 in
         let z : ◌≡◌ {A = ℕ} 0 1 = cc in
         omega arith

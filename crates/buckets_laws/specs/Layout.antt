@@ -7,98 +7,98 @@
 use Rattle.std.specs.Prelude.{List, [], ◌∷◌, ◌++◌, map, ℕ, zero, suc, ◌+◌, ◌*◌, get_or, take, drop}
 use Rattle.wire.specs.Numbers.{number_of, bytes_of}
 use Rattle.node.specs.declared.Node.{Node}
-use Rattle.nearest.specs.Lists.{nodeKey}
+use Rattle.nearest.specs.Lists.{node_key}
 use Rattle.table_laws.specs.Bytes.{splice}
-use Rattle.table_laws.specs.Table.{listed, recordAt}
+use Rattle.table_laws.specs.Table.{listed, record_at}
 
 -- ---- sizes and places
 
-abbrev pub bucketNumber : ℕ
-bucketNumber = 256
+abbrev pub bucket_number : ℕ
+bucket_number = 256
 
-abbrev pub bucketSize : ℕ
-bucketSize = 8
+abbrev pub bucket_size : ℕ
+bucket_size = 8
 
-abbrev pub baseLength : ℕ
-baseLength = 32
+abbrev pub base_length : ℕ
+base_length = 32
 
-abbrev pub recordLength : ℕ
-recordLength = 51
+abbrev pub record_length : ℕ
+record_length = 51
 
 -- 1 + 8 + 8 * 51
-abbrev pub bucketLength : ℕ
-bucketLength = 417
+abbrev pub bucket_length : ℕ
+bucket_length = 417
 
 -- 32 + 256 * 417
-abbrev pub bucketsLength : ℕ
-bucketsLength = 106784
+abbrev pub buckets_length : ℕ
+buckets_length = 106784
 
 -- where a bucket begins
-abbrev pub bucketStart : ℕ → ℕ
-bucketStart b = baseLength + b * bucketLength
+abbrev pub bucket_start : ℕ → ℕ
+bucket_start b = base_length + b * bucket_length
 
 -- the 256 buckets behind the base key
-abbrev pub allBucketsLength : ℕ
-allBucketsLength = 106752
+abbrev pub all_buckets_length : ℕ
+all_buckets_length = 106752
 
 -- where the record of a place of a bucket begins
-abbrev pub recordStart : ℕ → ℕ → ℕ
-recordStart b place = bucketStart b + 9 + place * recordLength
+abbrev pub record_start : ℕ → ℕ → ℕ
+record_start b place = bucket_start b + 9 + place * record_length
 
 -- where the fields of a record stand behind its key
-abbrev pub familyPlace : ℕ
-familyPlace = 32
+abbrev pub family_place : ℕ
+family_place = 32
 
-abbrev pub addressPlace : ℕ
-addressPlace = 33
+abbrev pub address_place : ℕ
+address_place = 33
 
-abbrev pub portPlace : ℕ
-portPlace = 49
+abbrev pub port_place : ℕ
+port_place = 49
 
 -- ---- from bytes to nodes
 
 abbrev pub base_of : List ℕ → List ℕ
-base_of memory = take baseLength memory
+base_of memory = take base_length memory
 
-unfoldable pub bucketAt : List ℕ → ℕ → List ℕ
-bucketAt memory b = take bucketLength (drop (bucketStart b) memory)
+unfoldable pub bucket_at : List ℕ → ℕ → List ℕ
+bucket_at memory b = take bucket_length (drop (bucket_start b) memory)
 
 -- the node that a record is
-unfoldable pub recordNode : List ℕ → Node
-recordNode r = record {
-  family = get_or r familyPlace 0;
-  address = take 16 (drop addressPlace r);
-  port = number_of (take 2 (drop portPlace r));
+unfoldable pub record_node : List ℕ → Node
+record_node r = record {
+  family = get_or r family_place 0;
+  address = take 16 (drop address_place r);
+  port = number_of (take 2 (drop port_place r));
   key = record { 0 = take 32 r };
 }
 
 -- the nodes of a bucket, in the order in which it lists them
-unfoldable pub bucketNodes : List ℕ → List Node
-bucketNodes t = map (λ (place : ℕ). recordNode (recordAt bucketSize recordLength t place)) (listed bucketSize t)
+unfoldable pub bucket_nodes : List ℕ → List Node
+bucket_nodes t = map (λ (place : ℕ). record_node (record_at bucket_size record_length t place)) (listed bucket_size t)
 
 -- the nodes held in bucket b
-abbrev pub heldIn : List ℕ → ℕ → List Node
-heldIn memory b = bucketNodes (bucketAt memory b)
+abbrev pub held_in : List ℕ → ℕ → List Node
+held_in memory b = bucket_nodes (bucket_at memory b)
 
 -- the nodes held in the first n buckets, bucket by bucket
-unfoldable pub heldBelow : List ℕ → ℕ → List Node
-heldBelow memory zero = []
-heldBelow memory (suc b) = heldBelow memory b ++ heldIn memory b
+unfoldable pub held_below : List ℕ → ℕ → List Node
+held_below memory zero = []
+held_below memory (suc b) = held_below memory b ++ held_in memory b
 
 -- all held nodes
-unfoldable pub heldNodes : List ℕ → List Node
-heldNodes memory = heldBelow memory bucketNumber
+unfoldable pub held_nodes : List ℕ → List Node
+held_nodes memory = held_below memory bucket_number
 
 -- ---- from a node to bytes
 
 -- what a record has behind its key
-unfoldable pub nodeFields : Node → List ℕ
-nodeFields n = n.family ∷ (n.address ++ bytes_of 2 n.port)
+unfoldable pub node_fields : Node → List ℕ
+node_fields n = n.family ∷ (n.address ++ bytes_of 2 n.port)
 
 -- the record of a node: its key comes first
-unfoldable pub nodeRecord : Node → List ℕ
-nodeRecord n = nodeKey n ++ nodeFields n
+unfoldable pub node_record : Node → List ℕ
+node_record n = node_key n ++ node_fields n
 
 -- memory with the bytes of bucket b replaced
-unfoldable pub withBucket : List ℕ → ℕ → List ℕ → List ℕ
-withBucket memory b t = splice memory (bucketStart b) t bucketLength
+unfoldable pub with_bucket : List ℕ → ℕ → List ℕ → List ℕ
+with_bucket memory b t = splice memory (bucket_start b) t bucket_length

@@ -2,25 +2,25 @@
 use mathlib.Core.Path.{◌≡◌, refl}
 use Rattle.packet_laws.specs.FromClient as client
 use Rattle.packet_laws.specs.FromRelay as relay
-use Rattle.packet.specs.RelayReads.{shownClient}
-use Rattle.packet.specs.ClientReads.{shownRelay}
-use Rattle.fields.specs.Fields.{clientFields, relayFields, clientShown, relayShown}
+use Rattle.packet.specs.RelayReads.{shown_client}
+use Rattle.packet.specs.ClientReads.{shown_relay}
+use Rattle.fields.specs.Fields.{client_fields, relay_fields, client_shown, relay_shown}
 
-pub client-fields-shown : (p : client.FromClient) → clientShown (shownClient p) ≡ clientFields p
-unfolding clientShown shownClient clientFields
-client-fields-shown (client.routingRequest key) = refl
-client-fields-shown (client.dropRoute number) = refl
-client-fields-shown (client.ping n) = refl
-client-fields-shown (client.pong n) = refl
-client-fields-shown (client.oobSend key bytes) = refl
-client-fields-shown (client.routedData number bytes) = refl
+pub client_fields_shown : (p : client.FromClient) → client_shown (shown_client p) ≡ client_fields p
+unfolding client_shown shown_client client_fields
+client_fields_shown (client.routing_request key) = refl
+client_fields_shown (client.drop_route number) = refl
+client_fields_shown (client.ping n) = refl
+client_fields_shown (client.pong n) = refl
+client_fields_shown (client.oob_send key bytes) = refl
+client_fields_shown (client.routed_data number bytes) = refl
 
-pub relay-fields-shown : (p : relay.FromRelay) → relayShown (shownRelay p) ≡ relayFields p
-unfolding relayShown shownRelay relayFields
-relay-fields-shown (relay.routingResponse number key) = refl
-relay-fields-shown (relay.connectNotice number) = refl
-relay-fields-shown (relay.disconnectNotice number) = refl
-relay-fields-shown (relay.ping n) = refl
-relay-fields-shown (relay.pong n) = refl
-relay-fields-shown (relay.oobReceived key bytes) = refl
-relay-fields-shown (relay.routedData number bytes) = refl
+pub relay_fields_shown : (p : relay.FromRelay) → relay_shown (shown_relay p) ≡ relay_fields p
+unfolding relay_shown shown_relay relay_fields
+relay_fields_shown (relay.routing_response number key) = refl
+relay_fields_shown (relay.connect_notice number) = refl
+relay_fields_shown (relay.disconnect_notice number) = refl
+relay_fields_shown (relay.ping n) = refl
+relay_fields_shown (relay.pong n) = refl
+relay_fields_shown (relay.oob_received key bytes) = refl
+relay_fields_shown (relay.routed_data number bytes) = refl

@@ -1,6 +1,6 @@
 // What a packet that was read has, as plain numbers: the form in which a host gets it. What a kind does not have is 0.
 ghost use Rattle.std.specs.Prelude.{◌≡◌};
-ghost use Rattle.fields.specs.Fields.{fields, clientShown, relayShown};
+ghost use Rattle.fields.specs.Fields.{fields, client_shown, relay_shown};
 
 use packet::ConnectionNumber;
 use packet::client::RelayPacket;
@@ -56,7 +56,7 @@ impl Fields {
 
 // What a client sent. A data packet's kind is told as 16, since its first byte is its connection number.
 pub fn of_client(packet: ClientPacket) -> Fields
-    ensures { result ≡ clientShown packet }
+    ensures { result ≡ client_shown packet }
 {
     match packet {
         ClientPacket::RoutingRequest { key: _ } => Fields::numbered(0, 0),
@@ -80,7 +80,7 @@ pub fn of_client(packet: ClientPacket) -> Fields
 
 // What the relay sent.
 pub fn of_relay(packet: RelayPacket) -> Fields
-    ensures { result ≡ relayShown packet }
+    ensures { result ≡ relay_shown packet }
 {
     match packet {
         RelayPacket::RoutingResponse { number, key: _ } => Fields::numbered(1, number.0),

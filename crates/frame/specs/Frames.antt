@@ -9,16 +9,16 @@ unfoldable pub length_of : List ℕ → ℕ
 length_of bytes = number_of (take 2 bytes)
 
 -- "18 for a length under 17 or above 2,048"
-unfoldable pub lengthRight : ℕ → Bool
-lengthRight n = leb 17 n && leb n 2048
+unfoldable pub length_right : ℕ → Bool
+length_right n = leb 17 n && leb n 2048
 
 -- what stands at the front of `there` bytes in all, of which the first two make the length n
-unfoldable pub frontWith : ℕ → ℕ → Front
-frontWith n there = cond (lengthRight n) (cond (leb (2 + n) there) (Whole (2 + n)) Unfinished) BadLength
+unfoldable pub front_with : ℕ → ℕ → Front
+front_with n there = cond (length_right n) (cond (leb (2 + n) there) (Whole (2 + n)) Unfinished) BadLength
 
 -- what stands at the front of bytes; a length is judged "as soon as both length bytes are there"
 unfoldable pub front : List ℕ → Front
-front bytes = cond (leb 2 (length bytes)) (frontWith (length_of bytes) (length bytes)) Unfinished
+front bytes = cond (leb 2 (length bytes)) (front_with (length_of bytes) (length bytes)) Unfinished
 
 -- ---- a stream
 
@@ -40,20 +40,20 @@ abbrev pub before : List ℕ → Parted → Parted
 before frame later = parted (frame ∷ later.frames) later.rest
 
 -- the first frame, then what the bytes behind it are parted into
-abbrev pub partedAt : Front → List ℕ → (List ℕ → Parted) → Parted
-partedAt Unfinished bytes later = parted [] (unfinished bytes)
-partedAt BadLength bytes later = parted [] bad
-partedAt (Whole size) bytes later = before (take size bytes) (later (drop size bytes))
+abbrev pub parted_at : Front → List ℕ → (List ℕ → Parted) → Parted
+parted_at Unfinished bytes later = parted [] (unfinished bytes)
+parted_at BadLength bytes later = parted [] bad
+parted_at (Whole size) bytes later = before (take size bytes) (later (drop size bytes))
 
 -- parted into at most so many frames; what is left behind them is told as unfinished, and not looked at
-unfoldable pub partedBy : ℕ → List ℕ → Parted
-partedBy zero bytes = parted [] (unfinished bytes)
-partedBy (suc n) bytes = partedAt (front bytes) bytes (partedBy n)
+unfoldable pub parted_by : ℕ → List ℕ → Parted
+parted_by zero bytes = parted [] (unfinished bytes)
+parted_by (suc n) bytes = parted_at (front bytes) bytes (parted_by n)
 
--- all of its frames: a stream has no more of them than bytes, so none is left behind. `frames-at` has it without a count: what stands at the front, then `framesOf`
+-- all of its frames: a stream has no more of them than bytes, so none is left behind. `frames_at` has it without a count: what stands at the front, then `frames_of`
 -- of the bytes behind that
-unfoldable pub framesOf : List ℕ → Parted
-framesOf stream = partedBy (length stream) stream
+unfoldable pub frames_of : List ℕ → Parted
+frames_of stream = parted_by (length stream) stream
 
 -- ---- what is said of it
 

@@ -11,20 +11,20 @@ use Rattle.frame.specs.declared.Read.{Read}
 use Rattle.frame.specs.Frames.{front}
 
 -- "a lent keep of 2,050 bytes"
-abbrev pub keepBytes : ℕ
-keepBytes = 2050
+abbrev pub keep_bytes : ℕ
+keep_bytes = 2050
 
 -- a reader that holds so many bytes
-abbrev pub readerHolding : ℕ → Reader
-readerHolding n = record { held = n }
+abbrev pub reader_holding : ℕ → Reader
+reader_holding n = record { held = n }
 
 -- one more than the longest frame has: 2,050 bytes or more start no unfinished frame, whatever the keep holds
 abbrev pub broken : Reader
-broken = readerHolding 2051
+broken = reader_holding 2051
 
 -- the bytes that a reader holds stand at the front of its keep
-abbrev pub heldBytes : Reader → List ℕ → List ℕ
-heldBytes reader keep = take reader.held keep
+abbrev pub held_bytes : Reader → List ℕ → List ℕ
+held_bytes reader keep = take reader.held keep
 
 -- bytes written over the front of a keep
 abbrev pub over : List ℕ → List ℕ → List ℕ
@@ -39,29 +39,29 @@ abbrev pub shows : Shown → Reader → ℕ → List ℕ → Outcome
 shows shown reader used keep = record { read = record { shown = shown; reader = reader; used = used }; keep = keep }
 
 -- "A call [..] counts the bytes used, 0 if refused"
-abbrev pub refusedRead : Refusal → Reader → Read
-refusedRead why reader = record { shown = Refused why; reader = reader; used = 0 }
+abbrev pub refused_read : Refusal → Reader → Read
+refused_read why reader = record { shown = Refused why; reader = reader; used = 0 }
 
 abbrev pub refuses : Refusal → Reader → List ℕ → Outcome
-refuses why reader keep = record { read = refusedRead why reader; keep = keep }
+refuses why reader keep = record { read = refused_read why reader; keep = keep }
 
 -- "A call ends with its first complete frame or the piece", by what stands at the front of the bytes held and the piece behind them. "A complete frame is shown
 -- either inside the piece or inside the keep, copied only when it began in an earlier scrap." "After 18 the reader gives 18 until begun anew"
-abbrev pub readFront : Front → (held piece keep : List ℕ) → Outcome
-readFront Unfinished held piece keep = shows More (readerHolding (length (held ++ piece))) (length piece) (over (held ++ piece) keep)
-readFront BadLength held piece keep = refuses BadFrame broken keep
-readFront (Whole size) held piece keep =
+abbrev pub read_front : Front → (held piece keep : List ℕ) → Outcome
+read_front Unfinished held piece keep = shows More (reader_holding (length (held ++ piece))) (length piece) (over (held ++ piece) keep)
+read_front BadLength held piece keep = refuses BadFrame broken keep
+read_front (Whole size) held piece keep =
     let copied = over (take size (held ++ piece)) keep in
-    cond (leb 1 (length held)) (shows (InKeep size) (readerHolding 0) (size - length held) copied) (shows (InPiece size) (readerHolding 0) size keep)
+    cond (leb 1 (length held)) (shows (InKeep size) (reader_holding 0) (size - length held) copied) (shows (InPiece size) (reader_holding 0) size keep)
 
 -- "18 for a reader holding 2 or more bytes that start no unfinished frame": 0 bytes, or 1, always start one
-abbrev pub readHeld : Front → (held piece keep : List ℕ) → Outcome
-readHeld Unfinished held piece keep = readFront (front (held ++ piece)) held piece keep
-readHeld BadLength held piece keep = refuses BadFrame broken keep
-readHeld (Whole size) held piece keep = refuses BadFrame broken keep
+abbrev pub read_held : Front → (held piece keep : List ℕ) → Outcome
+read_held Unfinished held piece keep = read_front (front (held ++ piece)) held piece keep
+read_held BadLength held piece keep = refuses BadFrame broken keep
+read_held (Whole size) held piece keep = refuses BadFrame broken keep
 
 -- "10 for a keep that is too short, checked first", "after 10 it is as before"
-unfoldable pub readFrame : Reader → (keep piece : List ℕ) → Outcome
-readFrame reader keep piece =
-    let held = heldBytes reader keep in
-    cond (leb keepBytes (length keep)) (readHeld (front held) held piece keep) (refuses OutputTooShort reader keep)
+unfoldable pub read_frame : Reader → (keep piece : List ℕ) → Outcome
+read_frame reader keep piece =
+    let held = held_bytes reader keep in
+    cond (leb keep_bytes (length keep)) (read_held (front held) held piece keep) (refuses OutputTooShort reader keep)

@@ -6,14 +6,14 @@ use Prim.Native.Nat.{ℕ, ◌+◌, ◌-◌, ◌≤◌}
 use native.Mathlib.Omega.{arith}
 use lib.ListN.{length, take, drop, length-take, length-drop}
 use lib.Seq.{drop-drop, take-take}
-use Rattle.wire.proofs.Copy.{drop-take}
+use Rattle.wire.proofs.Copy.{drop_take}
 use Rattle.frame_reader.specs.Parts.{Lent, LentPart, IsPart, past}
 
 -- ---- of lists
 -- n of a part's k elements gone, the others are a part of the list
-past-taken : (at k n : ℕ) (l : List ℕ) → take (k - n) (drop n (take k (drop at l))) ≡ take (k - n) (drop (at + n) l)
-past-taken at k n l =
-    ap (take (k - n)) (drop-take n k (drop at l) ∙ ap (take (k - n)) (drop-drop n at l))
+past_taken : (at k n : ℕ) (l : List ℕ) → take (k - n) (drop n (take k (drop at l))) ≡ take (k - n) (drop (at + n) l)
+past_taken at k n l =
+    ap (take (k - n)) (drop_take n k (drop at l) ∙ ap (take (k - n)) (drop-drop n at l))
     ∙ take-take (k - n) (k - n) (drop (at + n) l) (omega arith)
 
 -- ---- of a part
@@ -25,10 +25,10 @@ module _ {part : LentPart} {r : Lent} (is : IsPart part r) where
   pub part_length : length r.now ≡ part.count
   part_length = rw is.bytes (simp (length-take, length-drop) (omega arith))
 
-  pub past-part : (n : ℕ) → n ≤ part.count → {t : Lent} → IsPart (rest r n) t → IsPart (past n part) t
-  past-part n h {t} left = record {
+  pub past_part : (n : ℕ) → n ≤ part.count → {t : Lent} → IsPart (rest r n) t → IsPart (past n part) t
+  past_part n h {t} left = record {
     block = left.block ∙ is.block;
     offset = omega arith;
-    bytes = rw (left.bytes, part_length, is.bytes) (past-taken part.at part.count n part.whole.now);
+    bytes = rw (left.bytes, part_length, is.bytes) (past_taken part.at part.count n part.whole.now);
     inside = omega arith;
   }

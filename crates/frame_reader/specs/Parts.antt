@@ -22,21 +22,21 @@ pub record IsPart (part : LentPart) (r : Lent) : Type 0 where
   pub inside : part.at + part.count ≤ length part.whole.now
 
 -- the first `count` bytes
-abbrev pub frontPart : Lent → ℕ → LentPart
-frontPart s count = record { whole = s; at = 0; count = count }
+abbrev pub front_part : Lent → ℕ → LentPart
+front_part s count = record { whole = s; at = 0; count = count }
 
 -- a part without its first `n` bytes
 abbrev pub past : ℕ → LentPart → LentPart
 past n part = record { whole = part.whole; at = part.at + n; count = part.count - n }
 
 -- the frame that a call shows: the front of the piece or of the keep; the empty front of the piece where it shows none, or one that ends past the slice
-unfoldable pub framePart : Shown → (keep piece : Lent) → LentPart
-framePart More keep piece = frontPart piece 0
-framePart (InPiece end) keep piece = cond (leb end (length piece.now)) (frontPart piece end) (frontPart piece 0)
-framePart (InKeep end) keep piece = cond (leb end (length keep.now)) (frontPart keep end) (frontPart piece 0)
-framePart (Refused why) keep piece = frontPart piece 0
+unfoldable pub frame_part : Shown → (keep piece : Lent) → LentPart
+frame_part More keep piece = front_part piece 0
+frame_part (InPiece end) keep piece = cond (leb end (length piece.now)) (front_part piece end) (front_part piece 0)
+frame_part (InKeep end) keep piece = cond (leb end (length keep.now)) (front_part keep end) (front_part piece 0)
+frame_part (Refused why) keep piece = front_part piece 0
 
 -- its sealed bytes: "a 2-byte length and that many sealed bytes"; the empty front of the piece where no two bytes are shown
-unfoldable pub sealedPart : Shown → (keep piece : Lent) → LentPart
-sealedPart shown keep piece =
-    cond (leb 2 (framePart shown keep piece).count) (past 2 (framePart shown keep piece)) (frontPart piece 0)
+unfoldable pub sealed_part : Shown → (keep piece : Lent) → LentPart
+sealed_part shown keep piece =
+    cond (leb 2 (frame_part shown keep piece).count) (past 2 (frame_part shown keep piece)) (front_part piece 0)

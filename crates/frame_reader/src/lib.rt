@@ -6,7 +6,7 @@
 ghost use Rattle.std.specs.Prelude.{◌≡◌, ◌+◌, ◌≤◌, length, take};
 ghost use Rattle.frame.specs.Frames.{front};
 ghost use Rattle.frame.specs.declared.Front.TheVariants.{Unfinished, Whole};
-ghost use Rattle.frame.specs.Reader.{keepBytes, readerHolding, refusedRead, readFront, readHeld, readFrame};
+ghost use Rattle.frame.specs.Reader.{keep_bytes, reader_holding, refused_read, read_front, read_held, read_frame};
 
 mod joined;
 pub mod shown;
@@ -30,8 +30,8 @@ const BROKEN: usize = KEEP_BYTES + 1;
 // Reads a piece of the stream: 10, 18. A frame that stands whole in the piece is shown there and nothing is copied; one that began in an earlier piece is
 // finished in the keep and shown there.
 pub fn read(reader: Reader, keep: &mut [u8], piece: &[u8]) -> Read
-    ensures value { result ≡ (readFrame reader keep.old piece.now).read }
-    ensures keep_after { keep.new ≡ (readFrame reader keep.old piece.now).keep }
+    ensures value { result ≡ (read_frame reader keep.old piece.now).read }
+    ensures keep_after { keep.new ≡ (read_frame reader keep.old piece.now).keep }
 {
     let held = reader.held;
     if keep.len() < KEEP_BYTES {
@@ -52,7 +52,7 @@ pub fn read(reader: Reader, keep: &mut [u8], piece: &[u8]) -> Read
 
 // "A call [..] counts the bytes used, 0 if refused".
 fn refused(why: Refusal, held: usize) -> Read
-    ensures { result ≡ refusedRead why (readerHolding held) }
+    ensures { result ≡ refused_read why (reader_holding held) }
 {
     let reader = Reader { held };
     Read {
@@ -64,11 +64,11 @@ fn refused(why: Refusal, held: usize) -> Read
 
 // The piece goes on after the bytes held, which start an unfinished frame.
 fn go_on(held: usize, keep: &mut [u8], piece: &[u8]) -> Read
-    requires* keep_bytes_bound { do ⌜ keepBytes ≤ (← ⟦keep.len()⟧) ⌝ }
+    requires* keep_bytes_bound { do ⌜ keep_bytes ≤ (← ⟦keep.len()⟧) ⌝ }
     requires* held_bound { do ⌜ held ≤ (← ⟦keep.len()⟧) ⌝ }
     requires keep_value { front (take held keep.old) ≡ Unfinished }
-    ensures value { result ≡ (readHeld Unfinished (take held keep.old) piece.now keep.old).read }
-    ensures keep_after { keep.new ≡ (readHeld Unfinished (take held keep.old) piece.now keep.old).keep }
+    ensures value { result ≡ (read_held Unfinished (take held keep.old) piece.now keep.old).read }
+    ensures keep_after { keep.new ≡ (read_held Unfinished (take held keep.old) piece.now keep.old).keep }
 {
     let next = joined::front_of(held, keep, piece);
     match next {
@@ -81,8 +81,8 @@ fn go_on(held: usize, keep: &mut [u8], piece: &[u8]) -> Read
 // Copies all of the piece behind the bytes held.
 fn hold(held: usize, keep: &mut [u8], piece: &[u8]) -> Read
     requires* { do ⌜ held + (← ⟦piece.len()⟧) ≤ (← ⟦keep.len()⟧) ⌝ }
-    ensures value { result ≡ (readFront Unfinished (take held keep.old) piece.now keep.old).read }
-    ensures keep_after { keep.new ≡ (readFront Unfinished (take held keep.old) piece.now keep.old).keep }
+    ensures value { result ≡ (read_front Unfinished (take held keep.old) piece.now keep.old).read }
+    ensures keep_after { keep.new ≡ (read_front Unfinished (take held keep.old) piece.now keep.old).keep }
 {
     let used = piece.len();
     let all = held + used;
@@ -100,8 +100,8 @@ fn finish(size: usize, held: usize, keep: &mut [u8], piece: &[u8]) -> Read
     requires* size_bound { do ⌜ size ≤ (← ⟦keep.len()⟧) ⌝ }
     requires size_bound_2 { size ≤ held + length piece.now }
     requires held_le_size { held ≤ size }
-    ensures value { result ≡ (readFront (Whole size) (take held keep.old) piece.now keep.old).read }
-    ensures keep_after { keep.new ≡ (readFront (Whole size) (take held keep.old) piece.now keep.old).keep }
+    ensures value { result ≡ (read_front (Whole size) (take held keep.old) piece.now keep.old).read }
+    ensures keep_after { keep.new ≡ (read_front (Whole size) (take held keep.old) piece.now keep.old).keep }
 {
     let reader = Reader { held: 0 };
     if held == 0 {

@@ -6,47 +6,47 @@ use mathlib.Core.Path.{◌≡◌, sym}
 use mathlib.Core.Bool.{false}
 use mathlib.Core.List.{List, [], map}
 use Prim.Native.Nat.{ℕ}
-use Rattle.rules.specs.Room.{Sizes, Key, emptyRoom, sizesOf}
+use Rattle.rules.specs.Room.{Sizes, Key, empty_room, sizes_of}
 use Rattle.rules.specs.Call.{Call}
 use Rattle.rules.specs.History.{Event, transcript}
 use Rattle.rules.specs.Transcript.{from_empty}
-use Rattle.isolation.specs.Record.{withoutOwn, recordFor, packetsFor, answersFor, zeroForC}
-use Rattle.isolation.proofs.Isolation.{two-histories, two-histories-without-own}
+use Rattle.isolation.specs.Record.{without_own, record_for, packets_for, answers_for, zero_for_c}
+use Rattle.isolation.proofs.Isolation.{two_histories, two_histories_without_own}
 use Rattle.histories.specs.History.{History, calls_of}
-use Rattle.histories.proofs.Histories.{history-runs}
+use Rattle.histories.proofs.Histories.{history_runs}
 
 -- of events that are transcripts
-of-events : (sizes : Sizes) (c : Key) (events₁ events₂ : List Event) (h₁ h₂ : List Call)
-    → transcript sizes (emptyRoom sizes) h₁ ≡ events₁ → transcript sizes (emptyRoom sizes) h₂ ≡ events₂
-    → zeroForC (from_empty sizes) [] c events₁ ≡ false → zeroForC (from_empty sizes) [] c events₂ ≡ false
-    → recordFor (from_empty sizes) [] c events₁ ≡ recordFor (from_empty sizes) [] c events₂
-    → (packetsFor (from_empty sizes) [] c events₁ ≡ packetsFor (from_empty sizes) [] c events₂) × (answersFor (from_empty sizes) [] c events₁ ≡ answersFor (from_empty sizes) [] c events₂)
-of-events sizes c events₁ events₂ h₁ h₂ e₁ e₂ = rw (← e₁, ← e₂) (two-histories sizes c h₁ h₂)
+of_events : (sizes : Sizes) (c : Key) (events₁ events₂ : List Event) (h₁ h₂ : List Call)
+    → transcript sizes (empty_room sizes) h₁ ≡ events₁ → transcript sizes (empty_room sizes) h₂ ≡ events₂
+    → zero_for_c (from_empty sizes) [] c events₁ ≡ false → zero_for_c (from_empty sizes) [] c events₂ ≡ false
+    → record_for (from_empty sizes) [] c events₁ ≡ record_for (from_empty sizes) [] c events₂
+    → (packets_for (from_empty sizes) [] c events₁ ≡ packets_for (from_empty sizes) [] c events₂) × (answers_for (from_empty sizes) [] c events₁ ≡ answers_for (from_empty sizes) [] c events₂)
+of_events sizes c events₁ events₂ h₁ h₂ e₁ e₂ = rw (← e₁, ← e₂) (two_histories sizes c h₁ h₂)
 
-pub isolation-in-histories : (s n : ℕ) (events₁ events₂ : List Event) (b₁ b₂ : List ℕ) → History s n events₁ b₁ → History s n events₂ b₂ → (c : Key)
-    → zeroForC (from_empty (sizesOf s n)) [] c events₁ ≡ false
-    → zeroForC (from_empty (sizesOf s n)) [] c events₂ ≡ false
-    → recordFor (from_empty (sizesOf s n)) [] c events₁ ≡ recordFor (from_empty (sizesOf s n)) [] c events₂
-    → (packetsFor (from_empty (sizesOf s n)) [] c events₁ ≡ packetsFor (from_empty (sizesOf s n)) [] c events₂) × (answersFor (from_empty (sizesOf s n)) [] c events₁ ≡ answersFor (from_empty (sizesOf s n)) [] c events₂)
-isolation-in-histories s n events₁ events₂ b₁ b₂ h₁ h₂ c =
-    of-events (sizesOf s n) c events₁ events₂ (calls_of events₁) (calls_of events₂)
-    (sym (history-runs s n events₁ b₁ h₁).events-are) (sym (history-runs s n events₂ b₂ h₂).events-are)
+pub isolation_in_histories : (s n : ℕ) (events₁ events₂ : List Event) (b₁ b₂ : List ℕ) → History s n events₁ b₁ → History s n events₂ b₂ → (c : Key)
+    → zero_for_c (from_empty (sizes_of s n)) [] c events₁ ≡ false
+    → zero_for_c (from_empty (sizes_of s n)) [] c events₂ ≡ false
+    → record_for (from_empty (sizes_of s n)) [] c events₁ ≡ record_for (from_empty (sizes_of s n)) [] c events₂
+    → (packets_for (from_empty (sizes_of s n)) [] c events₁ ≡ packets_for (from_empty (sizes_of s n)) [] c events₂) × (answers_for (from_empty (sizes_of s n)) [] c events₁ ≡ answers_for (from_empty (sizes_of s n)) [] c events₂)
+isolation_in_histories s n events₁ events₂ b₁ b₂ h₁ h₂ c =
+    of_events (sizes_of s n) c events₁ events₂ (calls_of events₁) (calls_of events₂)
+    (sym (history_runs s n events₁ b₁ h₁).events_are) (sym (history_runs s n events₂ b₂ h₂).events_are)
 
 -- ---- the same where C's own departures by ticks are left out of its record
 
-of-events-without-own : (sizes : Sizes) (c : Key) (events₁ events₂ : List Event) (h₁ h₂ : List Call)
-    → transcript sizes (emptyRoom sizes) h₁ ≡ events₁ → transcript sizes (emptyRoom sizes) h₂ ≡ events₂
-    → zeroForC (from_empty sizes) [] c events₁ ≡ false → zeroForC (from_empty sizes) [] c events₂ ≡ false
-    → map (withoutOwn c) (recordFor (from_empty sizes) [] c events₁) ≡ map (withoutOwn c) (recordFor (from_empty sizes) [] c events₂)
-    → (packetsFor (from_empty sizes) [] c events₁ ≡ packetsFor (from_empty sizes) [] c events₂) × (answersFor (from_empty sizes) [] c events₁ ≡ answersFor (from_empty sizes) [] c events₂)
-of-events-without-own sizes c events₁ events₂ h₁ h₂ e₁ e₂ = rw (← e₁, ← e₂) (two-histories-without-own sizes c h₁ h₂)
+of_events_without_own : (sizes : Sizes) (c : Key) (events₁ events₂ : List Event) (h₁ h₂ : List Call)
+    → transcript sizes (empty_room sizes) h₁ ≡ events₁ → transcript sizes (empty_room sizes) h₂ ≡ events₂
+    → zero_for_c (from_empty sizes) [] c events₁ ≡ false → zero_for_c (from_empty sizes) [] c events₂ ≡ false
+    → map (without_own c) (record_for (from_empty sizes) [] c events₁) ≡ map (without_own c) (record_for (from_empty sizes) [] c events₂)
+    → (packets_for (from_empty sizes) [] c events₁ ≡ packets_for (from_empty sizes) [] c events₂) × (answers_for (from_empty sizes) [] c events₁ ≡ answers_for (from_empty sizes) [] c events₂)
+of_events_without_own sizes c events₁ events₂ h₁ h₂ e₁ e₂ = rw (← e₁, ← e₂) (two_histories_without_own sizes c h₁ h₂)
 
-pub isolation-without-own-in-histories : (s n : ℕ) (events₁ events₂ : List Event) (b₁ b₂ : List ℕ) → History s n events₁ b₁ → History s n events₂ b₂ → (c : Key)
-    → zeroForC (from_empty (sizesOf s n)) [] c events₁ ≡ false
-    → zeroForC (from_empty (sizesOf s n)) [] c events₂ ≡ false
-    → map (withoutOwn c) (recordFor (from_empty (sizesOf s n)) [] c events₁) ≡ map (withoutOwn c) (recordFor (from_empty (sizesOf s n)) [] c events₂)
-    → (packetsFor (from_empty (sizesOf s n)) [] c events₁ ≡ packetsFor (from_empty (sizesOf s n)) [] c events₂)
-    × (answersFor (from_empty (sizesOf s n)) [] c events₁ ≡ answersFor (from_empty (sizesOf s n)) [] c events₂)
-isolation-without-own-in-histories s n events₁ events₂ b₁ b₂ h₁ h₂ c =
-    of-events-without-own (sizesOf s n) c events₁ events₂ (calls_of events₁) (calls_of events₂)
-    (sym (history-runs s n events₁ b₁ h₁).events-are) (sym (history-runs s n events₂ b₂ h₂).events-are)
+pub isolation_without_own_in_histories : (s n : ℕ) (events₁ events₂ : List Event) (b₁ b₂ : List ℕ) → History s n events₁ b₁ → History s n events₂ b₂ → (c : Key)
+    → zero_for_c (from_empty (sizes_of s n)) [] c events₁ ≡ false
+    → zero_for_c (from_empty (sizes_of s n)) [] c events₂ ≡ false
+    → map (without_own c) (record_for (from_empty (sizes_of s n)) [] c events₁) ≡ map (without_own c) (record_for (from_empty (sizes_of s n)) [] c events₂)
+    → (packets_for (from_empty (sizes_of s n)) [] c events₁ ≡ packets_for (from_empty (sizes_of s n)) [] c events₂)
+    × (answers_for (from_empty (sizes_of s n)) [] c events₁ ≡ answers_for (from_empty (sizes_of s n)) [] c events₂)
+isolation_without_own_in_histories s n events₁ events₂ b₁ b₂ h₁ h₂ c =
+    of_events_without_own (sizes_of s n) c events₁ events₂ (calls_of events₁) (calls_of events₂)
+    (sym (history_runs s n events₁ b₁ h₁).events_are) (sym (history_runs s n events₂ b₂ h₂).events_are)

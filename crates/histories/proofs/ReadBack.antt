@@ -7,13 +7,13 @@ use native.Mathlib.Omega.{arith}
 use lib.ListN.{length}
 use lib.Seq.{take-append_seam}
 use Rattle.rules.specs.Call.{Answer, Sent}
-use Rattle.rules.specs.Outcome.{sentBytes}
+use Rattle.rules.specs.Outcome.{sent_bytes}
 use Rattle.records.specs.Read.{Short}
-use Rattle.records.proofs.RoundTrips.{reads-back}
+use Rattle.records.proofs.RoundTrips.{reads_back}
 use Rattle.relay_laws.specs.Calls.{written}
-use Rattle.histories.specs.Seen.{recordsRead}
+use Rattle.histories.specs.Seen.{records_read}
 
-pub written_read : (sent : List Sent) → Short sent → (given : Answer) → written given ≡ length (sentBytes sent) → (behind : List ℕ)
-    → recordsRead given (sentBytes sent ++ behind) ≡ sent
-unfolding recordsRead
-written_read sent h given e behind = rw (e, take-append_seam (sentBytes sent) behind) (reads-back sent h (length (sentBytes sent)) (omega arith))
+pub written_read : (sent : List Sent) → Short sent → (given : Answer) → written given ≡ length (sent_bytes sent) → (behind : List ℕ)
+    → records_read given (sent_bytes sent ++ behind) ≡ sent
+unfolding records_read
+written_read sent h given e behind = rw (e, take-append_seam (sent_bytes sent) behind) (reads_back sent h (length (sent_bytes sent)) (omega arith))

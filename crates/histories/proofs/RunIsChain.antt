@@ -1,11 +1,11 @@
 -- A run of stored calls, `banavoge_play`, is a chain of the exported single calls. From whole bytes, whatever the allowance, the stored bytes and the output:
 --
 --   - the calls that a run plays, made one by one, each on the bytes that the last returned and with some output that is long enough, leave the bytes that the
---     run leaves, and their events are the rules' transcript of the calls played (`run-is-chain`);
+--     run leaves, and their events are the rules' transcript of the calls played (`run_is_chain`);
 --   - the other way, any single calls that are those of the run, whatever outputs of 2,048 bytes or more are lent to them, are seen as the same events and leave
---     the same bytes, and what the run writes is these events, entry by entry, and then what stood behind them (`chain-is-run`);
---   - chains join, so runs and single calls may stand in one history in any order (`chain-append`, `run-behind`);
---   - and what a run plays are the calls that are stored, in order, with none skipped (`run-in-front`).
+--     the same bytes, and what the run writes is these events, entry by entry, and then what stood behind them (`chain_is_run`);
+--   - chains join, so runs and single calls may stand in one history in any order (`chain_append`, `run_behind`);
+--   - and what a run plays are the calls that are stored, in order, with none skipped (`run_in_front`).
 --
 -- So a host learns from a run what it would learn from the single calls, to the byte. Assumes nothing.
 use mathlib.Core.Path.{◌≡◌, refl, sym, ap, ap₂, ◌∙◌}
@@ -15,27 +15,27 @@ use Prim.Native.Nat.{ℕ, zero, suc, ◌-◌, ◌≤◌}
 use native.Mathlib.Omega.{arith}
 use lib.IntN.{pos}
 use lib.ListN.{length, drop, replicate, length-replicate}
-use Rattle.rules.specs.Room.{Sizes, Room, sizesOf}
-use Rattle.rules.specs.Call.{Call, mostNeeded}
-use Rattle.rules.specs.Outcome.{outcome, roomAfter}
+use Rattle.rules.specs.Room.{Sizes, Room, sizes_of}
+use Rattle.rules.specs.Call.{Call, most_needed}
+use Rattle.rules.specs.Outcome.{outcome, room_after}
 use Rattle.rules.specs.History.{Event, event, transcript}
-use Rattle.room_laws.specs.View.{viewRoom}
-use Rattle.room_laws.specs.Whole.{roomWhole}
-use Rattle.room_laws.specs.Store.{storeAll}
-use Rattle.stored.specs.Stored.{storedBytes}
-use Rattle.relay.specs.Play.{entryBytes, entriesBytes, Next, stops, plays, Run, goOn, run, changesAll, played, playing, LeavesRun, Plays}
+use Rattle.room_laws.specs.View.{view_room}
+use Rattle.room_laws.specs.Whole.{room_whole}
+use Rattle.room_laws.specs.Store.{store_all}
+use Rattle.stored.specs.Stored.{stored_bytes}
+use Rattle.relay.specs.Play.{entry_bytes, entries_bytes, Next, stops, plays, Run, go_on, run, changes_all, played, playing, LeavesRun, Plays}
 use Rattle.relay.specs.Play as play
-use Rattle.relay_laws.proofs.PartLaws.{store-all-append}
-use Rattle.relay.proofs.PlayLaws.{next-is, rest_of}
-use Rattle.relay.proofs.RunCases.{stored-key}
+use Rattle.relay_laws.proofs.PartLaws.{store_all_append}
+use Rattle.relay.proofs.PlayLaws.{next_is, rest_of}
+use Rattle.relay.proofs.RunCases.{stored_key}
 use Rattle.banavoge_laws.specs.Answers.{ToldAs}
-use Rattle.banavoge_laws.specs.Runs.{stopNumber, runCode, Counts, runCounts, Telling, telling, runTold}
+use Rattle.banavoge_laws.specs.Runs.{stop_number, run_code, Counts, run_counts, Telling, telling, run_told}
 use Rattle.histories.specs.Lent.{Lent, AllLong}
 use Rattle.histories.specs.History.{AnyChain, none, next, Chain, calls_of}
-use Rattle.histories.specs.Runs.{InFront, runOn, runEvents, read_by, writtenFor, SameAsRun}
+use Rattle.histories.specs.Runs.{InFront, run_on, run_events, read_by, written_for, SameAsRun}
 use Rattle.histories.specs.Sequences.{AllFieldsFit}
-use Rattle.histories.proofs.Histories.{long-step-right, chain_runs}
-use Rattle.histories.proofs.EverySequence.{every-chain}
+use Rattle.histories.proofs.Histories.{long_step_right, chain_runs}
+use Rattle.histories.proofs.EverySequence.{every_chain}
 
 -- ---- chains
 
@@ -44,110 +44,110 @@ pub any_append : {s n : ℕ} {b b₁ b₂ : List ℕ} {lents more : List Lent} {
 any_append none d = d
 any_append (next step c) d = next step (any_append c d)
 
-pub long-append : (lents more : List Lent) → AllLong lents → AllLong more → AllLong (lents ++ more)
-long-append [] more h k = k
-long-append (l ∷ lents) more h k = (h.0, long-append lents more h.1 k)
+pub long_append : (lents more : List Lent) → AllLong lents → AllLong more → AllLong (lents ++ more)
+long_append [] more h k = k
+long_append (l ∷ lents) more h k = (h.0, long_append lents more h.1 k)
 
-pub chain-append : {s n : ℕ} {b b₁ b₂ : List ℕ} {events later : List Event} → Chain s n b events b₁ → Chain s n b₁ later b₂ → Chain s n b (events ++ later) b₂
-chain-append c d = record { lents = c.lents ++ d.lents; calls = any_append c.calls d.calls; long = long-append c.lents d.lents c.long d.long }
+pub chain_append : {s n : ℕ} {b b₁ b₂ : List ℕ} {events later : List Event} → Chain s n b events b₁ → Chain s n b₁ later b₂ → Chain s n b (events ++ later) b₂
+chain_append c d = record { lents = c.lents ++ d.lents; calls = any_append c.calls d.calls; long = long_append c.lents d.lents c.long d.long }
 
 -- an event for each call
-length-calls : (events : List Event) → length (calls_of events) ≡ length events
+length_calls : (events : List Event) → length (calls_of events) ≡ length events
 unfolding calls_of
-length-calls [] = refl
-length-calls (e ∷ events) = ap suc (length-calls events)
+length_calls [] = refl
+length_calls (e ∷ events) = ap suc (length_calls events)
 
 -- what any chain leaves of whole bytes: the changes of all its calls are stored
-calls-leave : (s n : ℕ) (b : List ℕ) (lents : List Lent) (events : List Event) (b' : List ℕ) → AnyChain s n b lents events b' → AllLong lents → roomWhole s n b ≡ true
-    → b' ≡ storeAll s n b (changesAll (sizesOf s n) (viewRoom s n b) (calls_of events))
-unfolding storeAll changesAll calls_of
-calls-leave s n b ls es b' none long w = refl
-calls-leave s n b ls es b' (next {b₁ = b₁} {l = l} {e = e} {lents = lents} {events = events} step chain) long w =
-    let r = long-step-right s n b w l e b₁ step long.0 in
-    let o = outcome (viewRoom s n b) e.call in
-    calls-leave s n b₁ lents events b' chain long.1 r.whole
-    ∙ ap₂ (λ (x : List ℕ) (y : Room). storeAll s n x (changesAll (sizesOf s n) y (calls_of events))) r.stores r.room
-    ∙ sym (store-all-append s n b o.changes (changesAll (sizesOf s n) (roomAfter (sizesOf s n) (viewRoom s n b) o) (calls_of events)))
+calls_leave : (s n : ℕ) (b : List ℕ) (lents : List Lent) (events : List Event) (b' : List ℕ) → AnyChain s n b lents events b' → AllLong lents → room_whole s n b ≡ true
+    → b' ≡ store_all s n b (changes_all (sizes_of s n) (view_room s n b) (calls_of events))
+unfolding store_all changes_all calls_of
+calls_leave s n b ls es b' none long w = refl
+calls_leave s n b ls es b' (next {b₁ = b₁} {l = l} {e = e} {lents = lents} {events = events} step chain) long w =
+    let r = long_step_right s n b w l e b₁ step long.0 in
+    let o = outcome (view_room s n b) e.call in
+    calls_leave s n b₁ lents events b' chain long.1 r.whole
+    ∙ ap₂ (λ (x : List ℕ) (y : Room). store_all s n x (changes_all (sizes_of s n) y (calls_of events))) r.stores r.room
+    ∙ sym (store_all_append s n b o.changes (changes_all (sizes_of s n) (room_after (sizes_of s n) (view_room s n b) o) (calls_of events)))
 
-pub chain-leaves : (s n : ℕ) (b : List ℕ) (events : List Event) (b' : List ℕ) → Chain s n b events b' → roomWhole s n b ≡ true
-    → b' ≡ storeAll s n b (changesAll (sizesOf s n) (viewRoom s n b) (calls_of events))
-chain-leaves s n b events b' c = calls-leave s n b c.lents events b' c.calls c.long
+pub chain_leaves : (s n : ℕ) (b : List ℕ) (events : List Event) (b' : List ℕ) → Chain s n b events b' → room_whole s n b ≡ true
+    → b' ≡ store_all s n b (changes_all (sizes_of s n) (view_room s n b) (calls_of events))
+chain_leaves s n b events b' c = calls_leave s n b c.lents events b' c.calls c.long
 
 -- ---- the calls of a run
 
 -- a run plays the calls that are stored, in order, and skips none
-pub run-in-front : (sizes : Sizes) (allowance : ℕ) (room : Room) (stored : List ℕ) (space : ℕ) → InFront stored (run sizes allowance room stored space).calls
-unfolding run goOn
-run-in-front sizes zero room stored space = tt
-run-in-front sizes (suc more) room stored space =
+pub run_in_front : (sizes : Sizes) (allowance : ℕ) (room : Room) (stored : List ℕ) (space : ℕ) → InFront stored (run sizes allowance room stored space).calls
+unfolding run go_on
+run_in_front sizes zero room stored space = tt
+run_in_front sizes (suc more) room stored space =
     go (play.next (suc more) stored space) refl
-    (λ c. run-in-front sizes more (roomAfter sizes room (outcome room c)) (drop (length (storedBytes c)) stored) (space - length (entryBytes (event room c))))
+    (λ c. run_in_front sizes more (room_after sizes room (outcome room c)) (drop (length (stored_bytes c)) stored) (space - length (entry_bytes (event room c))))
   where
     later : Call → Run
     later = rest_of sizes room stored space more
 
-    go : (x : Next) → play.next (suc more) stored space ≡ x → ((c : Call) → InFront (drop (length (storedBytes c)) stored) (later c).calls)
-        → InFront stored (goOn x later).calls
+    go : (x : Next) → play.next (suc more) stored space ≡ x → ((c : Call) → InFront (drop (length (stored_bytes c)) stored) (later c).calls)
+        → InFront stored (go_on x later).calls
     go (stops why) e k = tt
-    go (plays c) e k = ((next-is (suc more) stored space c e).first, k c)
+    go (plays c) e k = ((next_is (suc more) stored space c e).first, k c)
 
 -- so each arrival is by a key of 32 bytes: no other is a stored call
-keys-in-front : (stored : List ℕ) (calls : List Call) → InFront stored calls → AllFieldsFit calls
-keys-in-front stored [] f = tt
-keys-in-front stored (c ∷ calls) f = (stored-key stored c f.0, keys-in-front (drop (length (storedBytes c)) stored) calls f.1)
+keys_in_front : (stored : List ℕ) (calls : List Call) → InFront stored calls → AllFieldsFit calls
+keys_in_front stored [] f = tt
+keys_in_front stored (c ∷ calls) f = (stored_key stored c f.0, keys_in_front (drop (length (stored_bytes c)) stored) calls f.1)
 
 -- ---- the theorem
 
 -- some output that is long enough
-some-output : List ℕ
-some-output = replicate mostNeeded 0
+some_output : List ℕ
+some_output = replicate most_needed 0
 
-long-output : mostNeeded ≤ length some-output
-unfolding some-output
-long-output = omega (arith, length-replicate {A = ℕ} mostNeeded 0)
+long_output : most_needed ≤ length some_output
+unfolding some_output
+long_output = omega (arith, length-replicate {A = ℕ} most_needed 0)
 
-module _ (s n allowance : ℕ) (stored b out : List ℕ) (before : Counts) (t : Telling) (b' out' : List ℕ) (whole : roomWhole s n b ≡ true)
-    (p : ToldAs (runTold before) (Plays s n allowance stored b out b' out') t) where
+module _ (s n allowance : ℕ) (stored b out : List ℕ) (before : Counts) (t : Telling) (b' out' : List ℕ) (whole : room_whole s n b ≡ true)
+    (p : ToldAs (run_told before) (Plays s n allowance stored b out b' out') t) where
   -- the room is whole, so nothing is refused
-  run-played : LeavesRun s n (played (sizesOf s n) (viewRoom s n b) (runOn s n allowance stored b out)) b out p.given b' out'
+  run_played : LeavesRun s n (played (sizes_of s n) (view_room s n b) (run_on s n allowance stored b out)) b out p.given b' out'
   unfolding playing
-  run-played = rw whole at p.relates
+  run_played = rw whole at p.relates
 
   -- what the host is told
-  pub run-told : let r = runOn s n allowance stored b out in
-      t ≡ telling (pos (stopNumber r.why)) (length r.calls) (read_by r.calls) (writtenFor (sizesOf s n) (viewRoom s n b) r.calls)
-  unfolding played runTold runCode runCounts
-  run-told = p.codes ∙ ap (runTold before) run-played.answers
+  pub run_told_lem : let r = run_on s n allowance stored b out in
+      t ≡ telling (pos (stop_number r.why)) (length r.calls) (read_by r.calls) (written_for (sizes_of s n) (view_room s n b) r.calls)
+  unfolding played run_told run_code run_counts
+  run_told_lem = p.codes ∙ ap (run_told before) run_played.answers
 
   -- what is written
-  pub run-writes : let events = runEvents s n allowance stored b out in out' ≡ entriesBytes events ++ drop (length (entriesBytes events)) out
+  pub run_writes : let events = run_events s n allowance stored b out in out' ≡ entries_bytes events ++ drop (length (entries_bytes events)) out
   unfolding played
-  run-writes = run-played.writes
+  run_writes = run_played.writes
 
-  pub chain-is-run : (events : List Event) (left : List ℕ) → Chain s n b events left → calls_of events ≡ (runOn s n allowance stored b out).calls
+  pub chain_is_run : (events : List Event) (left : List ℕ) → Chain s n b events left → calls_of events ≡ (run_on s n allowance stored b out).calls
       → SameAsRun s n allowance stored b out t b' out' events left
   unfolding played
-  chain-is-run events left chain same =
-      let e = (chain_runs s n b events left chain whole).events-are ∙ ap (transcript (sizesOf s n) (viewRoom s n b)) same in
-      let l = chain-leaves s n b events left chain whole ∙ ap (λ (calls : List Call). storeAll s n b (changesAll (sizesOf s n) (viewRoom s n b) calls)) same in
+  chain_is_run events left chain same =
+      let e = (chain_runs s n b events left chain whole).events_are ∙ ap (transcript (sizes_of s n) (view_room s n b)) same in
+      let l = chain_leaves s n b events left chain whole ∙ ap (λ (calls : List Call). store_all s n b (changes_all (sizes_of s n) (view_room s n b) calls)) same in
       record {
-        events-are = e;
-        leaves = l ∙ sym run-played.stores;
-        writes = rw e run-writes;
-        tells = rw (← length-calls events, same, e) run-told;
+        events_are = e;
+        leaves = l ∙ sym run_played.stores;
+        writes = rw e run_writes;
+        tells = rw (← length_calls events, same, e) run_told_lem;
       }
 
-  pub run-is-chain : Chain s n b (runEvents s n allowance stored b out) b'
-  run-is-chain =
-      let calls = (runOn s n allowance stored b out).calls in
-      let keys = keys-in-front stored calls (run-in-front (sizesOf s n) allowance (viewRoom s n b) stored (length out)) in
-      let c = every-chain some-output long-output s n b calls keys in
-      let r = chain-is-run c.events c.left c.chain c.are in
-      rw (← r.events-are, ← r.leaves) c.chain
+  pub run_is_chain : Chain s n b (run_events s n allowance stored b out) b'
+  run_is_chain =
+      let calls = (run_on s n allowance stored b out).calls in
+      let keys = keys_in_front stored calls (run_in_front (sizes_of s n) allowance (view_room s n b) stored (length out)) in
+      let c = every_chain some_output long_output s n b calls keys in
+      let r = chain_is_run c.events c.left c.chain c.are in
+      rw (← r.events_are, ← r.leaves) c.chain
 
 -- a run behind any chain
-pub run-behind : (s n allowance : ℕ) (stored b₀ b out : List ℕ) (before : Counts) (t : Telling) (b' out' : List ℕ) (events : List Event) → Chain s n b₀ events b
-    → roomWhole s n b₀ ≡ true → ToldAs (runTold before) (Plays s n allowance stored b out b' out') t
-    → Chain s n b₀ (events ++ runEvents s n allowance stored b out) b'
-run-behind s n allowance stored b₀ b out before t b' out' events chain w p =
-    chain-append chain (run-is-chain s n allowance stored b out before t b' out' (chain_runs s n b₀ events b chain w).whole p)
+pub run_behind : (s n allowance : ℕ) (stored b₀ b out : List ℕ) (before : Counts) (t : Telling) (b' out' : List ℕ) (events : List Event) → Chain s n b₀ events b
+    → room_whole s n b₀ ≡ true → ToldAs (run_told before) (Plays s n allowance stored b out b' out') t
+    → Chain s n b₀ (events ++ run_events s n allowance stored b out) b'
+run_behind s n allowance stored b₀ b out before t b' out' events chain w p =
+    chain_append chain (run_is_chain s n allowance stored b out before t b' out' (chain_runs s n b₀ events b chain w).whole p)

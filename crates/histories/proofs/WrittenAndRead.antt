@@ -1,5 +1,5 @@
--- Reading what was written, and writing what was read, of the exports: packets from a client to the relay (`relay-tells-written`, `client-writes-told`) and from the
--- relay to a client (`client-tells-written`, `relay-writes-told`), and nodes (`node-told-written`, `node-writes-told`, `node-writes-stepped`). Assumes nothing.
+-- Reading what was written, and writing what was read, of the exports: packets from a client to the relay (`relay_tells_written`, `client_writes_told`) and from the
+-- relay to a client (`client_tells_written`, `relay_writes_told`), and nodes (`node_told_written`, `node_writes_told`, `node_writes_stepped`). Assumes nothing.
 use mathlib.Core.Path.{◌≡◌, refl, sym, ap, ap₂, subst, ◌∙◌}
 use mathlib.Core.Bool.{Bool, true, false, cond}
 use mathlib.Core.List.{List, ◌∷◌, ◌++◌}
@@ -16,120 +16,120 @@ use Rattle.packet_write.specs.declared.Written.{Written}
 use Rattle.packet_write.specs.declared.Written.TheVariants as written
 use Rattle.refusal.specs.declared.Refusal.TheVariants.{PacketSize, UnexpectedKind, NodeCutShort, BytesAfterNodes}
 use Rattle.packet_laws.specs.Read as packet
-use Rattle.packet_laws.specs.Table.{kind_of, sizeRight}
+use Rattle.packet_laws.specs.Table.{kind_of, size_right}
 use Rattle.packet_laws.specs.FromClient as client
 use Rattle.packet_laws.specs.FromRelay as relay
-use Rattle.packet_laws.specs.FromClient.{keyFromClient, relayKey}
-use Rattle.packet_laws.specs.FromRelay.{keyFromRelay, clientKey}
+use Rattle.packet_laws.specs.FromClient.{key_from_client, relay_key}
+use Rattle.packet_laws.specs.FromRelay.{key_from_relay, client_key}
 use Rattle.packet_write.specs.Written as packets
-use Rattle.packet_laws.specs.Judged.{dataNumber, clientJudged, relayJudged}
-use Rattle.packet_write.specs.Written.{writtenAnswer, writtenOutput, BothWrite}
-use Rattle.packet_laws.proofs.ClientRoundTrip.{relay-reads-written, client-writes-read}
-use Rattle.packet_laws.proofs.RelayRoundTrip.{client-reads-written, relay-writes-read}
-use Rattle.packet_write.proofs.WriteLaws.{writes-put}
+use Rattle.packet_laws.specs.Judged.{data_number, client_judged, relay_judged}
+use Rattle.packet_write.specs.Written.{written_answer, written_output, BothWrite}
+use Rattle.packet_laws.proofs.ClientRoundTrip.{relay_reads_written, client_writes_read}
+use Rattle.packet_laws.proofs.RelayRoundTrip.{client_reads_written, relay_writes_read}
+use Rattle.packet_write.proofs.WriteLaws.{writes_put}
 use Rattle.node.specs.declared.Node.{Node}
 use Rattle.node.specs.declared.writer.Written as node-written
-use Rattle.node.specs.Nodes.{NodeInfo, packedNode, Read, node, refused, read_node}
-use Rattle.node.specs.Values.{infoOf, value_of, settled}
-use Rattle.node.specs.Steps.{Showing, shows, ends, refuses, showingRead, step_of}
+use Rattle.node.specs.Nodes.{NodeInfo, packed_node, Read, node, refused, read_node}
+use Rattle.node.specs.Values.{info_of, value_of, settled}
+use Rattle.node.specs.Steps.{Showing, shows, ends, refuses, showing_read, step_of}
 use Rattle.node.specs.Written.{Writes, WritesNode}
-use Rattle.node.proofs.NodeLaws.{read-packed, info-of-value}
-use Rattle.node.proofs.RoundTrips.{read-exactly, count-put, put_count, value-settled, value-fits}
-use Rattle.node.proofs.StepLaws.{step-read}
+use Rattle.node.proofs.NodeLaws.{read_packed, info_of_value}
+use Rattle.node.proofs.RoundTrips.{read_exactly, count_put, put_count, value_settled, value_fits}
+use Rattle.node.proofs.StepLaws.{step_read}
 use Rattle.fields.specs.declared.Fields.{Fields}
-use Rattle.banavoge_laws.specs.Answers.{writtenCode, OfBytes, ToldAs}
-use Rattle.banavoge_laws.specs.Fields.{Places, places_of, read_code, placesAfter, keyAfter}
-use Rattle.fields.specs.Fields.{clientFields, relayFields}
-use Rattle.banavoge_laws.specs.Nodes.{NodePlaces, nodePlacesOf, nodeGiven, nodeCode, nodeAfter, ReadsNode, stepCode, stepAfter, StepsNode, nodeWrittenCode}
-use Rattle.histories.specs.WrittenAndRead.{kindTold, payloadAt, clientTold, relayTold, Tells, RelayTells, ClientTells, ClientWriting, RelayWriting, Makes, WrittenBack, NodeTold, NodeTells, NodeMakes}
-use Rattle.histories.proofs.Answered.{below-not}
+use Rattle.banavoge_laws.specs.Answers.{written_code, OfBytes, ToldAs}
+use Rattle.banavoge_laws.specs.Fields.{Places, places_of, read_code, places_after, key_after}
+use Rattle.fields.specs.Fields.{client_fields, relay_fields}
+use Rattle.banavoge_laws.specs.Nodes.{NodePlaces, node_places_of, node_given, node_code, node_after, ReadsNode, step_code, step_after, StepsNode, node_written_code}
+use Rattle.histories.specs.WrittenAndRead.{kind_told, payload_at, client_told, relay_told, Tells, RelayTells, ClientTells, ClientWriting, RelayWriting, Makes, WrittenBack, NodeTold, NodeTells, NodeMakes}
+use Rattle.histories.proofs.Answered.{below_not}
 
 -- ---- either end
 
 -- a byte count is that of a packet written
-count-told : (count : ℕ) (w : Written) → pos count ≡ writtenCode w → w ≡ written.Bytes count
-unfolding writtenCode
-count-told count (written.Bytes n) e = let q : count ≡ n = cc in ap written.Bytes (sym q)
-count-told count (written.Refused why) e = absurd (below-not why count (sym e))
+count_told : (count : ℕ) (w : Written) → pos count ≡ written_code w → w ≡ written.Bytes count
+unfolding written_code
+count_told count (written.Bytes n) e = let q : count ≡ n = cc in ap written.Bytes (sym q)
+count_told count (written.Refused why) e = absurd (below_not why count (sym e))
 
 -- a writer that takes the packet puts its bytes into an output that has room
 puts : {A : Type 0} (judged : packet.Read A) (p : A) (bytes out left : List ℕ) (w : Written) (answer : ℤ) → judged ≡ packet.packet p
-    → packets.Writes judged bytes out w left → answer ≡ writtenCode w → length bytes ≤ length out → (answer ≡ pos (length bytes)) × (left ≡ bytes ++ drop (length bytes) out)
-unfolding writtenAnswer writtenOutput writtenCode
+    → packets.Writes judged bytes out w left → answer ≡ written_code w → length bytes ≤ length out → (answer ≡ pos (length bytes)) × (left ≡ bytes ++ drop (length bytes) out)
+unfolding written_answer written_output written_code
 puts judged p bytes out left w answer taken writes code h =
     let l = le-leb (length bytes) (length out) h in
     let counted : w ≡ written.Bytes (length bytes) = writes.answers ∙ simp (taken, l) in
-    (code ∙ ap writtenCode counted, writes.leaves ∙ simp (taken, l))
+    (code ∙ ap written_code counted, writes.leaves ∙ simp (taken, l))
 
 -- packets that one end writes (`judged`, `bytes_of`, with fields that fit) and the other reads (`read`) and tells
-module _ {A : Type 0} (told : ℕ → Places → List ℕ → List ℕ → A) (fields_of : A → Fields) (keyIn : packet.Read A → List ℕ) (read : List ℕ → packet.Read A)
+module _ {A : Type 0} (told : ℕ → Places → List ℕ → List ℕ → A) (fields_of : A → Fields) (key_in : packet.Read A → List ℕ) (read : List ℕ → packet.Read A)
     (judged : A → packet.Read A) (bytes_of : A → List ℕ) (FitsIn : A → Type 0)
     (is-told : (p q : A) → FitsIn p → judged p ≡ packet.packet q
-    → (kindTold (bytes_of p) ≡ (fields_of p).kind)
-    × (told (fields_of p).kind (places_of (fields_of p)) (keyIn (packet.packet p)) (payloadAt (bytes_of p) (places_of (fields_of p))) ≡ p)) where
+    → (kind_told (bytes_of p) ≡ (fields_of p).kind)
+    × (told (fields_of p).kind (places_of (fields_of p)) (key_in (packet.packet p)) (payload_at (bytes_of p) (places_of (fields_of p))) ≡ p)) where
   -- a packet written, as a call of its writer's export has it
   record Wrote (p : A) (out left : List ℕ) (answer : ℤ) : Type 0 where
     given : Written
     fits : FitsIn p
     writes : packets.Writes (judged p) (bytes_of p) out given left
-    codes : answer ≡ writtenCode given
+    codes : answer ≡ written_code given
 
   -- bytes of a packet that read as it are told as it
-  read-tells : (p q : A) (bytes : List ℕ) → FitsIn p → judged p ≡ packet.packet q → read bytes ≡ packet.packet p → bytes_of p ≡ bytes
-      → Tells told fields_of keyIn (read bytes) p bytes
-  unfolding read_code placesAfter keyAfter
-  read-tells p q bytes f taken e made =
+  read_tells : (p q : A) (bytes : List ℕ) → FitsIn p → judged p ≡ packet.packet q → read bytes ≡ packet.packet p → bytes_of p ≡ bytes
+      → Tells told fields_of key_in (read bytes) p bytes
+  unfolding read_code places_after key_after
+  read_tells p q bytes f taken e made =
       let o = is-told p q f taken in
       let places = places_of (fields_of p) in
-      let key = keyIn (packet.packet p) in
-      let kind : (fields_of p).kind ≡ kindTold bytes = sym o.0 ∙ ap kindTold made in
+      let key = key_in (packet.packet p) in
+      let kind : (fields_of p).kind ≡ kind_told bytes = sym o.0 ∙ ap kind_told made in
       record {
         places = places;
         key = key;
-        byRead = λ answer before after c. (c.answers ∙ ap (read_code fields_of) e ∙ ap pos kind, c.leaves ∙ ap (λ (r : packet.Read A). placesAfter fields_of r before) e);
-        byKey = λ answer before after c. (c.answers ∙ ap (read_code fields_of) e ∙ ap pos kind, c.leaves ∙ ap (λ (r : packet.Read A). keyAfter keyIn r before) e);
-        is = ap₂ (λ (k : ℕ) (b : List ℕ). told k places key (payloadAt b places)) (sym kind) (sym made) ∙ o.1;
+        by_read = λ answer before after c. (c.answers ∙ ap (read_code fields_of) e ∙ ap pos kind, c.leaves ∙ ap (λ (r : packet.Read A). places_after fields_of r before) e);
+        by_key = λ answer before after c. (c.answers ∙ ap (read_code fields_of) e ∙ ap pos kind, c.leaves ∙ ap (λ (r : packet.Read A). key_after key_in r before) e);
+        is = ap₂ (λ (k : ℕ) (b : List ℕ). told k places key (payload_at b places)) (sym kind) (sym made) ∙ o.1;
       }
 
   -- READING WHAT WAS WRITTEN: the front of the output, as many bytes as were answered
-  tells-written : ((p q : A) → FitsIn p → judged p ≡ packet.packet q → (q ≡ p) × (read (bytes_of p) ≡ packet.packet p))
-      → (p : A) (out left : List ℕ) (count : ℕ) → Wrote p out left (pos count) → Tells told fields_of keyIn (read (take count left)) p (take count left)
-  tells-written back p out left count c =
-      let w = subst (λ (x : Written). packets.Writes (judged p) (bytes_of p) out x left) (count-told count c.given c.codes) c.writes in
-      let put = writes-put (judged p) (bytes_of p) out left count w in
-      read-tells p put.found (take count left) c.fits put.taken (ap read put.front ∙ (back p put.found c.fits put.taken).1) (sym put.front)
+  tells_written : ((p q : A) → FitsIn p → judged p ≡ packet.packet q → (q ≡ p) × (read (bytes_of p) ≡ packet.packet p))
+      → (p : A) (out left : List ℕ) (count : ℕ) → Wrote p out left (pos count) → Tells told fields_of key_in (read (take count left)) p (take count left)
+  tells_written back p out left count c =
+      let w = subst (λ (x : Written). packets.Writes (judged p) (bytes_of p) out x left) (count_told count c.given c.codes) c.writes in
+      let put = writes_put (judged p) (bytes_of p) out left count w in
+      read_tells p put.found (take count left) c.fits put.taken (ap read put.front ∙ (back p put.found c.fits put.taken).1) (sym put.front)
 
   -- WRITING WHAT WAS READ
-  writes-told : (writing : A → List ℕ → List ℕ → ℤ → Type 0) → ((p : A) (out left : List ℕ) (answer : ℤ) → writing p out left answer → Wrote p out left answer)
+  writes_told : (writing : A → List ℕ → List ℕ → ℤ → Type 0) → ((p : A) (out left : List ℕ) (answer : ℤ) → writing p out left answer → Wrote p out left answer)
       → (bytes : List ℕ) → (Bytes bytes → (p : A) → read bytes ≡ packet.packet p → FitsIn p × (judged p ≡ packet.packet p) × (bytes_of p ≡ bytes))
-      → WrittenBack told fields_of keyIn (read bytes) writing bytes
+      → WrittenBack told fields_of key_in (read bytes) writing bytes
   unfolding read_code
-  writes-told writing opened bytes makes kind kind' before places keyBefore key c d = go (read bytes) refl c.does.answers
+  writes_told writing opened bytes makes kind kind' before places key_before key c d = go (read bytes) refl c.does.answers
     where
-      back : (p : A) → read bytes ≡ packet.packet p → Makes writing (told kind places key (payloadAt bytes places)) bytes
+      back : (p : A) → read bytes ≡ packet.packet p → Makes writing (told kind places key (payload_at bytes places)) bytes
       back p e =
           let m = makes c.bytes p e in
-          let t = read-tells p p bytes m.0 m.1 e m.2 in
-          let r = t.byRead (pos kind) before places c.does in
-          let k = t.byKey (pos kind') keyBefore key d in
-          let same_kind : kind ≡ kindTold bytes = (let z = r.0 in cc) in
-          let is : told kind places key (payloadAt bytes places) ≡ p =
-          ap₂ (λ (x : ℕ) (y : Places). told x y key (payloadAt bytes y)) same_kind r.1
-          ∙ ap (λ (x : List ℕ). told (kindTold bytes) t.places x (payloadAt bytes t.places)) k.1 ∙ t.is in
+          let t = read_tells p p bytes m.0 m.1 e m.2 in
+          let r = t.by_read (pos kind) before places c.does in
+          let k = t.by_key (pos kind') key_before key d in
+          let same_kind : kind ≡ kind_told bytes = (let z = r.0 in cc) in
+          let is : told kind places key (payload_at bytes places) ≡ p =
+          ap₂ (λ (x : ℕ) (y : Places). told x y key (payload_at bytes y)) same_kind r.1
+          ∙ ap (λ (x : List ℕ). told (kind_told bytes) t.places x (payload_at bytes t.places)) k.1 ∙ t.is in
           subst (λ (x : A). Makes writing x bytes) (sym is)
           (λ out left answer call h.
           let w = opened p out left answer call in
           subst (λ (x : List ℕ). (answer ≡ pos (length x)) × (left ≡ x ++ drop (length x) out)) m.2
           (puts (judged p) p (bytes_of p) out left w.given answer m.1 w.writes w.codes (let l = ap length m.2 in omega arith)))
 
-      go : (r : packet.Read A) → read bytes ≡ r → pos kind ≡ read_code fields_of r → Makes writing (told kind places key (payloadAt bytes places)) bytes
+      go : (r : packet.Read A) → read bytes ≡ r → pos kind ≡ read_code fields_of r → Makes writing (told kind places key (payload_at bytes places)) bytes
       go (packet.packet p) e z = back p e
-      go (packet.refused why) e z = absurd (below-not why kind (sym z))
+      go (packet.refused why) e z = absurd (below_not why kind (sym z))
 
 -- the number of data that a writer takes
-data-high : {A : Type 0} (number : ℕ) (bytes : List ℕ) (after : packet.Read A) (q : A) → dataNumber number bytes after ≡ packet.packet q → leb 16 number ≡ true
-unfolding dataNumber packet.check
-data-high number bytes after q e = go (sizeRight (length (number ∷ bytes))) (leb 16 number) refl e
+data_high : {A : Type 0} (number : ℕ) (bytes : List ℕ) (after : packet.Read A) (q : A) → data_number number bytes after ≡ packet.packet q → leb 16 number ≡ true
+unfolding data_number packet.check
+data_high number bytes after q e = go (size_right (length (number ∷ bytes))) (leb 16 number) refl e
   where
     go : (t u : Bool) → leb 16 number ≡ u → packet.check t PacketSize (packet.check u UnexpectedKind after) ≡ packet.packet q → leb 16 number ≡ true
     go true true h e = h
@@ -138,140 +138,140 @@ data-high number bytes after q e = go (sizeRight (length (number ∷ bytes))) (l
 
 -- ---- from a client to the relay
 
-client-told : (p q : client.FromClient) → client.FitsClient p → clientJudged p ≡ packet.packet q
-    → (kindTold (client.clientBytes p) ≡ (clientFields p).kind)
-    × (clientTold (clientFields p).kind (places_of (clientFields p)) (relayKey (packet.packet p)) (payloadAt (client.clientBytes p) (places_of (clientFields p))) ≡ p)
-unfolding kindTold kind_of payloadAt clientTold clientFields client.clientBytes relayKey keyFromClient client.FitsClient clientJudged
-client-told (client.routingRequest key) q f e = (refl, refl)
-client-told (client.dropRoute number) q f e = (refl, refl)
-client-told (client.ping n) q f e = (refl, refl)
-client-told (client.pong n) q f e = (refl, refl)
-client-told (client.oobSend key bytes) q f e =
-    (refl, ap (client.oobSend key) (ap (take (length bytes)) (drop_at key bytes 32 f.0.long) ∙ take_all (length bytes) bytes (omega arith)))
-client-told (client.routedData number bytes) q f e =
-    (simp (data-high number bytes _ q e), ap (client.routedData number) (take_all (length bytes) bytes (omega arith)))
+client_told_lem : (p q : client.FromClient) → client.FitsClient p → client_judged p ≡ packet.packet q
+    → (kind_told (client.client_bytes p) ≡ (client_fields p).kind)
+    × (client_told (client_fields p).kind (places_of (client_fields p)) (relay_key (packet.packet p)) (payload_at (client.client_bytes p) (places_of (client_fields p))) ≡ p)
+unfolding kind_told kind_of payload_at client_told client_fields client.client_bytes relay_key key_from_client client.FitsClient client_judged
+client_told_lem (client.routing_request key) q f e = (refl, refl)
+client_told_lem (client.drop_route number) q f e = (refl, refl)
+client_told_lem (client.ping n) q f e = (refl, refl)
+client_told_lem (client.pong n) q f e = (refl, refl)
+client_told_lem (client.oob_send key bytes) q f e =
+    (refl, ap (client.oob_send key) (ap (take (length bytes)) (drop_at key bytes 32 f.0.long) ∙ take_all (length bytes) bytes (omega arith)))
+client_told_lem (client.routed_data number bytes) q f e =
+    (simp (data_high number bytes _ q e), ap (client.routed_data number) (take_all (length bytes) bytes (omega arith)))
 
-client-wrote : (p : client.FromClient) (out left : List ℕ) (answer : ℤ) → ClientWriting p out left answer
-    → Wrote clientTold clientFields relayKey client.relayRead clientJudged client.clientBytes client.FitsClient client-told p out left answer
-client-wrote p out left answer c = record { given = c.given; fits = c.relates.fits; writes = c.relates.writes; codes = c.codes }
+client_wrote : (p : client.FromClient) (out left : List ℕ) (answer : ℤ) → ClientWriting p out left answer
+    → Wrote client_told client_fields relay_key client.relay_read client_judged client.client_bytes client.FitsClient client_told_lem p out left answer
+client_wrote p out left answer c = record { given = c.given; fits = c.relates.fits; writes = c.relates.writes; codes = c.codes }
 
-pub relay-tells-written : (p : client.FromClient) (out left : List ℕ) (count : ℕ) → ClientWriting p out left (pos count) → RelayTells p (take count left)
-relay-tells-written p out left count c =
-    tells-written clientTold clientFields relayKey client.relayRead clientJudged client.clientBytes client.FitsClient client-told relay-reads-written p out left count
-    (client-wrote p out left (pos count) c)
+pub relay_tells_written : (p : client.FromClient) (out left : List ℕ) (count : ℕ) → ClientWriting p out left (pos count) → RelayTells p (take count left)
+relay_tells_written p out left count c =
+    tells_written client_told client_fields relay_key client.relay_read client_judged client.client_bytes client.FitsClient client_told_lem relay_reads_written p out left count
+    (client_wrote p out left (pos count) c)
 
-pub client-writes-told : (bytes : List ℕ) → WrittenBack clientTold clientFields relayKey (client.relayRead bytes) ClientWriting bytes
-client-writes-told bytes =
-    writes-told clientTold clientFields relayKey client.relayRead clientJudged client.clientBytes client.FitsClient client-told ClientWriting client-wrote bytes
-    (λ b p e. let m = client-writes-read bytes p b e in (m.fits, m.taken, m.makes))
+pub client_writes_told : (bytes : List ℕ) → WrittenBack client_told client_fields relay_key (client.relay_read bytes) ClientWriting bytes
+client_writes_told bytes =
+    writes_told client_told client_fields relay_key client.relay_read client_judged client.client_bytes client.FitsClient client_told_lem ClientWriting client_wrote bytes
+    (λ b p e. let m = client_writes_read bytes p b e in (m.fits, m.taken, m.makes))
 
 -- ---- from the relay to a client
 
-relay-told : (p q : relay.FromRelay) → relay.FitsRelay p → relayJudged p ≡ packet.packet q
-    → (kindTold (relay.relayBytes p) ≡ (relayFields p).kind)
-    × (relayTold (relayFields p).kind (places_of (relayFields p)) (clientKey (packet.packet p)) (payloadAt (relay.relayBytes p) (places_of (relayFields p))) ≡ p)
-unfolding kindTold kind_of payloadAt relayTold relayFields relay.relayBytes clientKey keyFromRelay relay.FitsRelay relayJudged
-relay-told (relay.routingResponse number key) q f e = (refl, refl)
-relay-told (relay.connectNotice number) q f e = (refl, refl)
-relay-told (relay.disconnectNotice number) q f e = (refl, refl)
-relay-told (relay.ping n) q f e = (refl, refl)
-relay-told (relay.pong n) q f e = (refl, refl)
-relay-told (relay.oobReceived key bytes) q f e =
-    (refl, ap (relay.oobReceived key) (ap (take (length bytes)) (drop_at key bytes 32 f.0.long) ∙ take_all (length bytes) bytes (omega arith)))
-relay-told (relay.routedData number bytes) q f e =
-    (simp (data-high number bytes _ q e), ap (relay.routedData number) (take_all (length bytes) bytes (omega arith)))
+relay_told_lem : (p q : relay.FromRelay) → relay.FitsRelay p → relay_judged p ≡ packet.packet q
+    → (kind_told (relay.relay_bytes p) ≡ (relay_fields p).kind)
+    × (relay_told (relay_fields p).kind (places_of (relay_fields p)) (client_key (packet.packet p)) (payload_at (relay.relay_bytes p) (places_of (relay_fields p))) ≡ p)
+unfolding kind_told kind_of payload_at relay_told relay_fields relay.relay_bytes client_key key_from_relay relay.FitsRelay relay_judged
+relay_told_lem (relay.routing_response number key) q f e = (refl, refl)
+relay_told_lem (relay.connect_notice number) q f e = (refl, refl)
+relay_told_lem (relay.disconnect_notice number) q f e = (refl, refl)
+relay_told_lem (relay.ping n) q f e = (refl, refl)
+relay_told_lem (relay.pong n) q f e = (refl, refl)
+relay_told_lem (relay.oob_received key bytes) q f e =
+    (refl, ap (relay.oob_received key) (ap (take (length bytes)) (drop_at key bytes 32 f.0.long) ∙ take_all (length bytes) bytes (omega arith)))
+relay_told_lem (relay.routed_data number bytes) q f e =
+    (simp (data_high number bytes _ q e), ap (relay.routed_data number) (take_all (length bytes) bytes (omega arith)))
 
-relay-wrote : (p : relay.FromRelay) (out left : List ℕ) (answer : ℤ) → RelayWriting p out left answer
-    → Wrote relayTold relayFields clientKey relay.clientRead relayJudged relay.relayBytes relay.FitsRelay relay-told p out left answer
-relay-wrote p out left answer c = record { given = c.given; fits = c.relates.fits; writes = c.relates.writes; codes = c.codes }
+relay_wrote : (p : relay.FromRelay) (out left : List ℕ) (answer : ℤ) → RelayWriting p out left answer
+    → Wrote relay_told relay_fields client_key relay.client_read relay_judged relay.relay_bytes relay.FitsRelay relay_told_lem p out left answer
+relay_wrote p out left answer c = record { given = c.given; fits = c.relates.fits; writes = c.relates.writes; codes = c.codes }
 
-pub client-tells-written : (p : relay.FromRelay) (out left : List ℕ) (count : ℕ) → RelayWriting p out left (pos count) → ClientTells p (take count left)
-client-tells-written p out left count c =
-    tells-written relayTold relayFields clientKey relay.clientRead relayJudged relay.relayBytes relay.FitsRelay relay-told client-reads-written p out left count
-    (relay-wrote p out left (pos count) c)
+pub client_tells_written : (p : relay.FromRelay) (out left : List ℕ) (count : ℕ) → RelayWriting p out left (pos count) → ClientTells p (take count left)
+client_tells_written p out left count c =
+    tells_written relay_told relay_fields client_key relay.client_read relay_judged relay.relay_bytes relay.FitsRelay relay_told_lem client_reads_written p out left count
+    (relay_wrote p out left (pos count) c)
 
-pub relay-writes-told : (bytes : List ℕ) → WrittenBack relayTold relayFields clientKey (relay.clientRead bytes) RelayWriting bytes
-relay-writes-told bytes =
-    writes-told relayTold relayFields clientKey relay.clientRead relayJudged relay.relayBytes relay.FitsRelay relay-told RelayWriting relay-wrote bytes
-    (λ b p e. let m = relay-writes-read bytes p b e in (m.fits, m.taken, m.makes))
+pub relay_writes_told : (bytes : List ℕ) → WrittenBack relay_told relay_fields client_key (relay.client_read bytes) RelayWriting bytes
+relay_writes_told bytes =
+    writes_told relay_told relay_fields client_key relay.client_read relay_judged relay.relay_bytes relay.FitsRelay relay_told_lem RelayWriting relay_wrote bytes
+    (λ b p e. let m = relay_writes_read bytes p b e in (m.fits, m.taken, m.makes))
 
 -- one export for both ends: a ping, a pong and data are written as either end's
-module _ {p : client.FromClient} {q : relay.FromRelay} {out left : List ℕ} {answer : ℤ} (c : ToldAs writtenCode (BothWrite p q out left) answer) where
-  pub both-as-client : ClientWriting p out left answer
-  both-as-client = record { given = c.given; relates = c.relates.asClient; codes = c.codes }
+module _ {p : client.FromClient} {q : relay.FromRelay} {out left : List ℕ} {answer : ℤ} (c : ToldAs written_code (BothWrite p q out left) answer) where
+  pub both_as_client : ClientWriting p out left answer
+  both_as_client = record { given = c.given; relates = c.relates.as_client; codes = c.codes }
 
-  pub both-as-relay : RelayWriting q out left answer
-  both-as-relay = record { given = c.given; relates = c.relates.asRelay; codes = c.codes }
+  pub both_as_relay : RelayWriting q out left answer
+  both_as_relay = record { given = c.given; relates = c.relates.as_relay; codes = c.codes }
 
 -- ---- nodes
 
-node-count-told : (count : ℕ) (w : node-written.Written) → pos count ≡ nodeWrittenCode w → w ≡ node-written.TheVariants.Bytes count
-unfolding nodeWrittenCode
-node-count-told count (node-written.TheVariants.Bytes n) e = let q : count ≡ n = cc in ap node-written.TheVariants.Bytes (sym q)
-node-count-told count (node-written.TheVariants.Refused why) e = absurd (below-not why count (sym e))
+node_count_told : (count : ℕ) (w : node-written.Written) → pos count ≡ node_written_code w → w ≡ node-written.TheVariants.Bytes count
+unfolding node_written_code
+node_count_told count (node-written.TheVariants.Bytes n) e = let q : count ≡ n = cc in ap node-written.TheVariants.Bytes (sym q)
+node_count_told count (node-written.TheVariants.Refused why) e = absurd (below_not why count (sym e))
 
 -- what the places of a reader are then
-pub places-told : (after : NodePlaces) (n : Node) (next : ℕ) → after ≡ nodePlacesOf n next → NodeTold after n next
-places-told after n next e = record {
-  is = ap (λ (x : NodePlaces). nodeGiven x.family x.address x.port x.key) e;
+pub places_told : (after : NodePlaces) (n : Node) (next : ℕ) → after ≡ node_places_of n next → NodeTold after n next
+places_told after n next e = record {
+  is = ap (λ (x : NodePlaces). node_given x.family x.address x.port x.key) e;
   after = ap (λ (x : NodePlaces). x.next) e;
 }
 
 -- bytes that read as a node are told as that, by both readers
-node-tells : (bytes : List ℕ) (at : ℕ) (i : NodeInfo) (n : Node) (size : ℕ) → at < length bytes → read_node (drop at bytes) ≡ node i → value_of i ≡ settled n
-    → length (packedNode i) ≡ size → NodeTells n size bytes at
-unfolding nodeCode nodeAfter stepCode stepAfter showingRead
-node-tells bytes at i n size within r v l =
-    let told : nodePlacesOf (value_of i) (at + length (packedNode i)) ≡ nodePlacesOf (settled n) (at + size) =
-    ap₂ nodePlacesOf v (ap (λ (k : ℕ). at + k) l) in
+node_tells : (bytes : List ℕ) (at : ℕ) (i : NodeInfo) (n : Node) (size : ℕ) → at < length bytes → read_node (drop at bytes) ≡ node i → value_of i ≡ settled n
+    → length (packed_node i) ≡ size → NodeTells n size bytes at
+unfolding node_code node_after step_code step_after showing_read
+node_tells bytes at i n size within r v l =
+    let told : node_places_of (value_of i) (at + length (packed_node i)) ≡ node_places_of (settled n) (at + size) =
+    ap₂ node_places_of v (ap (λ (k : ℕ). at + k) l) in
     record {
       read = λ answer before after c. (
-        c.answers ∙ ap nodeCode r,
-        places-told after (settled n) (at + size) (c.leaves ∙ ap (λ (x : Read). nodeAfter at x before) r ∙ told),
+        c.answers ∙ ap node_code r,
+        places_told after (settled n) (at + size) (c.leaves ∙ ap (λ (x : Read). node_after at x before) r ∙ told),
       );
       step = λ count few answer before after c.
-          let s = step-read bytes at count within few ∙ ap showingRead r in
-          (c.answers ∙ ap stepCode s, places-told after (settled n) (at + size) (c.leaves ∙ ap (λ (x : Showing). stepAfter at x before) s ∙ told));
+          let s = step_read bytes at count within few ∙ ap showing_read r in
+          (c.answers ∙ ap step_code s, places_told after (settled n) (at + size) (c.leaves ∙ ap (λ (x : Showing). step_after at x before) s ∙ told));
     }
 
 -- READING WHAT WAS WRITTEN: at any place of any bytes where the node written stands
-pub node-told-written : (n : Node) (out left : List ℕ) (count : ℕ) → ToldAs nodeWrittenCode (WritesNode n out left) (pos count)
+pub node_told_written : (n : Node) (out left : List ℕ) (count : ℕ) → ToldAs node_written_code (WritesNode n out left) (pos count)
     → (bytes rest : List ℕ) (at : ℕ) → drop at bytes ≡ take count left ++ rest → NodeTells n count bytes at
-unfolding infoOf
-node-told-written n out left count c bytes rest at stands =
+unfolding info_of
+node_told_written n out left count c bytes rest at stands =
     let w = c.relates in
-    let i = infoOf n in
-    let put = count-put i out left c.given w.writes count (node-count-told count c.given c.codes) in
-    let front : take count left ≡ packedNode i = ap (take count) put.bytes ∙ take_at (packedNode i) (drop count out) count (sym put.count) in
-    let there : drop at bytes ≡ packedNode i ++ rest = stands ∙ ap (λ (x : List ℕ). x ++ rest) front in
-    let long : 1 ≤ length (packedNode i ++ rest) = unfold packedNode in omega arith in
+    let i = info_of n in
+    let put = count_put i out left c.given w.writes count (node_count_told count c.given c.codes) in
+    let front : take count left ≡ packed_node i = ap (take count) put.bytes ∙ take_at (packed_node i) (drop count out) count (sym put.count) in
+    let there : drop at bytes ≡ packed_node i ++ rest = stands ∙ ap (λ (x : List ℕ). x ++ rest) front in
+    let long : 1 ≤ length (packed_node i ++ rest) = unfold packed_node in omega arith in
     let d = length-drop at bytes in
     let e = ap length there in
-    node-tells bytes at i n count (omega arith) (ap read_node there ∙ read-packed i (value-fits n w.fits put.known) rest) (value-settled n w.fits.long) (sym put.count)
+    node_tells bytes at i n count (omega arith) (ap read_node there ∙ read_packed i (value_fits n w.fits put.known) rest) (value_settled n w.fits.long) (sym put.count)
 
 -- WRITING WHAT WAS READ: the places of a reader that found a node
-node-makes : (bytes : List ℕ) → Bytes bytes → (at : ℕ) (told : NodePlaces) (i : NodeInfo) → read_node (drop at bytes) ≡ node i
-    → told ≡ nodePlacesOf (value_of i) (at + length (packedNode i)) → NodeMakes bytes at told
-unfolding nodeWrittenCode
-node-makes bytes b at told i r e out left answer w h =
-    let t = read-exactly (drop at bytes) i (bytes_drop at bytes b) r in
-    let v : nodeGiven told.family told.address told.port told.key ≡ value_of i =
-    ap (λ (x : NodePlaces). nodeGiven x.family x.address x.port x.key) e in
-    let q : told.next - at ≡ length (packedNode i) = let z : told.next ≡ at + length (packedNode i) = ap (λ (x : NodePlaces). x.next) e in omega arith in
-    let writes = subst (λ (x : NodeInfo). Writes x out w.given left) (ap infoOf v ∙ info-of-value i t.fits.long) w.relates.writes in
+node_makes : (bytes : List ℕ) → Bytes bytes → (at : ℕ) (told : NodePlaces) (i : NodeInfo) → read_node (drop at bytes) ≡ node i
+    → told ≡ node_places_of (value_of i) (at + length (packed_node i)) → NodeMakes bytes at told
+unfolding node_written_code
+node_makes bytes b at told i r e out left answer w h =
+    let t = read_exactly (drop at bytes) i (bytes_drop at bytes b) r in
+    let v : node_given told.family told.address told.port told.key ≡ value_of i =
+    ap (λ (x : NodePlaces). node_given x.family x.address x.port x.key) e in
+    let q : told.next - at ≡ length (packed_node i) = let z : told.next ≡ at + length (packed_node i) = ap (λ (x : NodePlaces). x.next) e in omega arith in
+    let writes = subst (λ (x : NodeInfo). Writes x out w.given left) (ap info_of v ∙ info_of_value i t.fits.long) w.relates.writes in
     let p = put_count i out left w.given writes t.fits.known (omega arith) in
-    let front : packedNode i ≡ take (length (packedNode i)) (drop at bytes) =
-    sym (ap (take (length (packedNode i))) t.front ∙ take_at (packedNode i) _ (length (packedNode i)) refl) in (
-      w.codes ∙ ap nodeWrittenCode p.0 ∙ ap pos (sym q),
-      p.1 ∙ ap (λ (x : List ℕ). x ++ drop (length (packedNode i)) out) front ∙ ap (λ (k : ℕ). take k (drop at bytes) ++ drop k out) (sym q),
+    let front : packed_node i ≡ take (length (packed_node i)) (drop at bytes) =
+    sym (ap (take (length (packed_node i))) t.front ∙ take_at (packed_node i) _ (length (packed_node i)) refl) in (
+      w.codes ∙ ap node_written_code p.0 ∙ ap pos (sym q),
+      p.1 ∙ ap (λ (x : List ℕ). x ++ drop (length (packed_node i)) out) front ∙ ap (λ (k : ℕ). take k (drop at bytes) ++ drop k out) (sym q),
     )
 
 -- a step shows a node that is read there
-step-shows : (bytes : List ℕ) (at count : ℕ) (i : NodeInfo) → step_of bytes at count ≡ shows i → read_node (drop at bytes) ≡ node i
-unfolding step_of showingRead
-step-shows bytes at count i e = go (ltb (length bytes) at) (eqb at (length bytes)) (leb 4 count) (read_node (drop at bytes)) e
+step_shows : (bytes : List ℕ) (at count : ℕ) (i : NodeInfo) → step_of bytes at count ≡ shows i → read_node (drop at bytes) ≡ node i
+unfolding step_of showing_read
+step_shows bytes at count i e = go (ltb (length bytes) at) (eqb at (length bytes)) (leb 4 count) (read_node (drop at bytes)) e
   where
-    go : (past end full : Bool) (r : Read) → cond past (refuses NodeCutShort) (cond end ends (cond full (refuses BytesAfterNodes) (showingRead r))) ≡ shows i → r ≡ node i
+    go : (past end full : Bool) (r : Read) → cond past (refuses NodeCutShort) (cond end ends (cond full (refuses BytesAfterNodes) (showing_read r))) ≡ shows i → r ≡ node i
     go true end full r e = let z : ◌≡◌ {A = ℕ} 0 1 = cc in absurd (omega arith)
     go false true full r e = let z : ◌≡◌ {A = ℕ} 0 1 = cc in absurd (omega arith)
     go false false true r e = let z : ◌≡◌ {A = ℕ} 0 1 = cc in absurd (omega arith)
@@ -279,20 +279,20 @@ step-shows bytes at count i e = go (ltb (length bytes) at) (eqb at (length bytes
     go false false false (refused why) e = let z : ◌≡◌ {A = ℕ} 0 1 = cc in absurd (omega arith)
 
 -- by `banavoge_node_read`
-pub node-writes-told : (bytes : List ℕ) (at : ℕ) (before told : NodePlaces) → OfBytes bytes (ReadsNode at (read_node (drop at bytes)) (pos 0) before told) → NodeMakes bytes at told
-unfolding nodeAfter nodeCode
-node-writes-told bytes at before told c = go (read_node (drop at bytes)) refl c.does.answers c.does.leaves
+pub node_writes_told : (bytes : List ℕ) (at : ℕ) (before told : NodePlaces) → OfBytes bytes (ReadsNode at (read_node (drop at bytes)) (pos 0) before told) → NodeMakes bytes at told
+unfolding node_after node_code
+node_writes_told bytes at before told c = go (read_node (drop at bytes)) refl c.does.answers c.does.leaves
   where
-    go : (r : Read) → read_node (drop at bytes) ≡ r → pos 0 ≡ nodeCode r → told ≡ nodeAfter at r before → NodeMakes bytes at told
-    go (node i) r z e = node-makes bytes c.bytes at told i r e
-    go (refused why) r z e = absurd (below-not why 0 (sym z))
+    go : (r : Read) → read_node (drop at bytes) ≡ r → pos 0 ≡ node_code r → told ≡ node_after at r before → NodeMakes bytes at told
+    go (node i) r z e = node_makes bytes c.bytes at told i r e
+    go (refused why) r z e = absurd (below_not why 0 (sym z))
 
 -- and by `banavoge_nodes_step`
-pub node-writes-stepped : (bytes : List ℕ) (at count : ℕ) (before told : NodePlaces) → OfBytes bytes (StepsNode at (step_of bytes at count) (pos 1) before told) → NodeMakes bytes at told
-unfolding stepAfter stepCode
-node-writes-stepped bytes at count before told c = go (step_of bytes at count) refl c.does.answers c.does.leaves
+pub node_writes_stepped : (bytes : List ℕ) (at count : ℕ) (before told : NodePlaces) → OfBytes bytes (StepsNode at (step_of bytes at count) (pos 1) before told) → NodeMakes bytes at told
+unfolding step_after step_code
+node_writes_stepped bytes at count before told c = go (step_of bytes at count) refl c.does.answers c.does.leaves
   where
-    go : (s : Showing) → step_of bytes at count ≡ s → pos 1 ≡ stepCode s → told ≡ stepAfter at s before → NodeMakes bytes at told
-    go (shows i) s z e = node-makes bytes c.bytes at told i (step-shows bytes at count i s) e
+    go : (s : Showing) → step_of bytes at count ≡ s → pos 1 ≡ step_code s → told ≡ step_after at s before → NodeMakes bytes at told
+    go (shows i) s z e = node_makes bytes c.bytes at told i (step_shows bytes at count i s) e
     go ends s z e = let w : ◌≡◌ {A = ℕ} 1 0 = cc in absurd (omega arith)
-    go (refuses why) s z e = absurd (below-not why 1 (sym z))
+    go (refuses why) s z e = absurd (below_not why 1 (sym z))

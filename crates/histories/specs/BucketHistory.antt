@@ -6,20 +6,20 @@ use Rattle.refusal.specs.declared.Refusal.TheVariants.{OutputTooShort, UnknownFa
 use Rattle.key.specs.declared.Key.{Key}
 use Rattle.key.specs.Keys.{IsKey}
 use Rattle.node.specs.declared.Node.{Node}
-use Rattle.node.specs.Families.{knownFamily}
-use Rattle.node.specs.Values.{infoOf}
-use Rattle.node.specs.Walks.{packedNodes}
-use Rattle.nearest.specs.Lists.{held, nodeKey}
-use Rattle.nearest.specs.Calls.{begun, offerAnswer}
+use Rattle.node.specs.Families.{known_family}
+use Rattle.node.specs.Values.{info_of}
+use Rattle.node.specs.Walks.{packed_nodes}
+use Rattle.nearest.specs.Lists.{held, node_key}
+use Rattle.nearest.specs.Calls.{begun, offer_answer}
 use Rattle.nearest.specs.Sequence as sequence
 use Rattle.lent_list_laws.specs.Layout.{Fits}
-use Rattle.buckets_laws.specs.Layout.{heldIn, heldNodes}
-use Rattle.buckets_laws.specs.Whole.{bucketOf}
-use Rattle.buckets_laws.specs.Effect.{bucketEffect, isKept}
-use Rattle.buckets_laws.specs.Calls.{offerLeft, Begins, Offers, Asks}
-use Rattle.banavoge_laws.specs.Answers.{refusalCode, ToldAs}
-use Rattle.banavoge_laws.specs.Nodes.{nodeWrittenCode}
-use Rattle.banavoge_laws.specs.Nearest.{doneCode, keptCode}
+use Rattle.buckets_laws.specs.Layout.{held_in, held_nodes}
+use Rattle.buckets_laws.specs.Whole.{bucket_of}
+use Rattle.buckets_laws.specs.Effect.{bucket_effect, is_kept}
+use Rattle.buckets_laws.specs.Calls.{offer_left, Begins, Offers, Asks}
+use Rattle.banavoge_laws.specs.Answers.{refusal_code, ToldAs}
+use Rattle.banavoge_laws.specs.Nodes.{node_written_code}
+use Rattle.banavoge_laws.specs.Nearest.{done_code, kept_code}
 use Rattle.histories.specs.ExportedCalls.{Below0}
 
 -- ---- one call
@@ -35,14 +35,14 @@ pub record BucketEvent : Type 0 where
   pub number : ℤ
   pub left : List ℕ
 
-abbrev pub bucketEvent : BucketCall → ℤ → List ℕ → BucketEvent
-bucketEvent call number left = record { call = call; number = number; left = left }
+abbrev pub bucket_event : BucketCall → ℤ → List ℕ → BucketEvent
+bucket_event call number left = record { call = call; number = number; left = left }
 
 -- on the memory m: it leaves m' and is seen as e. To a question the memory is lent to read only
 pub data BucketStep (m : List ℕ) (e : BucketEvent) (m' : List ℕ) : Type 0 where
-  offers : (n : Node) (number : ℤ) → ToldAs keptCode (Offers n m m') number → e ≡ bucketEvent (offering n) number [] → BucketStep m e m'
-  asks : (target : Key) (number : ℤ) (out left : List ℕ) → ToldAs nodeWrittenCode (Asks target m out left) number → m' ≡ m
-      → e ≡ bucketEvent (asking target out) number left → BucketStep m e m'
+  offers : (n : Node) (number : ℤ) → ToldAs kept_code (Offers n m m') number → e ≡ bucket_event (offering n) number [] → BucketStep m e m'
+  asks : (target : Key) (number : ℤ) (out left : List ℕ) → ToldAs node_written_code (Asks target m out left) number → m' ≡ m
+      → e ≡ bucket_event (asking target out) number left → BucketStep m e m'
 
 -- ---- one after the other
 
@@ -53,7 +53,7 @@ pub data BucketChain : List ℕ → List BucketEvent → List ℕ → Type 0 whe
 -- what `banavoge_buckets_begin` leaves of some memory where it answers 0
 pub record BucketsBegun (base : Key) (m : List ℕ) : Type 0 where
   pub memory : List ℕ
-  pub begins : ToldAs doneCode (Begins base memory m) (pos 0)
+  pub begins : ToldAs done_code (Begins base memory m) (pos 0)
 
 -- any calls on buckets from their beginning on
 pub record BucketHistory (base : Key) (events : List BucketEvent) (m' : List ℕ) : Type 0 where
@@ -61,9 +61,9 @@ pub record BucketHistory (base : Key) (events : List BucketEvent) (m' : List ℕ
   pub begun : BucketsBegun base memory
   pub chain : BucketChain memory events m'
 
-unfoldable pub bucketCalls : List BucketEvent → List BucketCall
-bucketCalls [] = []
-bucketCalls (e ∷ events) = e.call ∷ bucketCalls events
+unfoldable pub bucket_calls : List BucketEvent → List BucketCall
+bucket_calls [] = []
+bucket_calls (e ∷ events) = e.call ∷ bucket_calls events
 
 -- nodes with fields as the types of the parameters have them, and targets that are keys
 abbrev pub FitsBucketCalls : List BucketCall → Type 0
@@ -76,44 +76,44 @@ pub record BucketHistoryOf (base : Key) (calls : List BucketCall) : Type 0 where
   pub seen_as : List BucketEvent
   pub left : List ℕ
   pub history : BucketHistory base seen_as left
-  pub are : bucketCalls seen_as ≡ calls
+  pub are : bucket_calls seen_as ≡ calls
 
 -- ---- buckets that were begun keep their rules: no call on them gets 20
 
 abbrev pub NeverBroken : List BucketEvent → Type 0
 NeverBroken [] = Unit {0}
-NeverBroken (e ∷ events) = (e.number ≡ refusalCode BucketsNotWhole → ⊥) × NeverBroken events
+NeverBroken (e ∷ events) = (e.number ≡ refusal_code BucketsNotWhole → ⊥) × NeverBroken events
 
 -- ---- what an offer of n to the memory m is answered, and the memory m' that it leaves
 
 pub record OfferAnswered (base : Key) (n : Node) (m : List ℕ) (number : ℤ) (m' : List ℕ) : Type 0 where
   -- 1 or 0 by the base key and by what the key's bucket holds: "a full bucket takes no new key; a held key has its node replaced"
-  pub known : knownFamily n.family ≡ true → number ≡ keptCode (offerAnswer (isKept (bucketEffect base.0 n (heldIn m (bucketOf base.0 (nodeKey n))))))
+  pub known : known_family n.family ≡ true → number ≡ kept_code (offer_answer (is_kept (bucket_effect base.0 n (held_in m (bucket_of base.0 (node_key n))))))
   -- "The base key is never held; offering it answers no."
-  pub base_key : knownFamily n.family ≡ true → nodeKey n ≡ base.0 → number ≡ pos 0
-  pub unknown : knownFamily n.family ≡ false → number ≡ refusalCode UnknownFamily
+  pub base_key : known_family n.family ≡ true → node_key n ≡ base.0 → number ≡ pos 0
+  pub unknown : known_family n.family ≡ false → number ≡ refusal_code UnknownFamily
   -- answered 1, the node is held; answered 0 or below 0, every byte of the memory is as before
-  pub kept : number ≡ pos 1 → sequence.In n (heldNodes m')
-  pub not-kept : number ≡ pos 0 → m' ≡ m
+  pub kept : number ≡ pos 1 → sequence.In n (held_nodes m')
+  pub not_kept : number ≡ pos 0 → m' ≡ m
   pub refused : Below0 number → m' ≡ m
   -- no node but this one comes in, and every node of another key stays: so where 1 is answered, of a held key the old node is gone, since no key is held twice
-  pub only : (x : Node) → sequence.In x (heldNodes m') → (x ≡ n) ⊎ sequence.In x (heldNodes m)
-  pub others : (x : Node) → sequence.In x (heldNodes m) → (nodeKey x ≡ nodeKey n → ⊥) → sequence.In x (heldNodes m')
+  pub only : (x : Node) → sequence.In x (held_nodes m') → (x ≡ n) ⊎ sequence.In x (held_nodes m)
+  pub others : (x : Node) → sequence.In x (held_nodes m) → (node_key x ≡ node_key n → ⊥) → sequence.In x (held_nodes m')
   -- every byte of the memory afterwards
-  pub leaves : m' ≡ offerLeft m n
+  pub leaves : m' ≡ offer_left m n
 
 -- ---- what a question is answered, and the output that it leaves
 
 -- "A question with a target gets the 4 nearest of all held nodes, or all when fewer, written nearest first as a node list. Prove that this equals offering
 -- every held node to a nearest list of size 4."
-unfoldable pub nearestWritten : List ℕ → Key → List ℕ
-nearestWritten m target = packedNodes (map infoOf (held (sequence.offers (begun target 4).list (heldNodes m))))
+unfoldable pub nearest_written : List ℕ → Key → List ℕ
+nearest_written m target = packed_nodes (map info_of (held (sequence.offers (begun target 4).list (held_nodes m))))
 
 -- these bytes stand at the front of the output, the number is their count, and the rest of the output is as before; an output that is shorter than they are
 -- gets 10, and is as before
 pub record QuestionAnswered (bytes out : List ℕ) (number : ℤ) (left : List ℕ) : Type 0 where
   pub enough : length bytes ≤ length out → (number ≡ pos (length bytes)) × (left ≡ bytes ++ drop (length bytes) out)
-  pub too_short : length out < length bytes → (number ≡ refusalCode OutputTooShort) × (left ≡ out)
+  pub too_short : length out < length bytes → (number ≡ refusal_code OutputTooShort) × (left ≡ out)
   -- so an output of 204 bytes is always enough
   pub few : length bytes ≤ 204
 
@@ -121,7 +121,7 @@ pub record QuestionAnswered (bytes out : List ℕ) (number : ℤ) (left : List �
 
 abbrev pub CallAnswered : Key → List ℕ → BucketCall → ℤ → List ℕ → List ℕ → Type 0
 CallAnswered base m (offering n) number left m' = OfferAnswered base n m number m'
-CallAnswered base m (asking target out) number left m' = QuestionAnswered (nearestWritten m target) out number left × (m' ≡ m)
+CallAnswered base m (asking target out) number left m' = QuestionAnswered (nearest_written m target) out number left × (m' ≡ m)
 
 abbrev pub AllAnswered : {m m' : List ℕ} {events : List BucketEvent} → Key → BucketChain m events m' → Type 0
 AllAnswered base none = Unit {0}

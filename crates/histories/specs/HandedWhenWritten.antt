@@ -6,17 +6,17 @@ use Rattle.rules.specs.Call.{Sent}
 use Rattle.rules.specs.History.{Event}
 use Rattle.rules.specs.Transcript.{Past, Start}
 use Rattle.after_calls.specs.Ticks.{LeavesFrom, done, leaves, stays, TickDoes}
-use Rattle.after_calls.specs.Handed.{afterLeaves}
+use Rattle.after_calls.specs.Handed.{after_leaves}
 use Rattle.isolation.specs.Record.{handed}
 
 -- of the records of the departures: those of one are written after the departures before it, as Leave calls
-unfoldable pub handedByLeaves : {sizes : Sizes} {start : Start} {past : Past} {time : ℕ} {now : Past} {seat many : ℕ} {sent : List Sent}
+unfoldable pub handed_by_leaves : {sizes : Sizes} {start : Start} {past : Past} {time : ℕ} {now : Past} {seat many : ℕ} {sent : List Sent}
     → Key → LeavesFrom sizes start past time now seat many sent → List (List ℕ)
-handedByLeaves c done = []
-handedByLeaves {start = start} c (leaves {now = now} front o tells rest) = handed start now c front ++ handedByLeaves c rest
-handedByLeaves c (stays remains rest) = handedByLeaves c rest
+handed_by_leaves c done = []
+handed_by_leaves {start = start} c (leaves {now = now} front o tells rest) = handed start now c front ++ handed_by_leaves c rest
+handed_by_leaves c (stays remains rest) = handed_by_leaves c rest
 
 -- and then of the pings, which are written after the departures
-unfoldable pub handedByTick : {sizes : Sizes} {start : Start} {past : Past} {time number : ℕ} {e : Event}
+unfoldable pub handed_by_tick : {sizes : Sizes} {start : Start} {past : Past} {time number : ℕ} {e : Event}
     → Key → TickDoes sizes start past time number e → List (List ℕ)
-handedByTick {start = start} c does = handedByLeaves c does.sent.first ++ handed start (afterLeaves does.sent.first) c does.sent.back
+handed_by_tick {start = start} c does = handed_by_leaves c does.sent.first ++ handed start (after_leaves does.sent.first) c does.sent.back

@@ -2,7 +2,7 @@
 use Rattle.std.specs.Prelude.{List, [], ◌∷◌, ◌≡◌, ℕ}
 use Rattle.rules.specs.Call.{Call, FieldsFit}
 use Rattle.rules.specs.History.{Event}
-use Rattle.histories.specs.Lent.{Lent, lentWith}
+use Rattle.histories.specs.Lent.{Lent, lent_with}
 use Rattle.histories.specs.History.{AnyChain, Chain, AnyCalls, History, calls_of}
 
 -- ---- the calls
@@ -17,13 +17,13 @@ pub record CallMade : Type 0 where
   pub call : Call
   pub out : List ℕ
 
-unfoldable pub lentsTo : List CallMade → List Lent
-lentsTo [] = []
-lentsTo (m ∷ made) = lentWith m.call m.out ∷ lentsTo made
+unfoldable pub lents_to : List CallMade → List Lent
+lents_to [] = []
+lents_to (m ∷ made) = lent_with m.call m.out ∷ lents_to made
 
-unfoldable pub callsMade : List CallMade → List Call
-callsMade [] = []
-callsMade (m ∷ made) = m.call ∷ callsMade made
+unfoldable pub calls_made : List CallMade → List Call
+calls_made [] = []
+calls_made (m ∷ made) = m.call ∷ calls_made made
 
 -- ---- chains and histories of these calls
 
@@ -31,8 +31,8 @@ callsMade (m ∷ made) = m.call ∷ callsMade made
 pub record AnyChainOf (s n : ℕ) (b : List ℕ) (made : List CallMade) : Type 0 where
   pub events : List Event
   pub left : List ℕ
-  pub chain : AnyChain s n b (lentsTo made) events left
-  pub are : calls_of events ≡ callsMade made
+  pub chain : AnyChain s n b (lents_to made) events left
+  pub are : calls_of events ≡ calls_made made
 
 -- a chain with these calls
 pub record ChainOf (s n : ℕ) (b : List ℕ) (calls : List Call) : Type 0 where
@@ -45,8 +45,8 @@ pub record ChainOf (s n : ℕ) (b : List ℕ) (calls : List Call) : Type 0 where
 pub record AnyCallsOf (s n : ℕ) (made : List CallMade) : Type 0 where
   pub events : List Event
   pub left : List ℕ
-  pub calls : AnyCalls s n (lentsTo made) events left
-  pub are : calls_of events ≡ callsMade made
+  pub calls : AnyCalls s n (lents_to made) events left
+  pub are : calls_of events ≡ calls_made made
 
 -- a history with these calls
 pub record HistoryOf (s n : ℕ) (calls : List Call) : Type 0 where

@@ -2,11 +2,11 @@
 -- written gives the packet back, and writing what was read gives the bytes back". What is said of a reader holds of every call of it on these bytes.
 use Rattle.std.specs.Prelude.{cond, List, ◌++◌, ◌≡◌, ℕ, ◌+◌, ◌-◌, ◌<◌, ◌≤◌, eqb, leb, ℤ, pos, length, take, drop}
 use Rattle.packet_laws.specs.Read.{Read}
-use Rattle.packet_laws.specs.Table.{firstNumber, kind_of}
+use Rattle.packet_laws.specs.Table.{first_number, kind_of}
 use Rattle.packet_laws.specs.FromClient as client
 use Rattle.packet_laws.specs.FromRelay as relay
-use Rattle.packet_laws.specs.FromClient.{relayKey}
-use Rattle.packet_laws.specs.FromRelay.{clientKey}
+use Rattle.packet_laws.specs.FromClient.{relay_key}
+use Rattle.packet_laws.specs.FromRelay.{client_key}
 use Rattle.packet_write.specs.Written.{ClientWrites, RelayWrites}
 use Rattle.node.specs.declared.Node.{Node}
 use Rattle.node.specs.Nodes.{read_node}
@@ -14,66 +14,66 @@ use Rattle.node.specs.Values.{settled}
 use Rattle.node.specs.Steps.{step_of}
 use Rattle.node.specs.Written.{WritesNode}
 use Rattle.fields.specs.declared.Fields.{Fields}
-use Rattle.banavoge_laws.specs.Answers.{OfBytes, ToldAs, writtenCode}
+use Rattle.banavoge_laws.specs.Answers.{OfBytes, ToldAs, written_code}
 use Rattle.banavoge_laws.specs.Fields.{Places, ReadsFields, ReadsKey}
-use Rattle.fields.specs.Fields.{clientFields, relayFields}
-use Rattle.banavoge_laws.specs.Nodes.{NodePlaces, nodeGiven, nodeWrittenCode, ReadsNode, StepsNode}
+use Rattle.fields.specs.Fields.{client_fields, relay_fields}
+use Rattle.banavoge_laws.specs.Nodes.{NodePlaces, node_given, node_written_code, ReadsNode, StepsNode}
 
 -- ---- packets: what the host is told
 
 -- the kind, which is the first byte; 16 for data, whose first byte is its number
-unfoldable pub kindTold : List ℕ → ℕ
-kindTold bytes = cond (leb firstNumber (kind_of bytes)) firstNumber (kind_of bytes)
+unfoldable pub kind_told : List ℕ → ℕ
+kind_told bytes = cond (leb first_number (kind_of bytes)) first_number (kind_of bytes)
 
 -- the payload, at the place that is told
-unfoldable pub payloadAt : List ℕ → Places → List ℕ
-payloadAt bytes places = take places.size (drop places.start bytes)
+unfoldable pub payload_at : List ℕ → Places → List ℕ
+payload_at bytes places = take places.size (drop places.start bytes)
 
 -- the packet of a client that a kind, the places of the reader, a key and a payload are
-unfoldable pub clientTold : ℕ → Places → List ℕ → List ℕ → client.FromClient
-clientTold kind places key payload =
-    cond (eqb kind 0) (client.routingRequest key)
-    (cond (eqb kind 3) (client.dropRoute places.number)
+unfoldable pub client_told : ℕ → Places → List ℕ → List ℕ → client.FromClient
+client_told kind places key payload =
+    cond (eqb kind 0) (client.routing_request key)
+    (cond (eqb kind 3) (client.drop_route places.number)
     (cond (eqb kind 4) (client.ping places.ping)
     (cond (eqb kind 5) (client.pong places.ping)
-    (cond (eqb kind 6) (client.oobSend key payload)
-    (client.routedData places.number payload)))))
+    (cond (eqb kind 6) (client.oob_send key payload)
+    (client.routed_data places.number payload)))))
 
 -- and that of the relay
-unfoldable pub relayTold : ℕ → Places → List ℕ → List ℕ → relay.FromRelay
-relayTold kind places key payload =
-    cond (eqb kind 1) (relay.routingResponse places.number key)
-    (cond (eqb kind 2) (relay.connectNotice places.number)
-    (cond (eqb kind 3) (relay.disconnectNotice places.number)
+unfoldable pub relay_told : ℕ → Places → List ℕ → List ℕ → relay.FromRelay
+relay_told kind places key payload =
+    cond (eqb kind 1) (relay.routing_response places.number key)
+    (cond (eqb kind 2) (relay.connect_notice places.number)
+    (cond (eqb kind 3) (relay.disconnect_notice places.number)
     (cond (eqb kind 4) (relay.ping places.ping)
     (cond (eqb kind 5) (relay.pong places.ping)
-    (cond (eqb kind 7) (relay.oobReceived key payload)
-    (relay.routedData places.number payload))))))
+    (cond (eqb kind 7) (relay.oob_received key payload)
+    (relay.routed_data places.number payload))))))
 
 -- an end's two readers tell the packet p of these bytes: they answer its kind, and what they tell, with the payload at its place, is p
-pub record Tells {A : Type 0} (told : ℕ → Places → List ℕ → List ℕ → A) (fields_of : A → Fields) (keyIn : Read A → List ℕ) (read : Read A) (p : A) (bytes : List ℕ) : Type 0 where
+pub record Tells {A : Type 0} (told : ℕ → Places → List ℕ → List ℕ → A) (fields_of : A → Fields) (key_in : Read A → List ℕ) (read : Read A) (p : A) (bytes : List ℕ) : Type 0 where
   pub places : Places
   pub key : List ℕ
-  pub byRead : (answer : ℤ) (before after : Places) → ReadsFields fields_of read answer before after → (answer ≡ pos (kindTold bytes)) × (after ≡ places)
-  pub byKey : (answer : ℤ) (before after : List ℕ) → ReadsKey fields_of keyIn read answer before after → (answer ≡ pos (kindTold bytes)) × (after ≡ key)
-  pub is : told (kindTold bytes) places key (payloadAt bytes places) ≡ p
+  pub by_read : (answer : ℤ) (before after : Places) → ReadsFields fields_of read answer before after → (answer ≡ pos (kind_told bytes)) × (after ≡ places)
+  pub by_key : (answer : ℤ) (before after : List ℕ) → ReadsKey fields_of key_in read answer before after → (answer ≡ pos (kind_told bytes)) × (after ≡ key)
+  pub is : told (kind_told bytes) places key (payload_at bytes places) ≡ p
 
 -- `banavoge_relay_read` and `banavoge_relay_key`, of what a client sends
 abbrev pub RelayTells : client.FromClient → List ℕ → Type 0
-RelayTells p bytes = Tells clientTold clientFields relayKey (client.relayRead bytes) p bytes
+RelayTells p bytes = Tells client_told client_fields relay_key (client.relay_read bytes) p bytes
 
 -- `banavoge_client_read` and `banavoge_client_key`, of what the relay sends
 abbrev pub ClientTells : relay.FromRelay → List ℕ → Type 0
-ClientTells p bytes = Tells relayTold relayFields clientKey (relay.clientRead bytes) p bytes
+ClientTells p bytes = Tells relay_told relay_fields client_key (relay.client_read bytes) p bytes
 
 -- ---- packets: what the host writes
 
 -- the exported writers of each end
 abbrev pub ClientWriting : client.FromClient → List ℕ → List ℕ → ℤ → Type 0
-ClientWriting p out left answer = ToldAs writtenCode (ClientWrites p out left) answer
+ClientWriting p out left answer = ToldAs written_code (ClientWrites p out left) answer
 
 abbrev pub RelayWriting : relay.FromRelay → List ℕ → List ℕ → ℤ → Type 0
-RelayWriting p out left answer = ToldAs writtenCode (RelayWrites p out left) answer
+RelayWriting p out left answer = ToldAs written_code (RelayWrites p out left) answer
 
 -- the writer of p makes exactly these bytes, in every output that has room for them
 abbrev pub Makes : {A : Type 0} → (A → List ℕ → List ℕ → ℤ → Type 0) → A → List ℕ → Type 0
@@ -82,16 +82,16 @@ Makes writing p bytes =
 
 -- "writing what was read": the packet that the two readers tell of these bytes, written, is these bytes
 abbrev pub WrittenBack : {A : Type 0} → (ℕ → Places → List ℕ → List ℕ → A) → (A → Fields) → (Read A → List ℕ) → Read A → (A → List ℕ → List ℕ → ℤ → Type 0) → List ℕ → Type 0
-WrittenBack told fields_of keyIn read writing bytes =
-    (kind kind' : ℕ) (before places : Places) (keyBefore key : List ℕ) → OfBytes bytes (ReadsFields fields_of read (pos kind) before places)
-    → ReadsKey fields_of keyIn read (pos kind') keyBefore key
-    → Makes writing (told kind places key (payloadAt bytes places)) bytes
+WrittenBack told fields_of key_in read writing bytes =
+    (kind kind' : ℕ) (before places : Places) (key_before key : List ℕ) → OfBytes bytes (ReadsFields fields_of read (pos kind) before places)
+    → ReadsKey fields_of key_in read (pos kind') key_before key
+    → Makes writing (told kind places key (payload_at bytes places)) bytes
 
 -- ---- nodes
 
 -- what the places of a node's reader hold: a node, and where the next one starts
 pub record NodeTold (told : NodePlaces) (n : Node) (next : ℕ) : Type 0 where
-  pub is : nodeGiven told.family told.address told.port told.key ≡ n
+  pub is : node_given told.family told.address told.port told.key ≡ n
   pub after : told.next ≡ next
 
 -- `banavoge_node_read` at a place of bytes, and `banavoge_nodes_step` there with fewer than four shown, tell the node and that the next one starts `size` bytes on;
@@ -104,5 +104,5 @@ pub record NodeTells (n : Node) (size : ℕ) (bytes : List ℕ) (at : ℕ) : Typ
 -- the node that the places of a reader hold, written, is the bytes from the place read to the next
 abbrev pub NodeMakes : List ℕ → ℕ → NodePlaces → Type 0
 NodeMakes bytes at told =
-    (out left : List ℕ) (answer : ℤ) → ToldAs nodeWrittenCode (WritesNode (nodeGiven told.family told.address told.port told.key) out left) answer
+    (out left : List ℕ) (answer : ℤ) → ToldAs node_written_code (WritesNode (node_given told.family told.address told.port told.key) out left) answer
     → told.next - at ≤ length out → (answer ≡ pos (told.next - at)) × (left ≡ take (told.next - at) (drop at bytes) ++ drop (told.next - at) out)

@@ -9,12 +9,12 @@ use Prim.Native.Nat.{ℕ}
 use Rattle.refusal.specs.declared.Refusal.TheVariants.{RoomFull, PacketSize, NoSuchRoute}
 use lib.ListN.{replicate}
 use Rattle.wire.specs.Numbers.{bytes_of}
-use Rattle.rules.specs.Room.{sizesOf, baseSizes, Key}
-use Rattle.rules.specs.Call.{Call, arrive, leave, packetCall, tick, accepted, refused}
+use Rattle.rules.specs.Room.{sizes_of, base_sizes, Key}
+use Rattle.rules.specs.Call.{Call, arrive, leave, packet_call, tick, accepted, refused}
 use Rattle.rules.specs.History.{Event, happens}
 use Rattle.rules.specs.Transcript.{from_empty, stands}
-use Rattle.rules.specs.After.{pastAfter}
-use Rattle.isolation.specs.Record.{Entry, arrived, departed, own, to_c, droppedC, dataForC, ticked, recordFor, withoutOwn, packetsFor, answersFor, zeroForC}
+use Rattle.rules.specs.After.{past_after}
+use Rattle.isolation.specs.Record.{Entry, arrived, departed, own, to_c, dropped_c, data_for_c, ticked, record_for, without_own, packets_for, answers_for, zero_for_c}
 use Rattle.isolation.proofs.Recorded.{recorded}
 use Rattle.rules.proofs.Computed.{ka, kb, kc, opened}
 
@@ -26,8 +26,8 @@ pub record Row : Type 0 where
 row : Call → List Entry → Row
 row call adds = record { call = call; adds = adds }
 
-callsIn : List Row → List Call
-callsIn rows = map (λ (r : Row). r.call) rows
+calls_in : List Row → List Call
+calls_in rows = map (λ (r : Row). r.call) rows
 
 added : List Row → List Entry
 added [] = []
@@ -39,22 +39,22 @@ kd = replicate 32 0x44
 
 -- the calls of a client in a seat
 ask : ℕ → Key → Call
-ask seat key = packetCall seat (0 ∷ key)
+ask seat key = packet_call seat (0 ∷ key)
 
 dropping : ℕ → ℕ → Call
-dropping seat number = packetCall seat (3 ∷ number ∷ [])
+dropping seat number = packet_call seat (3 ∷ number ∷ [])
 
 sending : ℕ → ℕ → ℕ → Call
-sending seat number byte = packetCall seat (number ∷ byte ∷ [])
+sending seat number byte = packet_call seat (number ∷ byte ∷ [])
 
-outOfBand : ℕ → Key → Call
-outOfBand seat key = packetCall seat (6 ∷ (key ++ (0x62 ∷ [])))
+out_of_band : ℕ → Key → Call
+out_of_band seat key = packet_call seat (6 ∷ (key ++ (0x62 ∷ [])))
 
 ping : ℕ → Call
-ping seat = packetCall seat (4 ∷ bytes_of 8 7)
+ping seat = packet_call seat (4 ∷ bytes_of 8 7)
 
 pong : ℕ → Call
-pong seat = packetCall seat (5 ∷ bytes_of 8 7)
+pong seat = packet_call seat (5 ∷ bytes_of 8 7)
 
 -- C sits in seat 0, KA in seat 1, KB in seat 2; each has one number, 16 (10 hex)
 rows : List Row
@@ -70,27 +70,27 @@ rows =
     ∷ row (sending 1 0x10 0x61) []
     ∷ row (ask 0 ka) (own (ask 0 ka) ∷ [])
     -- data and out-of-band bytes for C
-    ∷ row (sending 1 0x10 0x61) (dataForC ka (0x61 ∷ []) ∷ [])
-    ∷ row (outOfBand 1 kc) (to_c ka (outOfBand 1 kc) ∷ [])
+    ∷ row (sending 1 0x10 0x61) (data_for_c ka (0x61 ∷ []) ∷ [])
+    ∷ row (out_of_band 1 kc) (to_c ka (out_of_band 1 kc) ∷ [])
     -- a request for another key, answered with 0; ping, pong, out-of-band bytes for another key; a refused drop
     ∷ row (ask 1 kb) []
     ∷ row (ping 1) []
     ∷ row (pong 1) []
-    ∷ row (outOfBand 1 kb) []
+    ∷ row (out_of_band 1 kb) []
     ∷ row (dropping 1 0x11) []
     -- C's own: a request for its own key, answered with 0, and a refused drop; data, a ping, and bytes that are no packet, which add nothing where they are KA's
     ∷ row (ask 0 kc) (own (ask 0 kc) ∷ [])
     ∷ row (dropping 0 0x11) (own (dropping 0 0x11) ∷ [])
     ∷ row (sending 0 0x10 0x64) (own (sending 0 0x10 0x64) ∷ [])
     ∷ row (ping 0) (own (ping 0) ∷ [])
-    ∷ row (packetCall 0 []) (own (packetCall 0 []) ∷ [])
-    ∷ row (packetCall 1 []) []
+    ∷ row (packet_call 0 []) (own (packet_call 0 []) ∷ [])
+    ∷ row (packet_call 1 []) []
     -- a third client drops its 16, which is not KA's
     ∷ row (arrive kb) (arrived kb ∷ [])
     ∷ row (ask 2 ka) []
     ∷ row (dropping 2 0x10) []
     -- KA drops its 16, which names C
-    ∷ row (dropping 1 0x10) (droppedC ka ∷ [])
+    ∷ row (dropping 1 0x10) (dropped_c ka ∷ [])
     -- then it names KB: data goes on to KB, and is dropped
     ∷ row (ask 1 kb) []
     ∷ row (ask 2 ka) []
@@ -119,46 +119,46 @@ rows =
 
 -- its events
 seen : List Event
-seen = happens (sizesOf 3 1) (callsIn rows)
+seen = happens (sizes_of 3 1) (calls_in rows)
 
-the-record : recordFor (from_empty (sizesOf 3 1)) [] kc seen ≡ added rows
-unfolding opened recorded seen callsIn added rows row ask dropping sending outOfBand ping pong kd
-the-record = refl
+the_record : record_for (from_empty (sizes_of 3 1)) [] kc seen ≡ added rows
+unfolding opened recorded seen calls_in added rows row ask dropping sending out_of_band ping pong kd
+the_record = refl
 
 -- "neither history answers another client's request for C with 0": those for another key, and C's own, do not count
-no-zero-for-c : zeroForC (from_empty (sizesOf 3 1)) [] kc seen ≡ false
-unfolding opened recorded seen callsIn rows row ask dropping sending outOfBand ping pong kd
-no-zero-for-c = refl
+no_zero_for_c : zero_for_c (from_empty (sizes_of 3 1)) [] kc seen ≡ false
+unfolding opened recorded seen calls_in rows row ask dropping sending out_of_band ping pong kd
+no_zero_for_c = refl
 
 -- this one does: KA has used its number for KB
-zero-for-c : zeroForC (from_empty (sizesOf 3 1)) [] kc (happens (sizesOf 3 1) (arrive kc ∷ arrive ka ∷ ask 1 kb ∷ ask 1 kc ∷ [])) ≡ true
+zero_for_c_lem : zero_for_c (from_empty (sizes_of 3 1)) [] kc (happens (sizes_of 3 1) (arrive kc ∷ arrive ka ∷ ask 1 kb ∷ ask 1 kc ∷ [])) ≡ true
 unfolding opened recorded ask
-zero-for-c = refl
+zero_for_c_lem = refl
 
 -- the answer and the connect notification; data; out-of-band bytes; the answer 0; a pong; then disconnect, connect and disconnect notifications
-handed-to-c : packetsFor (from_empty (sizesOf 3 1)) [] kc seen
+handed_to_c : packets_for (from_empty (sizes_of 3 1)) [] kc seen
     ≡ (1 ∷ 0x10 ∷ ka) ∷ (2 ∷ 0x10 ∷ []) ∷ (0x10 ∷ 0x61 ∷ []) ∷ (7 ∷ (ka ++ (0x62 ∷ []))) ∷ (1 ∷ 0 ∷ kc)
     ∷ (5 ∷ bytes_of 8 7) ∷ (3 ∷ 0x10 ∷ []) ∷ (2 ∷ 0x10 ∷ []) ∷ (3 ∷ 0x10 ∷ []) ∷ (2 ∷ 0x10 ∷ []) ∷ (3 ∷ 0x10 ∷ []) ∷ []
-unfolding opened recorded seen callsIn rows row ask dropping sending outOfBand ping pong kd
-handed-to-c = refl
+unfolding opened recorded seen calls_in rows row ask dropping sending out_of_band ping pong kd
+handed_to_c = refl
 
 -- C's calls alone, in turn
-answered-to-c : answersFor (from_empty (sizesOf 3 1)) [] kc seen
+answered_to_c : answers_for (from_empty (sizes_of 3 1)) [] kc seen
     ≡ accepted 0 0 ∷ accepted 0 0 ∷ accepted 0 47 ∷ accepted 0 37 ∷ refused NoSuchRoute ∷ accepted 0 5 ∷ accepted 0 12 ∷ refused PacketSize
     ∷ accepted 0 0 ∷ refused RoomFull ∷ []
-unfolding opened recorded seen callsIn rows row ask dropping sending outOfBand ping pong kd
-answered-to-c = refl
+unfolding opened recorded seen calls_in rows row ask dropping sending out_of_band ping pong kd
+answered_to_c = refl
 
 -- "A request stands from an answer other than 0": the request that was answered with 0 stands under no number
-zero-does-not-stand : stands (from_empty (sizesOf 3 1)) (pastAfter [] (happens (sizesOf 3 1) (arrive kc ∷ arrive ka ∷ ask 1 kb ∷ ask 1 kc ∷ []))) ka 0 kc ≡ false
+zero_does_not_stand : stands (from_empty (sizes_of 3 1)) (past_after [] (happens (sizes_of 3 1) (arrive kc ∷ arrive ka ∷ ask 1 kb ∷ ask 1 kc ∷ []))) ka 0 kc ≡ false
 unfolding opened recorded ask
-zero-does-not-stand = refl
+zero_does_not_stand = refl
 
 -- ---- P9, and the students' error "Keeping a link to a seat after its client left (P9).": C sits where KA sat, KB sends data to KA, and C is handed nothing
 
-nothing-for-kc : packetsFor (from_empty baseSizes) [] kc (happens baseSizes (arrive ka ∷ arrive kb ∷ ask 0 kb ∷ ask 1 ka ∷ leave 0 ∷ arrive kc ∷ sending 1 0x10 0x61 ∷ [])) ≡ []
+nothing_for_kc : packets_for (from_empty base_sizes) [] kc (happens base_sizes (arrive ka ∷ arrive kb ∷ ask 0 kb ∷ ask 1 ka ∷ leave 0 ∷ arrive kc ∷ sending 1 0x10 0x61 ∷ [])) ≡ []
 unfolding opened recorded ask sending
-nothing-for-kc = refl
+nothing_for_kc = refl
 
 -- ---- ticks
 
@@ -192,47 +192,47 @@ tick_rows =
     ∷ row (tick 71 4) (ticked 71 4 [] ∷ [])
     ∷ []
 
-tickEvents : List Event
-tickEvents = happens (sizesOf 3 1) (callsIn tick_rows)
+tick_events : List Event
+tick_events = happens (sizes_of 3 1) (calls_in tick_rows)
 
-the-tick-record : recordFor (from_empty (sizesOf 3 1)) [] kc tickEvents ≡ added tick_rows
-unfolding opened recorded tickEvents callsIn added tick_rows row ask pong
-the-tick-record = refl
+the_tick_record : record_for (from_empty (sizes_of 3 1)) [] kc tick_events ≡ added tick_rows
+unfolding opened recorded tick_events calls_in added tick_rows row ask pong
+the_tick_record = refl
 
 -- the answer, the connect notification, a ping, the disconnect notification as KA is put out, a ping
-ticks-handed-to-c : packetsFor (from_empty (sizesOf 3 1)) [] kc tickEvents
+ticks_handed_to_c : packets_for (from_empty (sizes_of 3 1)) [] kc tick_events
     ≡ (1 ∷ 0x10 ∷ ka) ∷ (2 ∷ 0x10 ∷ []) ∷ (4 ∷ bytes_of 8 7) ∷ (3 ∷ 0x10 ∷ []) ∷ (4 ∷ bytes_of 8 2) ∷ []
-unfolding opened recorded tickEvents callsIn tick_rows row ask pong
-ticks-handed-to-c = refl
+unfolding opened recorded tick_events calls_in tick_rows row ask pong
+ticks_handed_to_c = refl
 
 -- a tick is no call of C's
-ticks-answered-to-c : answersFor (from_empty (sizesOf 3 1)) [] kc tickEvents ≡ accepted 0 0 ∷ accepted 0 37 ∷ accepted 0 0 ∷ []
-unfolding opened recorded tickEvents callsIn tick_rows row ask pong
-ticks-answered-to-c = refl
+ticks_answered_to_c : answers_for (from_empty (sizes_of 3 1)) [] kc tick_events ≡ accepted 0 0 ∷ accepted 0 37 ∷ accepted 0 0 ∷ []
+unfolding opened recorded tick_events calls_in tick_rows row ask pong
+ticks_answered_to_c = refl
 
 -- two that are connected are put out by one tick. Where C has the higher seat it is told first that KA is gone: it holds its seat when that is written
 higher : List Event
-higher = happens (sizesOf 3 1) (arrive ka ∷ arrive kc ∷ ask 0 kc ∷ ask 1 ka ∷ tick 30 7 ∷ tick 40 8 ∷ [])
+higher = happens (sizes_of 3 1) (arrive ka ∷ arrive kc ∷ ask 0 kc ∷ ask 1 ka ∷ tick 30 7 ∷ tick 40 8 ∷ [])
 
-told-before-it-goes : packetsFor (from_empty (sizesOf 3 1)) [] kc higher ≡ (1 ∷ 0x10 ∷ ka) ∷ (2 ∷ 0x10 ∷ []) ∷ (4 ∷ bytes_of 8 7) ∷ (3 ∷ 0x10 ∷ []) ∷ []
+told_before_it_goes : packets_for (from_empty (sizes_of 3 1)) [] kc higher ≡ (1 ∷ 0x10 ∷ ka) ∷ (2 ∷ 0x10 ∷ []) ∷ (4 ∷ bytes_of 8 7) ∷ (3 ∷ 0x10 ∷ []) ∷ []
 unfolding opened recorded higher ask
-told-before-it-goes = refl
+told_before_it_goes = refl
 
 -- where it has the lower it is gone before KA goes
 lower : List Event
-lower = happens (sizesOf 3 1) (arrive kc ∷ arrive ka ∷ ask 0 ka ∷ ask 1 kc ∷ tick 30 7 ∷ tick 40 8 ∷ [])
+lower = happens (sizes_of 3 1) (arrive kc ∷ arrive ka ∷ ask 0 ka ∷ ask 1 kc ∷ tick 30 7 ∷ tick 40 8 ∷ [])
 
-not-told-after-it-goes : packetsFor (from_empty (sizesOf 3 1)) [] kc lower ≡ (1 ∷ 0x10 ∷ ka) ∷ (2 ∷ 0x10 ∷ []) ∷ (4 ∷ bytes_of 8 7) ∷ []
+not_told_after_it_goes : packets_for (from_empty (sizes_of 3 1)) [] kc lower ≡ (1 ∷ 0x10 ∷ ka) ∷ (2 ∷ 0x10 ∷ []) ∷ (4 ∷ bytes_of 8 7) ∷ []
 unfolding opened recorded lower ask
-not-told-after-it-goes = refl
+not_told_after_it_goes = refl
 
 -- both stand in its record, in seat order; C alone is struck out
-both-put-out : recordFor (from_empty (sizesOf 3 1)) [] kc lower
+both_put_out : record_for (from_empty (sizes_of 3 1)) [] kc lower
     ≡ arrived kc ∷ own (arrive kc) ∷ arrived ka ∷ own (ask 0 ka) ∷ to_c ka (ask 1 kc) ∷ ticked 30 7 [] ∷ ticked 40 8 (kc ∷ ka ∷ []) ∷ []
 unfolding opened recorded lower ask
-both-put-out = refl
+both_put_out = refl
 
-struck-out : map (withoutOwn kc) (recordFor (from_empty (sizesOf 3 1)) [] kc lower)
+struck_out : map (without_own kc) (record_for (from_empty (sizes_of 3 1)) [] kc lower)
     ≡ arrived kc ∷ own (arrive kc) ∷ arrived ka ∷ own (ask 0 ka) ∷ to_c ka (ask 1 kc) ∷ ticked 30 7 [] ∷ ticked 40 8 (ka ∷ []) ∷ []
 unfolding opened recorded lower ask
-struck-out = refl
+struck_out = refl

@@ -9,303 +9,303 @@ use native.Mathlib.Omega.{arith}
 use lib.Dec.{eqb}
 use lib.ListN.{get_or, set, length, get_or-map}
 use borrow.Author.Tests.{eqb-true}
-use Rattle.key.specs.Keys.{sameKey}
-use Rattle.key.proofs.Same.{same_refl, same-sound}
+use Rattle.key.specs.Keys.{same_key}
+use Rattle.key.proofs.Same.{same_refl, same_sound}
 use Rattle.packet_laws.specs.FromRelay as relay
-use Rattle.rules.specs.Room.{Sizes, Key, Route, free, wants, Seat, vacant, holds, Room, Found, none, at, orLater, find, seatOf, isVacant, routeTo, routesOf, seatAt, Peer, alone, joined, Held, setKey, setSeat}
+use Rattle.rules.specs.Room.{Sizes, Key, Route, free, wants, Seat, vacant, holds, Room, Found, none, at, or_later, find, seat_of, is_vacant, route_to, routes_of, seat_at, Peer, alone, joined, Held, set_key, set_seat}
 use Rattle.rules.specs.Whole.{Whole}
 use Rattle.rules.specs.Call.{Answer, Sent}
-use Rattle.rules.specs.Outcome.{Outcome, refuse, sentBytes, accept, to, roomAfter, joinedBy, peerAt, peerIn, peer, toPeer, tellBoth, tellPeer, tellPeers, leaveFrom}
+use Rattle.rules.specs.Outcome.{Outcome, refuse, sent_bytes, accept, to, room_after, joined_by, peer_at, peer_in, peer, to_peer, tell_both, tell_peer, tell_peers, leave_from}
 use Rattle.rules.specs.Transcript.{Past, Start}
 use Rattle.rules.specs.After.{Tied}
-use Rattle.isolation.specs.Record.{handedIf, handed}
-use Rattle.rules.proofs.SeatedLaws.{isFound, client-of}
-use Rattle.rules.proofs.FindLaws.{Once, clash, find-hit, once-tail, once-first}
-use Rattle.rules.proofs.Whole.{key-once, wanted-once}
-use Rattle.rules.proofs.PeerLaws.{peer-has}
-use Rattle.rules.proofs.SentLaws.{count-append, count_same}
-use Rattle.isolation.proofs.View.{SeatView, openSeat, ownSeat, otherSeat, View, setViews, setView, viewSeatIf, viewSeat, project, isOpen, isHeldBy, ownRoutes, namesC, isConnectedIn, isConnected, placeIf, place_of, Observed, observed, packetAt, only, toOne, toBoth, noticeByView, noticesByView, lostNotice, lostBy}
+use Rattle.isolation.specs.Record.{handed_if, handed}
+use Rattle.rules.proofs.SeatedLaws.{is_found, client_of_lem}
+use Rattle.rules.proofs.FindLaws.{Once, clash, find_hit, once_tail, once_first}
+use Rattle.rules.proofs.Whole.{key_once, wanted_once}
+use Rattle.rules.proofs.PeerLaws.{peer_has}
+use Rattle.rules.proofs.SentLaws.{count_append, count_same}
+use Rattle.isolation.proofs.View.{SeatView, open_seat, own_seat, other_seat, View, set_views, set_view, view_seat_if, view_seat, project, is_open, is_held_by, own_routes, names_c, is_connected_in, is_connected, place_if, place_of, Observed, observed, packet_at, only, to_one, to_both, notice_by_view, notices_by_view, lost_notice, lost_by}
 
 -- ---- lists
 
 module _ {A B : Type 0} where
-  find-map : (test' : B → Bool) (test : A → Bool) (f : A → B) → ((x : A) → test' (f x) ≡ test x) → (l : List A) → find test' (map f l) ≡ find test l
+  find_map : (test' : B → Bool) (test : A → Bool) (f : A → B) → ((x : A) → test' (f x) ≡ test x) → (l : List A) → find test' (map f l) ≡ find test l
   unfolding find
-  find-map test' test f e [] = refl
-  find-map test' test f e (x ∷ l) = rw (e x, find-map test' test f e l)
+  find_map test' test f e [] = refl
+  find_map test' test f e (x ∷ l) = rw (e x, find_map test' test f e l)
 
-  pub map-set : (f : A → B) (l : List A) (i : ℕ) (x : A) → map f (set l i x) ≡ set (map f l) i (f x)
-  map-set f [] i x = refl
-  map-set f (y ∷ l) zero x = refl
-  map-set f (y ∷ l) (suc i) x = ap (λ t. f y ∷ t) (map-set f l i x)
+  pub map_set : (f : A → B) (l : List A) (i : ℕ) (x : A) → map f (set l i x) ≡ set (map f l) i (f x)
+  map_set f [] i x = refl
+  map_set f (y ∷ l) zero x = refl
+  map_set f (y ∷ l) (suc i) x = ap (λ t. f y ∷ t) (map_set f l i x)
 
-pub found-later : (f : Found) → isFound (orLater false f) ≡ isFound f
-unfolding isFound orLater
-found-later none = refl
-found-later (at i) = refl
+pub found_later : (f : Found) → is_found (or_later false f) ≡ is_found f
+unfolding is_found or_later
+found_later none = refl
+found_later (at i) = refl
 
 -- put in at a place that is there, it is found
-pub find-put : {A : Type 0} (test' test : A → Bool) (l : List A) (i : ℕ) (y : A) → test y ≡ true → find test' l ≡ at i → isFound (find test (set l i y)) ≡ true
-unfolding find orLater isFound
-find-put test' test [] i y hy e = clash (cc)
-find-put test' test (x ∷ l) zero y hy e = rw hy
-find-put test' test (x ∷ l) (suc i) y hy e = go (test' x) (find test' l) (find-put test' test l i y hy) e (test x)
+pub find_put : {A : Type 0} (test' test : A → Bool) (l : List A) (i : ℕ) (y : A) → test y ≡ true → find test' l ≡ at i → is_found (find test (set l i y)) ≡ true
+unfolding find or_later is_found
+find_put test' test [] i y hy e = clash (cc)
+find_put test' test (x ∷ l) zero y hy e = rw hy
+find_put test' test (x ∷ l) (suc i) y hy e = go (test' x) (find test' l) (find_put test' test l i y hy) e (test x)
   where
-    go : (b : Bool) (f : Found) → (f ≡ at i → isFound (find test (set l i y)) ≡ true) → orLater b f ≡ at (suc i) → (t : Bool) → isFound (orLater t (find test (set l i y))) ≡ true
+    go : (b : Bool) (f : Found) → (f ≡ at i → is_found (find test (set l i y)) ≡ true) → or_later b f ≡ at (suc i) → (t : Bool) → is_found (or_later t (find test (set l i y))) ≡ true
     go true f k h t = let z : 0 ≡ suc i = cc in absurd (omega arith)
     go false none k h t = clash (cc)
     go false (at m) k h true = refl
-    go false (at m) k h false = found-later (find test (set l i y)) ∙ k (let q : suc m ≡ suc i = cc in ap at (suc_inj q))
+    go false (at m) k h false = found_later (find test (set l i y)) ∙ k (let q : suc m ≡ suc i = cc in ap at (suc_inj q))
 
 -- ---- seats
 
 module _ (c : Key) where
-  view-held : (key : Key) (s : Seat) → isHeldBy c key (viewSeat c s) ≡ seatOf key s
-  unfolding isHeldBy viewSeat viewSeatIf seatOf
-  view-held key vacant = refl
-  view-held key (holds held) = go (sameKey held.key c) refl
+  view_held : (key : Key) (s : Seat) → is_held_by c key (view_seat c s) ≡ seat_of key s
+  unfolding is_held_by view_seat view_seat_if seat_of
+  view_held key vacant = refl
+  view_held key (holds held) = go (same_key held.key c) refl
     where
-      go : (t : Bool) → sameKey held.key c ≡ t → isHeldBy c key (viewSeatIf t c held) ≡ sameKey held.key key
-      go true e = ap (λ (x : Key). sameKey x key) (sym (same-sound held.key c e))
+      go : (t : Bool) → same_key held.key c ≡ t → is_held_by c key (view_seat_if t c held) ≡ same_key held.key key
+      go true e = ap (λ (x : Key). same_key x key) (sym (same_sound held.key c e))
       go false e = refl
 
-  view-open : (s : Seat) → isOpen (viewSeat c s) ≡ isVacant s
-  unfolding isOpen viewSeat viewSeatIf isVacant
-  view-open vacant = refl
-  view-open (holds held) = go (sameKey held.key c)
+  view_open : (s : Seat) → is_open (view_seat c s) ≡ is_vacant s
+  unfolding is_open view_seat view_seat_if is_vacant
+  view_open vacant = refl
+  view_open (holds held) = go (same_key held.key c)
     where
-      go : (t : Bool) → isOpen (viewSeatIf t c held) ≡ false
+      go : (t : Bool) → is_open (view_seat_if t c held) ≡ false
       go true = refl
       go false = refl
 
-  pub held-law : (key : Key) (room : Room) → find (isHeldBy c key) (map (viewSeat c) room.seats) ≡ find (seatOf key) room.seats
-  held-law key room = find-map (isHeldBy c key) (seatOf key) (viewSeat c) (view-held key) room.seats
+  pub held_law : (key : Key) (room : Room) → find (is_held_by c key) (map (view_seat c) room.seats) ≡ find (seat_of key) room.seats
+  held_law key room = find_map (is_held_by c key) (seat_of key) (view_seat c) (view_held key) room.seats
 
-  pub open-law : (room : Room) → find isOpen (map (viewSeat c) room.seats) ≡ find isVacant room.seats
-  open-law room = find-map isOpen isVacant (viewSeat c) view-open room.seats
+  pub open_law : (room : Room) → find is_open (map (view_seat c) room.seats) ≡ find is_vacant room.seats
+  open_law room = find_map is_open is_vacant (view_seat c) view_open room.seats
 
-  pub view-at : (room : Room) (seat : ℕ) → get_or (map (viewSeat c) room.seats) seat openSeat ≡ viewSeat c (seatAt room seat)
-  unfolding seatAt viewSeat
-  view-at room seat = get_or-map (viewSeat c) room.seats seat vacant
+  pub view_at : (room : Room) (seat : ℕ) → get_or (map (view_seat c) room.seats) seat open_seat ≡ view_seat c (seat_at room seat)
+  unfolding seat_at view_seat
+  view_at room seat = get_or-map (view_seat c) room.seats seat vacant
 
   -- a seat of a key is C's where that key is C
-  pub held-as : (key : Key) (s : Seat) → seatOf key s ≡ true → seatOf c s ≡ sameKey key c
-  unfolding seatOf
-  held-as key vacant h = absurd (false≢true h)
-  held-as key (holds held) h = ap (λ (x : Key). sameKey x c) (same-sound held.key key h)
+  pub held_as : (key : Key) (s : Seat) → seat_of key s ≡ true → seat_of c s ≡ same_key key c
+  unfolding seat_of
+  held_as key vacant h = absurd (false≢true h)
+  held_as key (holds held) h = ap (λ (x : Key). same_key x c) (same_sound held.key key h)
 
-  own-routes : (s : Seat) → seatOf c s ≡ true → ownRoutes (viewSeat c s) ≡ routesOf s
-  unfolding seatOf viewSeat viewSeatIf ownRoutes routesOf
-  own-routes vacant h = refl
-  own-routes (holds held) h = rw h
+  own_routes_lem : (s : Seat) → seat_of c s ≡ true → own_routes (view_seat c s) ≡ routes_of s
+  unfolding seat_of view_seat view_seat_if own_routes routes_of
+  own_routes_lem vacant h = refl
+  own_routes_lem (holds held) h = rw h
 
-  names-law : (s : Seat) → namesC c (viewSeat c s) ≡ isFound (find (routeTo c) (routesOf s))
-  unfolding namesC viewSeat viewSeatIf routesOf isFound find
-  names-law vacant = refl
-  names-law (holds held) = go (sameKey held.key c)
+  names_law : (s : Seat) → names_c c (view_seat c s) ≡ is_found (find (route_to c) (routes_of s))
+  unfolding names_c view_seat view_seat_if routes_of is_found find
+  names_law vacant = refl
+  names_law (holds held) = go (same_key held.key c)
     where
-      go : (t : Bool) → namesC c (viewSeatIf t c held) ≡ isFound (find (routeTo c) held.routes)
+      go : (t : Bool) → names_c c (view_seat_if t c held) ≡ is_found (find (route_to c) held.routes)
       go true = refl
       go false = refl
 
-pub view-own : (c : Key) (held : Held) → held.key ≡ c → viewSeat c (holds held) ≡ ownSeat held
-unfolding viewSeat viewSeatIf
-view-own c held mine = rw (mine, same_refl c)
+pub view_own : (c : Key) (held : Held) → held.key ≡ c → view_seat c (holds held) ≡ own_seat held
+unfolding view_seat view_seat_if
+view_own c held mine = rw (mine, same_refl c)
 
-pub view-other : (c : Key) (held : Held) → sameKey held.key c ≡ false → viewSeat c (holds held) ≡ otherSeat held.key (isFound (find (routeTo c) held.routes))
-unfolding viewSeat viewSeatIf
-view-other c held hk = rw hk
+pub view_other : (c : Key) (held : Held) → same_key held.key c ≡ false → view_seat c (holds held) ≡ other_seat held.key (is_found (find (route_to c) held.routes))
+unfolding view_seat view_seat_if
+view_other c held hk = rw hk
 
 -- the view where a seat becomes another
-pub project-set : (c : Key) (room : Room) (seat : ℕ) (s : Seat) (v : SeatView) → viewSeat c s ≡ v → project c (setSeat room seat s) ≡ setView (project c room) seat v
+pub project_set : (c : Key) (room : Room) (seat : ℕ) (s : Seat) (v : SeatView) → view_seat c s ≡ v → project c (set_seat room seat s) ≡ set_view (project c room) seat v
 unfolding project
-project-set c room seat s v e = ap (setViews (project c room)) (map-set (viewSeat c) room.seats seat s ∙ ap (set (map (viewSeat c) room.seats) seat) e)
+project_set c room seat s v e = ap (set_views (project c room)) (map_set (view_seat c) room.seats seat s ∙ ap (set (map (view_seat c) room.seats) seat) e)
 
 -- the view where a seat becomes empty
-pub left_open : (c : Key) (room : Room) (seat : ℕ) → project c (setSeat room seat vacant) ≡ setView (project c room) seat openSeat
-unfolding viewSeat
-left_open c room seat = project-set c room seat vacant openSeat refl
+pub left_open : (c : Key) (room : Room) (seat : ℕ) → project c (set_seat room seat vacant) ≡ set_view (project c room) seat open_seat
+unfolding view_seat
+left_open c room seat = project_set c room seat vacant open_seat refl
 
 -- ---- connected
 
-unfoldable pub isJoined : Peer → Bool
-isJoined alone = false
-isJoined (joined seat place) = true
+unfoldable pub is_joined : Peer → Bool
+is_joined alone = false
+is_joined (joined seat place) = true
 
-joined-found : (seat : ℕ) (f : Found) → isFound f ≡ isJoined (joinedBy seat f)
-unfolding isFound isJoined joinedBy
-joined-found seat none = refl
-joined-found seat (at place) = refl
+joined_found : (seat : ℕ) (f : Found) → is_found f ≡ is_joined (joined_by seat f)
+unfolding is_found is_joined joined_by
+joined_found seat none = refl
+joined_found seat (at place) = refl
 
-pub connected-law : (c : Key) (room : Room) (seat : ℕ) (wanted : Key) → isConnected c (project c room) seat wanted ≡ isJoined (peer room seat c wanted)
-unfolding isConnected isConnectedIn project peer peerIn peerAt isJoined
-connected-law c room seat wanted = rw (held-law c wanted room) (go (find (seatOf wanted) room.seats))
+pub connected_law : (c : Key) (room : Room) (seat : ℕ) (wanted : Key) → is_connected c (project c room) seat wanted ≡ is_joined (peer room seat c wanted)
+unfolding is_connected is_connected_in project peer peer_in peer_at is_joined
+connected_law c room seat wanted = rw (held_law c wanted room) (go (find (seat_of wanted) room.seats))
   where
-    on : (other : ℕ) (t : Bool) → cond t false (namesC c (get_or (map (viewSeat c) room.seats) other openSeat)) ≡ isJoined (peerAt t room c other)
+    on : (other : ℕ) (t : Bool) → cond t false (names_c c (get_or (map (view_seat c) room.seats) other open_seat)) ≡ is_joined (peer_at t room c other)
     on other true = refl
-    on other false = rw (view-at c room other, names-law c (seatAt room other)) (joined-found other (find (routeTo c) (routesOf (seatAt room other))))
+    on other false = rw (view_at c room other, names_law c (seat_at room other)) (joined_found other (find (route_to c) (routes_of (seat_at room other))))
 
-    go : (f : Found) → isConnectedIn f c (project c room) seat ≡ isJoined (peerIn f room seat c)
+    go : (f : Found) → is_connected_in f c (project c room) seat ≡ is_joined (peer_in f room seat c)
     go none = refl
     go (at other) = on other (eqb seat other)
 
 -- ---- which packets are for C, by the room
 
-unfoldable pub handedBy : Key → Room → List Sent → List (List ℕ)
-handedBy c room [] = []
-handedBy c room (s ∷ rest) = handedIf (seatOf c (seatAt room s.seat)) s.bytes (handedBy c room rest)
+unfoldable pub handed_by : Key → Room → List Sent → List (List ℕ)
+handed_by c room [] = []
+handed_by c room (s ∷ rest) = handed_if (seat_of c (seat_at room s.seat)) s.bytes (handed_by c room rest)
 
 -- the room says of it what has happened says
-pub handed-law : (start : Start) (past : Past) (room : Room) → Tied start past room → (c : Key) (sent : List Sent) → handed start past c sent ≡ handedBy c room sent
-unfolding handed handedBy
-handed-law start past room tie c [] = refl
-handed-law start past room tie c (s ∷ rest) = rw (tie.sits s.seat, client-of c (seatAt room s.seat), handed-law start past room tie c rest)
+pub handed_law : (start : Start) (past : Past) (room : Room) → Tied start past room → (c : Key) (sent : List Sent) → handed start past c sent ≡ handed_by c room sent
+unfolding handed handed_by
+handed_law start past room tie c [] = refl
+handed_law start past room tie c (s ∷ rest) = rw (tie.sits s.seat, client_of_lem c (seat_at room s.seat), handed_law start past room tie c rest)
 
-pub handed-append : (c : Key) (room : Room) (a b : List Sent) → handedBy c room (a ++ b) ≡ handedBy c room a ++ handedBy c room b
-unfolding handedBy handedIf
-handed-append c room [] b = refl
-handed-append c room (s ∷ a) b = rw (handed-append c room a b) (go (seatOf c (seatAt room s.seat)))
+pub handed_append : (c : Key) (room : Room) (a b : List Sent) → handed_by c room (a ++ b) ≡ handed_by c room a ++ handed_by c room b
+unfolding handed_by handed_if
+handed_append c room [] b = refl
+handed_append c room (s ∷ a) b = rw (handed_append c room a b) (go (seat_of c (seat_at room s.seat)))
   where
-    go : (t : Bool) → handedIf t s.bytes (handedBy c room a ++ handedBy c room b) ≡ handedIf t s.bytes (handedBy c room a) ++ handedBy c room b
+    go : (t : Bool) → handed_if t s.bytes (handed_by c room a ++ handed_by c room b) ≡ handed_if t s.bytes (handed_by c room a) ++ handed_by c room b
     go true = refl
     go false = refl
 
-pub hand-only : (t : Bool) (bytes : List ℕ) → only t (bytes ∷ []) ≡ handedIf t bytes []
-unfolding only handedIf
-hand-only true bytes = refl
-hand-only false bytes = refl
+pub hand_only : (t : Bool) (bytes : List ℕ) → only t (bytes ∷ []) ≡ handed_if t bytes []
+unfolding only handed_if
+hand_only true bytes = refl
+hand_only false bytes = refl
 
 -- what goes to the peer that holds another key is not for C
-pub else-seat : (c : Key) (room : Room) (seat : ℕ) (key wanted : Key) → sameKey wanted c ≡ false → (other place : ℕ) → peer room seat key wanted ≡ joined other place
-    → seatOf c (seatAt room other) ≡ false
-unfolding seatOf
-else-seat c room seat key wanted h other place e = let has = peer-has room seat key wanted other place e in rw has.sits h
+pub else_seat : (c : Key) (room : Room) (seat : ℕ) (key wanted : Key) → same_key wanted c ≡ false → (other place : ℕ) → peer room seat key wanted ≡ joined other place
+    → seat_of c (seat_at room other) ≡ false
+unfolding seat_of
+else_seat c room seat key wanted h other place e = let has = peer_has room seat key wanted other place e in rw has.sits h
 
-pub not-handed : (c : Key) (room : Room) (seat : ℕ) (key wanted : Key) (p : ℕ → relay.FromRelay) → sameKey wanted c ≡ false
-    → handedBy c room (toPeer p (peer room seat key wanted)) ≡ []
-unfolding handedBy handedIf toPeer to
-not-handed c room seat key wanted p h = go (peer room seat key wanted) refl
+pub not_handed : (c : Key) (room : Room) (seat : ℕ) (key wanted : Key) (p : ℕ → relay.FromRelay) → same_key wanted c ≡ false
+    → handed_by c room (to_peer p (peer room seat key wanted)) ≡ []
+unfolding handed_by handed_if to_peer to
+not_handed c room seat key wanted p h = go (peer room seat key wanted) refl
   where
-    go : (l : Peer) → peer room seat key wanted ≡ l → handedBy c room (toPeer p l) ≡ []
+    go : (l : Peer) → peer room seat key wanted ≡ l → handed_by c room (to_peer p l) ≡ []
     go alone e = refl
-    go (joined other place) e = rw (else-seat c room seat key wanted h other place e)
+    go (joined other place) e = rw (else_seat c room seat key wanted h other place e)
 
-pub found-held : (key : Key) (room : Room) (seat : ℕ) → find (seatOf key) room.seats ≡ at seat → seatOf key (seatAt room seat) ≡ true
-unfolding seatAt seatOf
-found-held key room seat e = find-hit (seatOf key) vacant room.seats seat e
+pub found_held : (key : Key) (room : Room) (seat : ℕ) → find (seat_of key) room.seats ≡ at seat → seat_of key (seat_at room seat) ≡ true
+unfolding seat_at seat_of
+found_held key room seat e = find_hit (seat_of key) vacant room.seats seat e
 
 -- another client's packet for C, under C's own number
-pub packet-law : (c : Key) (room : Room) (seat : ℕ) (key : Key) (held : Held) → seatAt room seat ≡ holds (setKey held key) → sameKey key c ≡ false
-    → (p : ℕ → relay.FromRelay) → packetAt p (place_of c (project c room) key) ≡ handedBy c room (toPeer p (peer room seat key c))
-unfolding packetAt place_of placeIf project peer peerIn peerAt joinedBy handedBy handedIf toPeer to seatOf
-packet-law c room seat key held sits h p = rw (held-law c c room) (go (find (seatOf c) room.seats) refl)
+pub packet_law : (c : Key) (room : Room) (seat : ℕ) (key : Key) (held : Held) → seat_at room seat ≡ holds (set_key held key) → same_key key c ≡ false
+    → (p : ℕ → relay.FromRelay) → packet_at p (place_of c (project c room) key) ≡ handed_by c room (to_peer p (peer room seat key c))
+unfolding packet_at place_of place_if project peer peer_in peer_at joined_by handed_by handed_if to_peer to seat_of
+packet_law c room seat key held sits h p = rw (held_law c c room) (go (find (seat_of c) room.seats) refl)
   where
-    on : (other : ℕ) → seatOf c (seatAt room other) ≡ true → (f : Found) → packetAt p f ≡ handedBy c room (toPeer p (joinedBy other f))
+    on : (other : ℕ) → seat_of c (seat_at room other) ≡ true → (f : Found) → packet_at p f ≡ handed_by c room (to_peer p (joined_by other f))
     on other q none = refl
     on other q (at place) = rw q
 
-    apart_by : (other : ℕ) → seatOf c (seatAt room other) ≡ true → (t : Bool) → eqb seat other ≡ t
-        → packetAt p (find (routeTo key) (ownRoutes (viewSeat c (seatAt room other)))) ≡ handedBy c room (toPeer p (peerAt t room key other))
-    apart_by other q true e = absurd (true≢false (sym q ∙ ap (λ (i : ℕ). seatOf c (seatAt room i)) (sym (eqb-true seat other e)) ∙ ap (seatOf c) sits ∙ h))
-    apart_by other q false e = rw (own-routes c (seatAt room other) q) (on other q (find (routeTo key) (routesOf (seatAt room other))))
+    apart_by : (other : ℕ) → seat_of c (seat_at room other) ≡ true → (t : Bool) → eqb seat other ≡ t
+        → packet_at p (find (route_to key) (own_routes (view_seat c (seat_at room other)))) ≡ handed_by c room (to_peer p (peer_at t room key other))
+    apart_by other q true e = absurd (true≢false (sym q ∙ ap (λ (i : ℕ). seat_of c (seat_at room i)) (sym (eqb-true seat other e)) ∙ ap (seat_of c) sits ∙ h))
+    apart_by other q false e = rw (own_routes_lem c (seat_at room other) q) (on other q (find (route_to key) (routes_of (seat_at room other))))
 
-    go : (f : Found) → find (seatOf c) room.seats ≡ f → packetAt p (placeIf f (project c room) key) ≡ handedBy c room (toPeer p (peerIn f room seat key))
+    go : (f : Found) → find (seat_of c) room.seats ≡ f → packet_at p (place_if f (project c room) key) ≡ handed_by c room (to_peer p (peer_in f room seat key))
     go none e = refl
-    go (at other) e = rw (view-at c room other) (apart_by other (found-held c room other e) (eqb seat other) refl)
+    go (at other) e = rw (view_at c room other) (apart_by other (found_held c room other e) (eqb seat other) refl)
 
 -- ---- C in its own seat
 
-module _ (sizes : Sizes) (room : Room) (whole : Whole sizes room) (c : Key) (seat : ℕ) (held : Held) (sits : seatAt room seat ≡ holds (setKey held c)) where
-  pub own_held : seatOf c (seatAt room seat) ≡ true
-  unfolding seatOf
+module _ (sizes : Sizes) (room : Room) (whole : Whole sizes room) (c : Key) (seat : ℕ) (held : Held) (sits : seat_at room seat ≡ holds (set_key held c)) where
+  pub own_held : seat_of c (seat_at room seat) ≡ true
+  unfolding seat_of
   own_held = rw sits (same_refl c)
 
   -- no other seat is C's
-  pub peer-else : (wanted : Key) (other place : ℕ) → peer room seat c wanted ≡ joined other place → seatOf c (seatAt room other) ≡ false
-  unfolding seatAt
-  peer-else wanted other place e = go (seatOf c (seatAt room other)) refl
+  pub peer_else : (wanted : Key) (other place : ℕ) → peer room seat c wanted ≡ joined other place → seat_of c (seat_at room other) ≡ false
+  unfolding seat_at
+  peer_else wanted other place e = go (seat_of c (seat_at room other)) refl
     where
-      go : (t : Bool) → seatOf c (seatAt room other) ≡ t → seatOf c (seatAt room other) ≡ false
-      go true q = absurd ((peer-has room seat c wanted other place e).apart (key-once sizes room whole c seat other own_held q))
+      go : (t : Bool) → seat_of c (seat_at room other) ≡ t → seat_of c (seat_at room other) ≡ false
+      go true q = absurd ((peer_has room seat c wanted other place e).apart (key_once sizes room whole c seat other own_held q))
       go false q = q
 
-  pub own-not-handed : (wanted : Key) (p : ℕ → relay.FromRelay) → handedBy c room (toPeer p (peer room seat c wanted)) ≡ []
-  unfolding handedBy handedIf toPeer to
-  own-not-handed wanted p = go (peer room seat c wanted) refl
+  pub own_not_handed : (wanted : Key) (p : ℕ → relay.FromRelay) → handed_by c room (to_peer p (peer room seat c wanted)) ≡ []
+  unfolding handed_by handed_if to_peer to
+  own_not_handed wanted p = go (peer room seat c wanted) refl
     where
-      go : (l : Peer) → peer room seat c wanted ≡ l → handedBy c room (toPeer p l) ≡ []
+      go : (l : Peer) → peer room seat c wanted ≡ l → handed_by c room (to_peer p l) ≡ []
       go alone e = refl
-      go (joined other place) e = rw (peer-else wanted other place e)
+      go (joined other place) e = rw (peer_else wanted other place e)
 
-  pub own-tells : (t : List Route) → handedBy c room (tellPeers room seat c t) ≡ []
-  unfolding tellPeers tellPeer handedBy
-  own-tells [] = refl
-  own-tells (free ∷ t) = own-tells t
-  own-tells (wants wanted ∷ t) = handed-append c room (toPeer relay.disconnectNotice (peer room seat c wanted)) (tellPeers room seat c t) ∙ rw (own-not-handed wanted relay.disconnectNotice, own-tells t)
+  pub own_tells : (t : List Route) → handed_by c room (tell_peers room seat c t) ≡ []
+  unfolding tell_peers tell_peer handed_by
+  own_tells [] = refl
+  own_tells (free ∷ t) = own_tells t
+  own_tells (wants wanted ∷ t) = handed_append c room (to_peer relay.disconnect_notice (peer room seat c wanted)) (tell_peers room seat c t) ∙ rw (own_not_handed wanted relay.disconnect_notice, own_tells t)
 
 -- ---- a seat that is left
 
 -- another client's notices: C is handed one, and only where it was named
 module _ (c : Key) (room : Room) (seat : ℕ) (key : Key) where
   abbrev notice : List (List ℕ)
-  notice = handedBy c room (toPeer relay.disconnectNotice (peer room seat key c))
+  notice = handed_by c room (to_peer relay.disconnect_notice (peer room seat key c))
 
-  other-tells : (t : List Route) → Once (routeTo c) free t → handedBy c room (tellPeers room seat key t) ≡ only (isFound (find (routeTo c) t)) notice
-  unfolding tellPeers tellPeer handedBy find isFound only routeTo orLater
-  other-tells [] o = refl
-  other-tells (free ∷ t) o = other-tells t (once-tail (routeTo c) free free t o) ∙ ap (λ b. only b notice) (sym (found-later (find (routeTo c) t)))
-  other-tells (wants wanted ∷ t) o =
-      handed-append c room (toPeer relay.disconnectNotice (peer room seat key wanted)) (tellPeers room seat key t) ∙ go (sameKey wanted c) refl (other-tells t (once-tail (routeTo c) free (wants wanted) t o))
+  other_tells : (t : List Route) → Once (route_to c) free t → handed_by c room (tell_peers room seat key t) ≡ only (is_found (find (route_to c) t)) notice
+  unfolding tell_peers tell_peer handed_by find is_found only route_to or_later
+  other_tells [] o = refl
+  other_tells (free ∷ t) o = other_tells t (once_tail (route_to c) free free t o) ∙ ap (λ b. only b notice) (sym (found_later (find (route_to c) t)))
+  other_tells (wants wanted ∷ t) o =
+      handed_append c room (to_peer relay.disconnect_notice (peer room seat key wanted)) (tell_peers room seat key t) ∙ go (same_key wanted c) refl (other_tells t (once_tail (route_to c) free (wants wanted) t o))
     where
-      go : (b : Bool) → sameKey wanted c ≡ b → handedBy c room (tellPeers room seat key t) ≡ only (isFound (find (routeTo c) t)) notice
-          → (handedBy c room (toPeer relay.disconnectNotice (peer room seat key wanted)) ++ handedBy c room (tellPeers room seat key t)) ≡ only (isFound (orLater b (find (routeTo c) t))) notice
-      go true hw ih = rw (ih, once-first (routeTo c) free (wants wanted) t o hw, same-sound wanted c hw) (append-nil notice)
-      go false hw ih = rw (not-handed c room seat key wanted relay.disconnectNotice hw, found-later (find (routeTo c) t)) ih
+      go : (b : Bool) → same_key wanted c ≡ b → handed_by c room (tell_peers room seat key t) ≡ only (is_found (find (route_to c) t)) notice
+          → (handed_by c room (to_peer relay.disconnect_notice (peer room seat key wanted)) ++ handed_by c room (tell_peers room seat key t)) ≡ only (is_found (or_later b (find (route_to c) t))) notice
+      go true hw ih = rw (ih, once_first (route_to c) free (wants wanted) t o hw, same_sound wanted c hw) (append-nil notice)
+      go false hw ih = rw (not_handed c room seat key wanted relay.disconnect_notice hw, found_later (find (route_to c) t)) ih
 
 module _ (sizes : Sizes) (room : Room) (whole : Whole sizes room) (c : Key) (seat : ℕ) where
-  pub other-lost : (held : Held) → seatAt room seat ≡ holds held → sameKey held.key c ≡ false
-      → lostNotice (isFound (find (routeTo c) held.routes)) c (project c room) held.key ≡ handedBy c room (leaveFrom (holds held) room seat).sent
-  unfolding leaveFrom accept
-  other-lost held sits hk =
-      ap (only (isFound (find (routeTo c) held.routes))) (packet-law c room seat held.key held sits hk relay.disconnectNotice)
-      ∙ sym (other-tells c room seat held.key held.routes (wanted-once sizes room whole seat held sits c))
+  pub other_lost : (held : Held) → seat_at room seat ≡ holds held → same_key held.key c ≡ false
+      → lost_notice (is_found (find (route_to c) held.routes)) c (project c room) held.key ≡ handed_by c room (leave_from (holds held) room seat).sent
+  unfolding leave_from accept
+  other_lost held sits hk =
+      ap (only (is_found (find (route_to c) held.routes))) (packet_law c room seat held.key held sits hk relay.disconnect_notice)
+      ∙ sym (other_tells c room seat held.key held.routes (wanted_once sizes room whole seat held sits c))
 
   -- whoever leaves it, C or another
-  pub lost-law : (s : Seat) → seatAt room seat ≡ s → lostBy (viewSeat c s) c (project c room) ≡ handedBy c room (leaveFrom s room seat).sent
-  unfolding lostBy viewSeat viewSeatIf handedBy leaveFrom refuse accept
-  lost-law vacant e = refl
-  lost-law (holds held) e = go (sameKey held.key c) refl
+  pub lost_law : (s : Seat) → seat_at room seat ≡ s → lost_by (view_seat c s) c (project c room) ≡ handed_by c room (leave_from s room seat).sent
+  unfolding lost_by view_seat view_seat_if handed_by leave_from refuse accept
+  lost_law vacant e = refl
+  lost_law (holds held) e = go (same_key held.key c) refl
     where
-      go : (t : Bool) → sameKey held.key c ≡ t
-          → lostBy (viewSeatIf t c held) c (project c room) ≡ handedBy c room (tellPeers room seat held.key held.routes)
-      go true h = let q = same-sound held.key c h in rw q (sym (own-tells sizes room whole c seat held (e ∙ ap (λ (k : Key). holds (setKey held k)) q) held.routes))
-      go false h = other-lost held e h
+      go : (t : Bool) → same_key held.key c ≡ t
+          → lost_by (view_seat_if t c held) c (project c room) ≡ handed_by c room (tell_peers room seat held.key held.routes)
+      go true h = let q = same_sound held.key c h in rw q (sym (own_tells sizes room whole c seat held (e ∙ ap (λ (k : Key). holds (set_key held k)) q) held.routes))
+      go false h = other_lost held e h
 
 -- ---- what an outcome is to C: the view of the room after it, the packets for C, and the answers that C gets
 
-abbrev pub observedOf : Sizes → Key → Room → Outcome → List Answer → Observed
-observedOf sizes c room o answers = observed (project c (roomAfter sizes room o)) (handedBy c room o.sent) answers
+abbrev pub observed_of : Sizes → Key → Room → Outcome → List Answer → Observed
+observed_of sizes c room o answers = observed (project c (room_after sizes room o)) (handed_by c room o.sent) answers
 
-pub observed-same : {v v' : View} {h h' : List (List ℕ)} {t t' : List Answer} → v ≡ v' → h ≡ h' → t ≡ t' → observed v h t ≡ observed v' h' t'
-observed-same a b d = rw (a, b, d)
+pub observed_same : {v v' : View} {h h' : List (List ℕ)} {t t' : List Answer} → v ≡ v' → h ≡ h' → t ≡ t' → observed v h t ≡ observed v' h' t'
+observed_same a b d = rw (a, b, d)
 
 -- ---- how many bytes
 
-pub count-told : (l : Peer) → length (sentBytes (toPeer relay.disconnectNotice l)) ≡ length (sentBytes (toOne relay.disconnectNotice (isJoined l)))
-unfolding toPeer toOne isJoined to relay.relayBytes
-count-told alone = refl
-count-told (joined other place) = count_same _ _ [] [] refl refl
+pub count_told : (l : Peer) → length (sent_bytes (to_peer relay.disconnect_notice l)) ≡ length (sent_bytes (to_one relay.disconnect_notice (is_joined l)))
+unfolding to_peer to_one is_joined to relay.relay_bytes
+count_told alone = refl
+count_told (joined other place) = count_same _ _ [] [] refl refl
 
-pub count-both : (seat number : ℕ) (l : Peer) → length (sentBytes (tellBoth seat number l)) ≡ length (sentBytes (toBoth (isJoined l)))
-unfolding tellBoth toBoth isJoined to relay.relayBytes
-count-both seat number alone = refl
-count-both seat number (joined other place) = count_same _ _ _ _ refl (count_same _ _ [] [] refl refl)
+pub count_both : (seat number : ℕ) (l : Peer) → length (sent_bytes (tell_both seat number l)) ≡ length (sent_bytes (to_both (is_joined l)))
+unfolding tell_both to_both is_joined to relay.relay_bytes
+count_both seat number alone = refl
+count_both seat number (joined other place) = count_same _ _ _ _ refl (count_same _ _ [] [] refl refl)
 
-pub count-tells : (c : Key) (room : Room) (seat : ℕ) (t : List Route) → length (sentBytes (tellPeers room seat c t)) ≡ length (sentBytes (noticesByView c (project c room) seat t))
-unfolding tellPeers tellPeer noticesByView noticeByView
-count-tells c room seat [] = refl
-count-tells c room seat (free ∷ t) = count-tells c room seat t
-count-tells c room seat (wants wanted ∷ t) =
-    count-append (toPeer relay.disconnectNotice (peer room seat c wanted)) (tellPeers room seat c t)
-    ∙ ap₂ ◌+◌ (count-told (peer room seat c wanted) ∙ ap (λ (b : Bool). length (sentBytes (toOne relay.disconnectNotice b))) (sym (connected-law c room seat wanted))) (count-tells c room seat t)
-    ∙ sym (count-append (toOne relay.disconnectNotice (isConnected c (project c room) seat wanted)) (noticesByView c (project c room) seat t))
+pub count_tells : (c : Key) (room : Room) (seat : ℕ) (t : List Route) → length (sent_bytes (tell_peers room seat c t)) ≡ length (sent_bytes (notices_by_view c (project c room) seat t))
+unfolding tell_peers tell_peer notices_by_view notice_by_view
+count_tells c room seat [] = refl
+count_tells c room seat (free ∷ t) = count_tells c room seat t
+count_tells c room seat (wants wanted ∷ t) =
+    count_append (to_peer relay.disconnect_notice (peer room seat c wanted)) (tell_peers room seat c t)
+    ∙ ap₂ ◌+◌ (count_told (peer room seat c wanted) ∙ ap (λ (b : Bool). length (sent_bytes (to_one relay.disconnect_notice b))) (sym (connected_law c room seat wanted))) (count_tells c room seat t)
+    ∙ sym (count_append (to_one relay.disconnect_notice (is_connected c (project c room) seat wanted)) (notices_by_view c (project c room) seat t))

@@ -11,212 +11,212 @@ use Prim.Native.Nat.{ℕ}
 use native.Mathlib.Omega.{arith}
 use lib.ListN.{length, replicate, drop}
 use Rattle.wire.specs.Numbers.{bytes_of}
-use Rattle.key.specs.Keys.{sameKey}
+use Rattle.key.specs.Keys.{same_key}
 use Rattle.packet_laws.specs.Read.{Read}
 use Rattle.packet_laws.specs.Read as read
 use Rattle.packet_laws.specs.FromClient as client
-use Rattle.rules.specs.Room.{Key, baseSizes, emptyRoom}
-use Rattle.rules.specs.Call.{Call, arrive, leave, packetCall, tick, Answer, accepted, refused}
+use Rattle.rules.specs.Room.{Key, base_sizes, empty_room}
+use Rattle.rules.specs.Call.{Call, arrive, leave, packet_call, tick, Answer, accepted, refused}
 use Rattle.rules.specs.History.{Event, transcript, happens}
-use Rattle.rules.specs.Transcript.{Past, Maker, nobody, clientOf, Start, from_empty, isAccepted, isSeated, putOut, maker, stands, isClient}
-use Rattle.isolation.specs.Record.{Entry, arrived, departed, own, to_c, droppedC, dataForC, ticked, entryIf, byKey, otherPacket, otherCall, ifAccepted, madeBy, ofTick, entriesBy, entries, recordFor, handed, packetsFor, answerIf, answersFor}
-use Rattle.isolation.specs.Relays.{Relay, TakesSteps, Isolates, answersOf, sentOf, allRefused, firstOnly, silent}
-use Rattle.rules.specs.Accepted.{allCounted}
+use Rattle.rules.specs.Transcript.{Past, Maker, nobody, client_of, Start, from_empty, is_accepted, is_seated, put_out, maker, stands, is_client}
+use Rattle.isolation.specs.Record.{Entry, arrived, departed, own, to_c, dropped_c, data_for_c, ticked, entry_if, by_key, other_packet, other_call, if_accepted, made_by, of_tick, entries_by, entries, record_for, handed, packets_for, answer_if, answers_for}
+use Rattle.isolation.specs.Relays.{Relay, TakesSteps, Isolates, answers_of, sent_of, all_refused, first_only, silent}
+use Rattle.rules.specs.Accepted.{all_counted}
 use Rattle.isolation.proofs.Recorded.{recorded}
 use Rattle.rules.proofs.Computed.{ka, kb, opened}
-use Rattle.rules.proofs.Counts.{history-counted}
-use Rattle.isolation.proofs.Isolation.{two-histories}
+use Rattle.rules.proofs.Counts.{history_counted}
+use Rattle.isolation.proofs.Isolation.{two_histories}
 
-pub steps-isolate : (relay : Relay) → TakesSteps relay → Isolates relay
-steps-isolate relay steps c h₁ h₂ = rw (steps h₁, steps h₂) (two-histories baseSizes c h₁ h₂)
+pub steps_isolate : (relay : Relay) → TakesSteps relay → Isolates relay
+steps_isolate relay steps c h₁ h₂ = rw (steps h₁, steps h₂) (two_histories base_sizes c h₁ h₂)
 
 -- ---- histories that tell
 
-pingOf : ℕ → Call
-pingOf seat = packetCall seat (4 ∷ bytes_of 8 7)
+ping_of : ℕ → Call
+ping_of seat = packet_call seat (4 ∷ bytes_of 8 7)
 
-one-accepted : allRefused (happens baseSizes (arrive ka ∷ [])) ≡ false
-unfolding opened recorded allRefused
-one-accepted = refl
+one_accepted : all_refused (happens base_sizes (arrive ka ∷ [])) ≡ false
+unfolding opened recorded all_refused
+one_accepted = refl
 
-two-seats : answersOf (happens baseSizes (arrive ka ∷ arrive kb ∷ [])) ≡ accepted 0 0 ∷ accepted 1 0 ∷ []
-unfolding opened recorded answersOf
-two-seats = refl
+two_seats : answers_of (happens base_sizes (arrive ka ∷ arrive kb ∷ [])) ≡ accepted 0 0 ∷ accepted 1 0 ∷ []
+unfolding opened recorded answers_of
+two_seats = refl
 
-leaves-once : map isAccepted (answersOf (happens baseSizes (arrive ka ∷ leave 0 ∷ leave 0 ∷ []))) ≡ true ∷ true ∷ false ∷ []
-unfolding opened recorded answersOf
-leaves-once = refl
+leaves_once : map is_accepted (answers_of (happens base_sizes (arrive ka ∷ leave 0 ∷ leave 0 ∷ []))) ≡ true ∷ true ∷ false ∷ []
+unfolding opened recorded answers_of
+leaves_once = refl
 
-pong-sent : length (sentOf (drop 1 (happens baseSizes (arrive ka ∷ pingOf 0 ∷ [])))) ≡ 1
-unfolding opened recorded sentOf pingOf
-pong-sent = refl
+pong_sent : length (sent_of (drop 1 (happens base_sizes (arrive ka ∷ ping_of 0 ∷ [])))) ≡ 1
+unfolding opened recorded sent_of ping_of
+pong_sent = refl
 
-some-sent : length (sentOf (happens baseSizes (arrive ka ∷ pingOf 0 ∷ []))) ≡ 1
-unfolding opened recorded sentOf pingOf
-some-sent = refl
+some_sent : length (sent_of (happens base_sizes (arrive ka ∷ ping_of 0 ∷ []))) ≡ 1
+unfolding opened recorded sent_of ping_of
+some_sent = refl
 
 -- ---- what a relay that takes the steps is not
 
 module _ (relay : Relay) (steps : TakesSteps relay) where
   -- one that refuses all calls
-  pub not-refusing-all : ((calls : List Call) → allRefused (relay calls) ≡ true) → ⊥
-  not-refusing-all all = true≢false (sym (all (arrive ka ∷ [])) ∙ ap allRefused (steps (arrive ka ∷ [])) ∙ one-accepted)
+  pub not_refusing_all : ((calls : List Call) → all_refused (relay calls) ≡ true) → ⊥
+  not_refusing_all all = true≢false (sym (all (arrive ka ∷ [])) ∙ ap all_refused (steps (arrive ka ∷ [])) ∙ one_accepted)
 
   -- one with a single constant answer
-  pub not-one-answer : (a : Answer) → ((calls : List Call) → answersOf (relay calls) ≡ replicate (length calls) a) → ⊥
-  not-one-answer a all =
-      let e : a ∷ a ∷ [] ≡ accepted 0 0 ∷ accepted 1 0 ∷ [] = sym (all (arrive ka ∷ arrive kb ∷ [])) ∙ ap answersOf (steps (arrive ka ∷ arrive kb ∷ [])) ∙ two-seats in
+  pub not_one_answer : (a : Answer) → ((calls : List Call) → answers_of (relay calls) ≡ replicate (length calls) a) → ⊥
+  not_one_answer a all =
+      let e : a ∷ a ∷ [] ≡ accepted 0 0 ∷ accepted 1 0 ∷ [] = sym (all (arrive ka ∷ arrive kb ∷ [])) ∙ ap answers_of (steps (arrive ka ∷ arrive kb ∷ [])) ∙ two_seats in
       let z : ◌≡◌ {A = ℕ} 0 1 = cc in
       absurd (omega arith)
 
   -- one that never acts: what a call gets is the same whatever was before it
-  pub not-idle : (f : Call → Event) → ((calls : List Call) → relay calls ≡ map f calls) → ⊥
-  unfolding answersOf
-  not-idle f all =
+  pub not_idle : (f : Call → Event) → ((calls : List Call) → relay calls ≡ map f calls) → ⊥
+  unfolding answers_of
+  not_idle f all =
       let calls = arrive ka ∷ leave 0 ∷ leave 0 ∷ [] in
-      let a = isAccepted (f (arrive ka)).answer in
-      let b = isAccepted (f (leave 0)).answer in
-      let e : a ∷ b ∷ b ∷ [] ≡ true ∷ true ∷ false ∷ [] = ap (λ (l : List Event). map isAccepted (answersOf l)) (sym (all calls) ∙ steps calls) ∙ leaves-once in
+      let a = is_accepted (f (arrive ka)).answer in
+      let b = is_accepted (f (leave 0)).answer in
+      let e : a ∷ b ∷ b ∷ [] ≡ true ∷ true ∷ false ∷ [] = ap (λ (l : List Event). map is_accepted (answers_of l)) (sym (all calls) ∙ steps calls) ∙ leaves_once in
       true≢false (let z : true ≡ false = cc in z)
 
   -- one that is idle after the first call
-  pub not-idle-later : ((calls : List Call) → sentOf (drop 1 (relay calls)) ≡ []) → ⊥
-  not-idle-later all =
-      let calls = arrive ka ∷ pingOf 0 ∷ [] in
-      let z : ◌≡◌ {A = ℕ} 0 1 = ap length (sym (all calls)) ∙ ap (λ (l : List Event). length (sentOf (drop 1 l))) (steps calls) ∙ pong-sent in
+  pub not_idle_later : ((calls : List Call) → sent_of (drop 1 (relay calls)) ≡ []) → ⊥
+  not_idle_later all =
+      let calls = arrive ka ∷ ping_of 0 ∷ [] in
+      let z : ◌≡◌ {A = ℕ} 0 1 = ap length (sym (all calls)) ∙ ap (λ (l : List Event). length (sent_of (drop 1 l))) (steps calls) ∙ pong_sent in
       absurd (omega arith)
 
   -- a silent one
-  pub not-silent : ((calls : List Call) → sentOf (relay calls) ≡ []) → ⊥
-  not-silent all =
-      let calls = arrive ka ∷ pingOf 0 ∷ [] in
-      let z : ◌≡◌ {A = ℕ} 0 1 = ap length (sym (all calls)) ∙ ap (λ (l : List Event). length (sentOf l)) (steps calls) ∙ some-sent in
+  pub not_silent : ((calls : List Call) → sent_of (relay calls) ≡ []) → ⊥
+  not_silent all =
+      let calls = arrive ka ∷ ping_of 0 ∷ [] in
+      let z : ◌≡◌ {A = ℕ} 0 1 = ap length (sym (all calls)) ∙ ap (λ (l : List Event). length (sent_of l)) (steps calls) ∙ some_sent in
       absurd (omega arith)
 
   -- one with a made-up byte count, anywhere in any history
-  pub not-made-up-count : (calls : List Call) → allCounted (relay calls) ≡ false → ⊥
-  not-made-up-count calls wrong = true≢false (sym (ap allCounted (steps calls) ∙ history-counted baseSizes (emptyRoom baseSizes) calls) ∙ wrong)
+  pub not_made_up_count : (calls : List Call) → all_counted (relay calls) ≡ false → ⊥
+  not_made_up_count calls wrong = true≢false (sym (ap all_counted (steps calls) ∙ history_counted base_sizes (empty_room base_sizes) calls) ∙ wrong)
 
 -- one call is not enough to tell
-pub right-on-the-first : (call : Call) → firstOnly (call ∷ []) ≡ happens baseSizes (call ∷ [])
-unfolding transcript firstOnly
-right-on-the-first call = refl
+pub right_on_the_first : (call : Call) → first_only (call ∷ []) ≡ happens base_sizes (call ∷ [])
+unfolding transcript first_only
+right_on_the_first call = refl
 
-pub not-on-later : TakesSteps firstOnly → ⊥
-unfolding firstOnly sentOf
-not-on-later steps = not-idle-later firstOnly steps idle
+pub not_on_later : TakesSteps first_only → ⊥
+unfolding first_only sent_of
+not_on_later steps = not_idle_later first_only steps idle
   where
-    nothing : (calls : List Call) → sentOf (map (λ (later : Call). record { call = later; answer = accepted 0 0; sent = [] }) calls) ≡ []
+    nothing : (calls : List Call) → sent_of (map (λ (later : Call). record { call = later; answer = accepted 0 0; sent = [] }) calls) ≡ []
     nothing [] = refl
     nothing (call ∷ calls) = nothing calls
 
-    idle : (calls : List Call) → sentOf (drop 1 (firstOnly calls)) ≡ []
+    idle : (calls : List Call) → sent_of (drop 1 (first_only calls)) ≡ []
     idle [] = refl
     idle (call ∷ calls) = nothing calls
 
 -- ---- demand 3 alone would suit a silent relay
 
-nothing-handed : (a : Answer) (start : Start) (past : Past) (c : Key) (calls : List Call) → packetsFor start past c (silent a calls) ≡ []
-unfolding silent packetsFor handed
-nothing-handed a start past c [] = refl
-nothing-handed a start past c (call ∷ calls) = nothing-handed a start (record { call = call; answer = a; sent = [] } ∷ past) c calls
+nothing_handed : (a : Answer) (start : Start) (past : Past) (c : Key) (calls : List Call) → packets_for start past c (silent a calls) ≡ []
+unfolding silent packets_for handed
+nothing_handed a start past c [] = refl
+nothing_handed a start past c (call ∷ calls) = nothing_handed a start (record { call = call; answer = a; sent = [] } ∷ past) c calls
 
 -- an answer for each call of C in its record
-ownAnswers : Answer → List Entry → List Answer
-ownAnswers a [] = []
-ownAnswers a (arrived key ∷ es) = ownAnswers a es
-ownAnswers a (departed key ∷ es) = ownAnswers a es
-ownAnswers a (own call ∷ es) = a ∷ ownAnswers a es
-ownAnswers a (to_c key call ∷ es) = ownAnswers a es
-ownAnswers a (droppedC key ∷ es) = ownAnswers a es
-ownAnswers a (dataForC key bytes ∷ es) = ownAnswers a es
-ownAnswers a (ticked time number out ∷ es) = ownAnswers a es
+own_answers : Answer → List Entry → List Answer
+own_answers a [] = []
+own_answers a (arrived key ∷ es) = own_answers a es
+own_answers a (departed key ∷ es) = own_answers a es
+own_answers a (own call ∷ es) = a ∷ own_answers a es
+own_answers a (to_c key call ∷ es) = own_answers a es
+own_answers a (dropped_c key ∷ es) = own_answers a es
+own_answers a (data_for_c key bytes ∷ es) = own_answers a es
+own_answers a (ticked time number out ∷ es) = own_answers a es
 
-own-append : (a : Answer) (es es' : List Entry) → ownAnswers a (es ++ es') ≡ ownAnswers a es ++ ownAnswers a es'
-unfolding ownAnswers
-own-append a [] es' = refl
-own-append a (arrived key ∷ es) es' = own-append a es es'
-own-append a (departed key ∷ es) es' = own-append a es es'
-own-append a (own call ∷ es) es' = ap (λ (l : List Answer). a ∷ l) (own-append a es es')
-own-append a (to_c key call ∷ es) es' = own-append a es es'
-own-append a (droppedC key ∷ es) es' = own-append a es es'
-own-append a (dataForC key bytes ∷ es) es' = own-append a es es'
-own-append a (ticked time number out ∷ es) es' = own-append a es es'
+own_append : (a : Answer) (es es' : List Entry) → own_answers a (es ++ es') ≡ own_answers a es ++ own_answers a es'
+unfolding own_answers
+own_append a [] es' = refl
+own_append a (arrived key ∷ es) es' = own_append a es es'
+own_append a (departed key ∷ es) es' = own_append a es es'
+own_append a (own call ∷ es) es' = ap (λ (l : List Answer). a ∷ l) (own_append a es es')
+own_append a (to_c key call ∷ es) es' = own_append a es es'
+own_append a (dropped_c key ∷ es) es' = own_append a es es'
+own_append a (data_for_c key bytes ∷ es) es' = own_append a es es'
+own_append a (ticked time number out ∷ es) es' = own_append a es es'
 
 module _ (a : Answer) where
-  entry-none : (b : Bool) (e : Entry) → ownAnswers a (e ∷ []) ≡ [] → ownAnswers a (entryIf b e) ≡ []
-  unfolding entryIf ownAnswers
-  entry-none true e h = h
-  entry-none false e h = refl
+  entry_none : (b : Bool) (e : Entry) → own_answers a (e ∷ []) ≡ [] → own_answers a (entry_if b e) ≡ []
+  unfolding entry_if own_answers
+  entry_none true e h = h
+  entry_none false e h = refl
 
-  packet-none : (c key : Key) (call : Call) (names : ℕ → Bool) (r : Read client.FromClient) → ownAnswers a (otherPacket c key call names r) ≡ []
-  unfolding otherPacket ownAnswers
-  packet-none c key call names (read.packet (client.routingRequest wanted)) = entry-none (sameKey wanted c) (to_c key call) refl
-  packet-none c key call names (read.packet (client.dropRoute number)) = entry-none (names number) (droppedC key) refl
-  packet-none c key call names (read.packet (client.ping n)) = refl
-  packet-none c key call names (read.packet (client.pong n)) = refl
-  packet-none c key call names (read.packet (client.oobSend wanted bytes)) = entry-none (sameKey wanted c) (to_c key call) refl
-  packet-none c key call names (read.packet (client.routedData number bytes)) = entry-none (names number) (dataForC key bytes) refl
-  packet-none c key call names (read.refused why) = refl
+  packet_none : (c key : Key) (call : Call) (names : ℕ → Bool) (r : Read client.FromClient) → own_answers a (other_packet c key call names r) ≡ []
+  unfolding other_packet own_answers
+  packet_none c key call names (read.packet (client.routing_request wanted)) = entry_none (same_key wanted c) (to_c key call) refl
+  packet_none c key call names (read.packet (client.drop_route number)) = entry_none (names number) (dropped_c key) refl
+  packet_none c key call names (read.packet (client.ping n)) = refl
+  packet_none c key call names (read.packet (client.pong n)) = refl
+  packet_none c key call names (read.packet (client.oob_send wanted bytes)) = entry_none (same_key wanted c) (to_c key call) refl
+  packet_none c key call names (read.packet (client.routed_data number bytes)) = entry_none (names number) (data_for_c key bytes) refl
+  packet_none c key call names (read.refused why) = refl
 
-  other_none : (c key : Key) (call : Call) (names : ℕ → Bool) → ownAnswers a (otherCall c key call names) ≡ []
-  unfolding otherCall ownAnswers
+  other_none : (c key : Key) (call : Call) (names : ℕ → Bool) → own_answers a (other_call c key call names) ≡ []
+  unfolding other_call own_answers
   other_none c key (arrive k) names = refl
   other_none c key (leave seat) names = refl
-  other_none c key (packetCall seat bytes) names = packet-none c key (packetCall seat bytes) names (client.relayRead bytes)
+  other_none c key (packet_call seat bytes) names = packet_none c key (packet_call seat bytes) names (client.relay_read bytes)
   other_none c key (tick time number) names = refl
 
-  accepted-none : (answer : Answer) (es : List Entry) → ownAnswers a es ≡ [] → ownAnswers a (ifAccepted answer es) ≡ []
-  unfolding ifAccepted ownAnswers
-  accepted-none (accepted seat count) es h = h
-  accepted-none (refused why) es h = refl
+  accepted_none : (answer : Answer) (es : List Entry) → own_answers a es ≡ [] → own_answers a (if_accepted answer es) ≡ []
+  unfolding if_accepted own_answers
+  accepted_none (accepted seat count) es h = h
+  accepted_none (refused why) es h = refl
 
-  by-key-none : (seated : Bool) (key : Key) (call : Call) (answer : Answer) → ownAnswers a (byKey seated key call answer) ≡ []
-  unfolding byKey ownAnswers
-  by-key-none seated key (arrive k) answer =
-      accepted-none answer _ (own-append a (entryIf seated (departed key)) (arrived key ∷ []) ∙ rw (entry-none seated (departed key) refl))
-  by-key-none seated key (leave seat) answer = accepted-none answer _ refl
-  by-key-none seated key (packetCall seat bytes) answer = refl
-  by-key-none seated key (tick time number) answer = refl
+  by_key_none : (seated : Bool) (key : Key) (call : Call) (answer : Answer) → own_answers a (by_key seated key call answer) ≡ []
+  unfolding by_key own_answers
+  by_key_none seated key (arrive k) answer =
+      accepted_none answer _ (own_append a (entry_if seated (departed key)) (arrived key ∷ []) ∙ rw (entry_none seated (departed key) refl))
+  by_key_none seated key (leave seat) answer = accepted_none answer _ refl
+  by_key_none seated key (packet_call seat bytes) answer = refl
+  by_key_none seated key (tick time number) answer = refl
 
-  made-own : (t seated : Bool) (c key : Key) (e : Event) (names : ℕ → Bool) → ownAnswers a (madeBy t seated c key e names) ≡ answerIf t a
-  unfolding madeBy answerIf ownAnswers
-  made-own true seated c key e names = own-append a (byKey seated key e.call e.answer) (own e.call ∷ []) ∙ rw (by-key-none seated key e.call e.answer)
-  made-own false seated c key e names =
-      own-append a (byKey seated key e.call e.answer) (ifAccepted e.answer (otherCall c key e.call names))
-      ∙ rw (by-key-none seated key e.call e.answer) (accepted-none e.answer _ (other_none c key e.call names))
+  made_own : (t seated : Bool) (c key : Key) (e : Event) (names : ℕ → Bool) → own_answers a (made_by t seated c key e names) ≡ answer_if t a
+  unfolding made_by answer_if own_answers
+  made_own true seated c key e names = own_append a (by_key seated key e.call e.answer) (own e.call ∷ []) ∙ rw (by_key_none seated key e.call e.answer)
+  made_own false seated c key e names =
+      own_append a (by_key seated key e.call e.answer) (if_accepted e.answer (other_call c key e.call names))
+      ∙ rw (by_key_none seated key e.call e.answer) (accepted_none e.answer _ (other_none c key e.call names))
 
-  tick-none : (call : Call) (out : List Key) → ownAnswers a (ofTick call out) ≡ []
-  unfolding ofTick ownAnswers
-  tick-none (arrive key) out = refl
-  tick-none (leave seat) out = refl
-  tick-none (packetCall seat bytes) out = refl
-  tick-none (tick time number) out = refl
+  tick_none : (call : Call) (out : List Key) → own_answers a (of_tick call out) ≡ []
+  unfolding of_tick own_answers
+  tick_none (arrive key) out = refl
+  tick_none (leave seat) out = refl
+  tick_none (packet_call seat bytes) out = refl
+  tick_none (tick time number) out = refl
 
-  entries-own : (m : Maker) (start : Start) (past : Past) (c : Key) (e : Event) → ownAnswers a (entriesBy m start past c e) ≡ answerIf (isClient c m) a
-  unfolding entriesBy isClient answerIf ownAnswers
-  entries-own nobody start past c e = tick-none e.call (putOut start past e.call e.answer)
-  entries-own (clientOf key) start past c e = made-own (sameKey key c) (isSeated start past key) c key e (λ number. stands start past key number c)
+  entries_own : (m : Maker) (start : Start) (past : Past) (c : Key) (e : Event) → own_answers a (entries_by m start past c e) ≡ answer_if (is_client c m) a
+  unfolding entries_by is_client answer_if own_answers
+  entries_own nobody start past c e = tick_none e.call (put_out start past e.call e.answer)
+  entries_own (client_of key) start past c e = made_own (same_key key c) (is_seated start past key) c key e (λ number. stands start past key number c)
 
-  answers-by-record : (start : Start) (past : Past) (c : Key) (calls : List Call) → answersFor start past c (silent a calls) ≡ ownAnswers a (recordFor start past c (silent a calls))
-  unfolding silent answersFor recordFor entries ownAnswers
-  answers-by-record start past c [] = refl
-  answers-by-record start past c (call ∷ calls) =
+  answers_by_record : (start : Start) (past : Past) (c : Key) (calls : List Call) → answers_for start past c (silent a calls) ≡ own_answers a (record_for start past c (silent a calls))
+  unfolding silent answers_for record_for entries own_answers
+  answers_by_record start past c [] = refl
+  answers_by_record start past c (call ∷ calls) =
       let e : Event = record { call = call; answer = a; sent = [] } in
-      ap₂ (λ (l m : List Answer). l ++ m) (sym (entries-own (maker start past call) start past c e)) (answers-by-record start (e ∷ past) c calls)
-      ∙ sym (own-append a (entriesBy (maker start past call) start past c e) (recordFor start (e ∷ past) c (silent a calls)))
+      ap₂ (λ (l m : List Answer). l ++ m) (sym (entries_own (maker start past call) start past c e)) (answers_by_record start (e ∷ past) c calls)
+      ∙ sym (own_append a (entries_by (maker start past call) start past c e) (record_for start (e ∷ past) c (silent a calls)))
 
-  pub silent-isolates : Isolates (silent a)
-  silent-isolates c h₁ h₂ z₁ z₂ e = (
-    nothing-handed a (from_empty baseSizes) [] c h₁ ∙ sym (nothing-handed a (from_empty baseSizes) [] c h₂),
-    answers-by-record (from_empty baseSizes) [] c h₁ ∙ ap (ownAnswers a) e ∙ sym (answers-by-record (from_empty baseSizes) [] c h₂),
+  pub silent_isolates : Isolates (silent a)
+  silent_isolates c h₁ h₂ z₁ z₂ e = (
+    nothing_handed a (from_empty base_sizes) [] c h₁ ∙ sym (nothing_handed a (from_empty base_sizes) [] c h₂),
+    answers_by_record (from_empty base_sizes) [] c h₁ ∙ ap (own_answers a) e ∙ sym (answers_by_record (from_empty base_sizes) [] c h₂),
   )
 
   -- and demand 2 turns it away
-  pub silent-turned-away : TakesSteps (silent a) → ⊥
-  unfolding silent sentOf
-  silent-turned-away steps = not-silent (silent a) steps nothing
+  pub silent_turned_away : TakesSteps (silent a) → ⊥
+  unfolding silent sent_of
+  silent_turned_away steps = not_silent (silent a) steps nothing
     where
-      nothing : (calls : List Call) → sentOf (silent a calls) ≡ []
+      nothing : (calls : List Call) → sent_of (silent a calls) ≡ []
       nothing [] = refl
       nothing (call ∷ calls) = nothing calls

@@ -10,21 +10,21 @@ use lib.Seq.{length-take-le, take_all, get_or-take}
 use borrow.Author.Tests.{le-leb, lt-leb, leb-true}
 use Rattle.wire.specs.Numbers.{Bytes}
 use Rattle.wire.proofs.Numbers.{bytes_take}
-use Rattle.key.specs.Keys.{IsKey, key_of, withKey}
+use Rattle.key.specs.Keys.{IsKey, key_of, with_key}
 
 -- enough bytes hold a key
-pub key-whole : (bytes : List ℕ) → 32 ≤ length bytes → key_of bytes ≡ take 32 bytes
+pub key_whole : (bytes : List ℕ) → 32 ≤ length bytes → key_of bytes ≡ take 32 bytes
 unfolding key_of
-key-whole bytes h = simp (le-leb 32 (length bytes) h)
+key_whole bytes h = simp (le-leb 32 (length bytes) h)
 
 -- 32 bytes are the key
-pub key-itself : (bytes : List ℕ) → length bytes ≡ 32 → key_of bytes ≡ bytes
-key-itself bytes e = key-whole bytes (omega arith) ∙ take_all 32 bytes (omega arith)
+pub key_itself : (bytes : List ℕ) → length bytes ≡ 32 → key_of bytes ≡ bytes
+key_itself bytes e = key_whole bytes (omega arith) ∙ take_all 32 bytes (omega arith)
 
 -- whatever the bytes, what is read is a key
-pub length-key : (bytes : List ℕ) → length (key_of bytes) ≡ 32
+pub length_key : (bytes : List ℕ) → length (key_of bytes) ≡ 32
 unfolding key_of
-length-key bytes = by (leb 32 (length bytes)) refl
+length_key bytes = by (leb 32 (length bytes)) refl
   where
     by : (t : Bool) → leb 32 (length bytes) ≡ t → length (cond t (take 32 bytes) (replicate 32 0)) ≡ 32
     by true e = length-take-le 32 bytes (leb-true 32 (length bytes) e)
@@ -34,25 +34,25 @@ zeros : (n : ℕ) → Bytes (replicate n 0)
 zeros zero = tt
 zeros (suc n) = (omega arith, zeros n)
 
-pub bytes-key : (bytes : List ℕ) → Bytes bytes → Bytes (key_of bytes)
+pub bytes_key : (bytes : List ℕ) → Bytes bytes → Bytes (key_of bytes)
 unfolding key_of
-bytes-key bytes s = by (leb 32 (length bytes))
+bytes_key bytes s = by (leb 32 (length bytes))
   where
     by : (t : Bool) → Bytes (cond t (take 32 bytes) (replicate 32 0))
     by true = bytes_take 32 bytes s
     by false = zeros 32
 
-pub key-of : (bytes : List ℕ) → Bytes bytes → IsKey (key_of bytes)
-key-of bytes s = record { long = length-key bytes; bytes = bytes-key bytes s }
+pub key_of_lem : (bytes : List ℕ) → Bytes bytes → IsKey (key_of bytes)
+key_of_lem bytes s = record { long = length_key bytes; bytes = bytes_key bytes s }
 
 -- a byte of it, of bytes that are enough and of too few
 module _ (bytes : List ℕ) (i : ℕ) where
-  pub key-byte : i < 32 → 32 ≤ length bytes → get_or bytes i 0 ≡ get_or (key_of bytes) i 0
-  key-byte h k = sym (ap (λ (l : List ℕ). get_or l i 0) (key-whole bytes k) ∙ get_or-take 32 bytes i 0 h)
+  pub key_byte : i < 32 → 32 ≤ length bytes → get_or bytes i 0 ≡ get_or (key_of bytes) i 0
+  key_byte h k = sym (ap (λ (l : List ℕ). get_or l i 0) (key_whole bytes k) ∙ get_or-take 32 bytes i 0 h)
 
-  pub zero-byte : length bytes < 32 → ◌≡◌ {A = ℕ} 0 (get_or (key_of bytes) i 0)
+  pub zero_byte : length bytes < 32 → ◌≡◌ {A = ℕ} 0 (get_or (key_of bytes) i 0)
   unfolding key_of
-  zero-byte h = simp (lt-leb 32 (length bytes) h) (sym (each 32 i))
+  zero_byte h = simp (lt-leb 32 (length bytes) h) (sym (each 32 i))
     where
       each : (n j : ℕ) → get_or (replicate {A = ℕ} n 0) j 0 ≡ 0
       each zero j = refl
@@ -60,7 +60,7 @@ module _ (bytes : List ℕ) (i : ℕ) where
       each (suc n) (suc j) = each n j
 
 -- a part of 32 bytes becomes the key
-pub with-key-whole : (key out : List ℕ) → length out ≡ 32 → withKey key out ≡ key
-unfolding withKey
-with-key-whole key out e =
+pub with_key_whole : (key out : List ℕ) → length out ≡ 32 → with_key key out ≡ key
+unfolding with_key
+with_key_whole key out e =
     simp (le-leb 32 (length out) (omega arith)) (ap (λ (l : List ℕ). key ++ l) (drop_of_length-le out {i = 32} (omega arith)) ∙ append-nil key)

@@ -16,12 +16,12 @@ use Rattle.key.specs.Keys.{IsKey}
 use Rattle.key.specs.contracts.Key as type
 
 -- what owning an array of bytes tells of them
-pub each-byte : (xs : List ℕ) (us : List Val) → shadow (each ℕ (UInt w8).own_val (map (λ v. v) xs) us) → Bytes xs
-each-byte [] us p = tt
-each-byte (x ∷ xs) [] p = absurd p
-each-byte (x ∷ xs) (u ∷ us) p = (p.0.1, each-byte xs us p.1)
+pub each_byte : (xs : List ℕ) (us : List Val) → shadow (each ℕ (UInt w8).own_val (map (λ v. v) xs) us) → Bytes xs
+each_byte [] us p = tt
+each_byte (x ∷ xs) [] p = absurd p
+each_byte (x ∷ xs) (u ∷ us) p = (p.0.1, each_byte xs us p.1)
 
 pub is_key : (k : Key) (values : Valss (shape type.the_type).fields) → shadow (owns (shape type.the_type).fields ((type.the_type).to k) values) → IsKey k.0
 is_key k values g =
     let bytes = g.0 in
-    record { long = sym (length-map k.0 _) ∙ bytes.1.0.1; bytes = each-byte k.0 bytes.0 bytes.1.1 }
+    record { long = sym (length-map k.0 _) ∙ bytes.1.0.1; bytes = each_byte k.0 bytes.0 bytes.1.1 }

@@ -18,5 +18,5 @@ alike (x ∷ xs) [] = 0
 alike (x ∷ xs) (y ∷ ys) = cond (eqb x y) (suc (alike xs ys)) 0
 
 -- "the number of leading bits it shares with the base key"
-unfoldable pub sharedBits : List ℕ → List ℕ → ℕ
-sharedBits a b = alike (bits a) (bits b)
+unfoldable pub shared_bits : List ℕ → List ℕ → ℕ
+shared_bits a b = alike (bits a) (bits b)

@@ -3,15 +3,15 @@
 // A key is the first 32 bytes, or the key of zeros where there are fewer, as for `Key::read`, so every function answers for any bytes. Where there
 // are enough bytes, the keys are compared where they stand and none is copied: a search through many keys calls these in its inner loop.
 ghost use Rattle.std.specs.Prelude.{◌≡◌, ◌<◌, length, get_or};
-ghost use Rattle.key.specs.Keys.{sameKey, nearer, Compares, key_of};
-ghost use Rattle.key.specs.Bits.{sharedBits};
+ghost use Rattle.key.specs.Keys.{same_key, nearer, Compares, key_of};
+ghost use Rattle.key.specs.Bits.{shared_bits};
 
 use crate::Key;
 
 // How many leading bits two keys share, 256 where they are the same. Document 02: "A key's bucket is the number of leading bits it shares with the
 // base key."
 pub fn shared_bits(a: &[u8], b: &[u8]) -> usize
-    ensures { result ≡ sharedBits (key_of a.now) (key_of b.now) }
+    ensures { result ≡ shared_bits (key_of a.now) (key_of b.now) }
 {
     if Key::BYTES <= a.len() && Key::BYTES <= b.len() {
         return shared_of_parts(&a[..Key::BYTES], &b[..Key::BYTES]);
@@ -22,7 +22,7 @@ pub fn shared_bits(a: &[u8], b: &[u8]) -> usize
 // Document 01: "leading zeros of the first nonzero XOR byte, added to eight per equal byte, give the bucket."
 fn shared_of_parts(a: &[u8], b: &[u8]) -> usize
     requires { (length a.now ≡ 32) × (length b.now ≡ 32) }
-    ensures { result ≡ sharedBits a.now b.now }
+    ensures { result ≡ shared_bits a.now b.now }
 {
     let mut i = 0;
     while i < Key::BYTES {
@@ -37,7 +37,7 @@ fn shared_of_parts(a: &[u8], b: &[u8]) -> usize
 
 // The same where some bytes are too few to be a key. Buckets lend 32 always.
 fn shared_by_value(a: &[u8], b: &[u8]) -> usize
-    ensures { result ≡ sharedBits (key_of a.now) (key_of b.now) }
+    ensures { result ≡ shared_bits (key_of a.now) (key_of b.now) }
 {
     let x = Key::read(a).0;
     let y = Key::read(b).0;
@@ -46,7 +46,7 @@ fn shared_by_value(a: &[u8], b: &[u8]) -> usize
 
 // Whether two keys are the same: a key is nearer to itself than every other key is. The length is tested after the loop, as in `nearer`.
 pub fn equals(a: &[u8], b: &[u8]) -> bool
-    ensures { result ≡ sameKey (key_of a.now) (key_of b.now) }
+    ensures { result ≡ same_key (key_of a.now) (key_of b.now) }
 {
     if a.len() == b.len() {
         let differ = nearer_of_parts(a, a, b);

@@ -3,7 +3,7 @@
 // Here live its equality, the order of two keys by their distance to a third, and its bytes in lent memory. `in_place` compares keys where they stand
 // in lent memory. Where keys come from, and the secret half of each, stay with the host.
 ghost use Rattle.std.specs.Prelude.{◌≡◌};
-ghost use Rattle.key.specs.Keys.{sameKey, Compares, key_of, withKey};
+ghost use Rattle.key.specs.Keys.{same_key, Compares, key_of, with_key};
 
 pub mod in_place;
 
@@ -16,7 +16,7 @@ impl Key {
 
     // Whether two keys are the same.
     pub fn equals(self, other: Key) -> bool
-        ensures { result ≡ sameKey self.0 other.0 }
+        ensures { result ≡ same_key self.0 other.0 }
     {
         let mut i = 0;
         while i < Key::BYTES {
@@ -62,7 +62,7 @@ impl Key {
 
     // Writes the key's 32 bytes to the front of `out`, or nothing where it has fewer.
     pub fn write(self, out: &mut [u8])
-        ensures { out.new ≡ withKey self.0 out.old }
+        ensures { out.new ≡ with_key self.0 out.old }
     {
         if out.len() < Key::BYTES {
             return;

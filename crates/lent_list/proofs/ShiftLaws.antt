@@ -10,41 +10,41 @@ use lib.ListN.{length, get_or, take, drop, set, length-append, length-drop, take
 use lib.Seq.{length-take-le, take_all, take-nil, take-suc, take-take, take-append-le, drop-cons, drop-drop, drop_at, set_at, set_split, append_snoc, get_or-take, get_or-drop, get_or-append-add}
 use Rattle.wire.specs.Numbers.{Bytes}
 use Rattle.wire.proofs.Numbers.{bytes_drop}
-use Rattle.wire.proofs.Copy.{written_byte, written-part, length-lent}
-use Rattle.lists.specs.Insert.{insertAt, removeAt}
-use Rattle.lists.proofs.Shift.{front-in, front_out}
+use Rattle.wire.proofs.Copy.{written_byte, written_part, length_lent}
+use Rattle.lists.specs.Insert.{insert_at, remove_at}
+use Rattle.lists.proofs.Shift.{front_in, front_out}
 use Rattle.node.specs.declared.Node.{Node}
-use Rattle.lent_list_laws.specs.Layout.{slot_at, slotsAt, slotBytes, slotsBytes}
-use Rattle.lent_list_laws.proofs.SlotLaws.{slots-number, slots-taken, slots-dropped, slots-append, slots-of-bytes}
+use Rattle.lent_list_laws.specs.Layout.{slot_at, slots_at, slot_bytes, slots_bytes}
+use Rattle.lent_list_laws.proofs.SlotLaws.{slots_number, slots_taken, slots_dropped, slots_append, slots_of_bytes}
 
 -- ---- the turns of the loops
 
 -- the bytes from i to before the end have moved back by one slot
-abbrev pub movedBack : List ℕ → ℕ → ℕ → List ℕ
-movedBack s end i = take (i + 51) s ++ (take (end - i) (drop i s) ++ drop (end + 51) s)
+abbrev pub moved_back : List ℕ → ℕ → ℕ → List ℕ
+moved_back s end i = take (i + 51) s ++ (take (end - i) (drop i s) ++ drop (end + 51) s)
 
 -- the places from the start to before i have the bytes from one slot behind
-abbrev pub movedForward : List ℕ → ℕ → ℕ → List ℕ
-movedForward s start i = take start s ++ (take (i - start) (drop (start + 51) s) ++ drop i s)
+abbrev pub moved_forward : List ℕ → ℕ → ℕ → List ℕ
+moved_forward s start i = take start s ++ (take (i - start) (drop (start + 51) s) ++ drop i s)
 
 -- before the first turn
-pub back-begins : (s : List ℕ) (end : ℕ) → s ≡ movedBack s end end
-back-begins s end = rw (sub_self end) (sym (take-append-drop (end + 51) s))
+pub back_begins : (s : List ℕ) (end : ℕ) → s ≡ moved_back s end end
+back_begins s end = rw (sub_self end) (sym (take-append-drop (end + 51) s))
 
-pub forward-begins : (s : List ℕ) (start : ℕ) → s ≡ movedForward s start start
-forward-begins s start = rw (sub_self start) (sym (take-append-drop start s))
+pub forward_begins : (s : List ℕ) (start : ℕ) → s ≡ moved_forward s start start
+forward_begins s start = rw (sub_self start) (sym (take-append-drop start s))
 
 -- one byte more moves back
 pub back_more : (s : List ℕ) (end i : ℕ) → i < end → end + 51 ≤ length s
-    → set (movedBack s end (suc i)) (i + 51) (get_or (movedBack s end (suc i)) i 0) ≡ movedBack s end i
+    → set (moved_back s end (suc i)) (i + 51) (get_or (moved_back s end (suc i)) i 0) ≡ moved_back s end i
 back_more s end i h room =
     let front = take (i + 51) s in
     let rest = take (end - suc i) (drop (suc i) s) ++ drop (end + 51) s in
     let long = length-take-le (suc i + 51) s (omega arith) in
-    let split : movedBack s end (suc i) ≡ front ++ (get_or s (i + 51) 0 ∷ rest)
+    let split : moved_back s end (suc i) ≡ front ++ (get_or s (i + 51) 0 ∷ rest)
     = ap (λ (k : ℕ). take k s ++ rest) (let e : suc i + 51 ≡ suc (i + 51) = omega arith in e)
     ∙ ap (λ (x : List ℕ). x ++ rest) (take-suc s (i + 51) 0 (omega arith)) ∙ append_snoc front (get_or s (i + 51) 0) rest in
-    let read : get_or (movedBack s end (suc i)) i 0 ≡ get_or s i 0
+    let read : get_or (moved_back s end (suc i)) i 0 ≡ get_or s i 0
     = get_or-append (take (suc i + 51) s) rest 0 i (omega arith) ∙ get_or-take (suc i + 51) s i 0 (omega arith) in
     let more : take (end - i) (drop i s) ≡ get_or s i 0 ∷ take (end - suc i) (drop (suc i) s)
     = ap₂ (λ (k : ℕ) (x : List ℕ). take k x) (let e : end - i ≡ suc (end - suc i) = omega arith in e) (drop-cons s i 0 (omega arith)) in
@@ -53,20 +53,20 @@ back_more s end i h room =
     ∙ ap (λ (x : List ℕ). front ++ (x ++ drop (end + 51) s)) (sym more)
 
 -- as long as the places passed
-forward-long : (s : List ℕ) (start i : ℕ) → start ≤ i → i + 51 ≤ length s → length (take start s ++ take (i - start) (drop (start + 51) s)) ≡ i
-forward-long s start i h room =
+forward_long : (s : List ℕ) (start i : ℕ) → start ≤ i → i + 51 ≤ length s → length (take start s ++ take (i - start) (drop (start + 51) s)) ≡ i
+forward_long s start i h room =
     let a = length-take-le start s (omega arith) in
-    let b = length-lent s (start + 51) (i - start) (omega arith) in
+    let b = length_lent s (start + 51) (i - start) (omega arith) in
     length-append (take start s) (take (i - start) (drop (start + 51) s)) ∙ omega arith
 
 -- one byte more moves forward
-pub forward-more : (s : List ℕ) (start i : ℕ) → start ≤ i → i + 51 < length s
-    → set (movedForward s start i) i (get_or (movedForward s start i) (i + 51) 0) ≡ movedForward s start (i + 1)
-forward-more s start i h room =
+pub forward_more : (s : List ℕ) (start i : ℕ) → start ≤ i → i + 51 < length s
+    → set (moved_forward s start i) i (get_or (moved_forward s start i) (i + 51) 0) ≡ moved_forward s start (i + 1)
+forward_more s start i h room =
     let moved = take (i - start) (drop (start + 51) s) in
     let front = take start s ++ moved in
     let byte = get_or s (i + 51) 0 in
-    let long = forward-long s start i h (omega arith) in
+    let long = forward_long s start i h (omega arith) in
     let d = length-drop (start + 51) s in
     let read : get_or (front ++ drop i s) (i + 51) 0 ≡ byte
     = ap (λ (k : ℕ). get_or (front ++ drop i s) (k + 51) 0) (sym long) ∙ get_or-append-add front (drop i s) 51 0 ∙ get_or-drop i s 51 0 in
@@ -83,90 +83,90 @@ forward-more s start i h room =
 -- ---- the bytes of all slots, with some of them changed
 
 module _ (s : List ℕ) (long : length s ≡ 816) (bytes : Bytes s) where
-  part_bytes : (k n : ℕ) → k + n ≤ 16 → slotsBytes (take n (drop k (slotsAt 16 s))) ≡ take (n * 51) (drop (k * 51) s)
+  part_bytes : (k n : ℕ) → k + n ≤ 16 → slots_bytes (take n (drop k (slots_at 16 s))) ≡ take (n * 51) (drop (k * 51) s)
   part_bytes k n h =
       let d = length-drop (k * 51) s in
-      ap slotsBytes (ap (take n) (slots-dropped 16 k s (omega arith)) ∙ slots-taken (16 - k) n (drop (k * 51) s) (omega arith))
-      ∙ slots-of-bytes n (drop (k * 51) s) (omega arith) (bytes_drop (k * 51) s bytes)
+      ap slots_bytes (ap (take n) (slots_dropped 16 k s (omega arith)) ∙ slots_taken (16 - k) n (drop (k * 51) s) (omega arith))
+      ∙ slots_of_bytes n (drop (k * 51) s) (omega arith) (bytes_drop (k * 51) s bytes)
 
-  front_bytes : (k : ℕ) → k ≤ 16 → slotsBytes (take k (slotsAt 16 s)) ≡ take (k * 51) s
+  front_bytes : (k : ℕ) → k ≤ 16 → slots_bytes (take k (slots_at 16 s)) ≡ take (k * 51) s
   front_bytes k h = part_bytes 0 k (omega arith)
 
-  rest-bytes : (k : ℕ) → k < 16 → slotsBytes (drop (suc k) (slotsAt 16 s)) ≡ drop (k * 51 + 51) s
-  rest-bytes k h =
-      let n = length-drop (suc k) (slotsAt 16 s) in
-      let m = slots-number 16 s in
+  rest_bytes : (k : ℕ) → k < 16 → slots_bytes (drop (suc k) (slots_at 16 s)) ≡ drop (k * 51 + 51) s
+  rest_bytes k h =
+      let n = length-drop (suc k) (slots_at 16 s) in
+      let m = slots_number 16 s in
       let d = length-drop (suc k * 51) s in
-      ap slotsBytes (sym (take_all (16 - suc k) (drop (suc k) (slotsAt 16 s)) (omega arith))) ∙ part_bytes (suc k) (16 - suc k) (omega arith)
+      ap slots_bytes (sym (take_all (16 - suc k) (drop (suc k) (slots_at 16 s)) (omega arith))) ∙ part_bytes (suc k) (16 - suc k) (omega arith)
       ∙ take_all ((16 - suc k) * 51) (drop (suc k * 51) s) (omega arith)
       ∙ ap (λ (x : ℕ). drop x s) (let e : suc k * 51 ≡ k * 51 + 51 = omega arith in e)
 
   -- a node replaced
-  pub put-at : (i : ℕ) → i < 16 → (n : Node) → take (i * 51) s ++ (slotBytes n ++ drop (i * 51 + 51) s) ≡ slotsBytes (set (slotsAt 16 s) i n)
-  unfolding slotsBytes
-  put-at i h n =
-      let ns = slotsAt 16 s in
-      let m = slots-number 16 s in
+  pub put_at : (i : ℕ) → i < 16 → (n : Node) → take (i * 51) s ++ (slot_bytes n ++ drop (i * 51 + 51) s) ≡ slots_bytes (set (slots_at 16 s) i n)
+  unfolding slots_bytes
+  put_at i h n =
+      let ns = slots_at 16 s in
+      let m = slots_number 16 s in
       sym
-      (ap slotsBytes (set_split ns i n (omega arith)) ∙ slots-append (take i ns) (n ∷ drop (suc i) ns)
-      ∙ ap₂ (λ (x y : List ℕ). x ++ (slotBytes n ++ y)) (front_bytes i (omega arith)) (rest-bytes i h))
+      (ap slots_bytes (set_split ns i n (omega arith)) ∙ slots_append (take i ns) (n ∷ drop (suc i) ns)
+      ∙ ap₂ (λ (x y : List ℕ). x ++ (slot_bytes n ++ y)) (front_bytes i (omega arith)) (rest_bytes i h))
 
   module _ (p last : ℕ) (h : p ≤ last) (k : last < 16) (n : Node) where
     -- a node put in, those from there to before the last moved back
-    in_bytes : slotsBytes (take (last + 1) (insertAt p n (slotsAt 16 s)) ++ drop (last + 1) (slotsAt 16 s))
-        ≡ take (p * 51) s ++ (slotBytes n ++ (take (last * 51 - p * 51) (drop (p * 51) s) ++ drop (last * 51 + 51) s))
-    unfolding slotsBytes
+    in_bytes : slots_bytes (take (last + 1) (insert_at p n (slots_at 16 s)) ++ drop (last + 1) (slots_at 16 s))
+        ≡ take (p * 51) s ++ (slot_bytes n ++ (take (last * 51 - p * 51) (drop (p * 51) s) ++ drop (last * 51 + 51) s))
+    unfolding slots_bytes
     in_bytes =
-        let ns = slotsAt 16 s in
-        let m = slots-number 16 s in
+        let ns = slots_at 16 s in
+        let m = slots_number 16 s in
         let moved = take (last - p) (drop p ns) in
         let rest = drop (suc last) ns in
-        let nodes : take (last + 1) (insertAt p n ns) ++ drop (last + 1) ns ≡ take p ns ++ (n ∷ (moved ++ rest))
-        = rw add-one (ap (λ (x : List Node). x ++ rest) (front-in p last n ns h (omega arith)) ∙ append_assoc (take p ns) (n ∷ moved) rest) in
-        ap slotsBytes nodes ∙ slots-append (take p ns) (n ∷ (moved ++ rest))
-        ∙ ap₂ (λ (x y : List ℕ). x ++ (slotBytes n ++ y)) (front_bytes p (omega arith))
-        (slots-append moved rest
+        let nodes : take (last + 1) (insert_at p n ns) ++ drop (last + 1) ns ≡ take p ns ++ (n ∷ (moved ++ rest))
+        = rw add-one (ap (λ (x : List Node). x ++ rest) (front_in p last n ns h (omega arith)) ∙ append_assoc (take p ns) (n ∷ moved) rest) in
+        ap slots_bytes nodes ∙ slots_append (take p ns) (n ∷ (moved ++ rest))
+        ∙ ap₂ (λ (x y : List ℕ). x ++ (slot_bytes n ++ y)) (front_bytes p (omega arith))
+        (slots_append moved rest
         ∙ ap₂ (λ (x y : List ℕ). x ++ y)
         (part_bytes p (last - p) (omega arith) ∙ ap (λ (x : ℕ). take x (drop (p * 51) s)) (let e : (last - p) * 51 ≡ last * 51 - p * 51 = omega arith in e))
-        (rest-bytes last k))
+        (rest_bytes last k))
 
-    pub opened-bytes : (m : List ℕ) → m ≡ movedBack s (last * 51) (p * 51)
-        → take (p * 51) m ++ (slotBytes n ++ drop (p * 51 + 51) m)
-        ≡ slotsBytes (take (last + 1) (insertAt p n (slotsAt 16 s)) ++ drop (last + 1) (slotsAt 16 s))
-    opened-bytes m e =
+    pub opened_bytes : (m : List ℕ) → m ≡ moved_back s (last * 51) (p * 51)
+        → take (p * 51) m ++ (slot_bytes n ++ drop (p * 51 + 51) m)
+        ≡ slots_bytes (take (last + 1) (insert_at p n (slots_at 16 s)) ++ drop (last + 1) (slots_at 16 s))
+    opened_bytes m e =
         let front = take (p * 51 + 51) s in
         let rest = take (last * 51 - p * 51) (drop (p * 51) s) ++ drop (last * 51 + 51) s in
         let l = length-take-le (p * 51 + 51) s (omega arith) in
-        ap (λ (x : List ℕ). take (p * 51) x ++ (slotBytes n ++ drop (p * 51 + 51) x)) e
-        ∙ ap₂ (λ (x y : List ℕ). x ++ (slotBytes n ++ y))
+        ap (λ (x : List ℕ). take (p * 51) x ++ (slot_bytes n ++ drop (p * 51 + 51) x)) e
+        ∙ ap₂ (λ (x y : List ℕ). x ++ (slot_bytes n ++ y))
         (take-append-le (p * 51) front rest (omega arith) ∙ take-take (p * 51) (p * 51 + 51) s (omega arith))
         (drop_at front rest (p * 51 + 51) l)
         ∙ sym in_bytes
 
     -- a node taken out, those behind it moved forward, and another node put at the last place
-    out-bytes : slotsBytes (take last (removeAt p (slotsAt 16 s)) ++ (n ∷ drop (last + 1) (slotsAt 16 s)))
-        ≡ (take (p * 51) s ++ take (last * 51 - p * 51) (drop (p * 51 + 51) s)) ++ (slotBytes n ++ drop (last * 51 + 51) s)
-    unfolding slotsBytes
-    out-bytes =
-        let ns = slotsAt 16 s in
+    out_bytes : slots_bytes (take last (remove_at p (slots_at 16 s)) ++ (n ∷ drop (last + 1) (slots_at 16 s)))
+        ≡ (take (p * 51) s ++ take (last * 51 - p * 51) (drop (p * 51 + 51) s)) ++ (slot_bytes n ++ drop (last * 51 + 51) s)
+    unfolding slots_bytes
+    out_bytes =
+        let ns = slots_at 16 s in
         let moved = take (last - p) (drop (suc p) ns) in
-        slots-append (take last (removeAt p ns)) (n ∷ drop (last + 1) ns)
-        ∙ ap₂ (λ (x y : List ℕ). x ++ (slotBytes n ++ y))
-        (ap slotsBytes (front_out p last ns h) ∙ slots-append (take p ns) moved
+        slots_append (take last (remove_at p ns)) (n ∷ drop (last + 1) ns)
+        ∙ ap₂ (λ (x y : List ℕ). x ++ (slot_bytes n ++ y))
+        (ap slots_bytes (front_out p last ns h) ∙ slots_append (take p ns) moved
         ∙ ap₂ (λ (x y : List ℕ). x ++ y) (front_bytes p (omega arith))
         (part_bytes (suc p) (last - p) (omega arith)
         ∙ ap₂ (λ (x y : ℕ). take x (drop y s)) (let e : (last - p) * 51 ≡ last * 51 - p * 51 = omega arith in e) (let e : suc p * 51 ≡ p * 51 + 51 = omega arith in e)))
-        (rw add-one (rest-bytes last k))
+        (rw add-one (rest_bytes last k))
 
-    pub closed-bytes : (m : List ℕ) → m ≡ movedForward s (p * 51) (last * 51)
-        → take (last * 51) m ++ (slotBytes n ++ drop (last * 51 + 51) m)
-        ≡ slotsBytes (take last (removeAt p (slotsAt 16 s)) ++ (n ∷ drop (last + 1) (slotsAt 16 s)))
-    closed-bytes m e =
+    pub closed_bytes : (m : List ℕ) → m ≡ moved_forward s (p * 51) (last * 51)
+        → take (last * 51) m ++ (slot_bytes n ++ drop (last * 51 + 51) m)
+        ≡ slots_bytes (take last (remove_at p (slots_at 16 s)) ++ (n ∷ drop (last + 1) (slots_at 16 s)))
+    closed_bytes m e =
         let moved = take (last * 51 - p * 51) (drop (p * 51 + 51) s) in
         let front = take (p * 51) s ++ moved in
         let at = last * 51 in
-        ap (λ (x : List ℕ). take at x ++ (slotBytes n ++ drop (at + 51) x)) (e ∙ sym (append_assoc (take (p * 51) s) moved (drop at s)))
-        ∙ ap (λ (x : List ℕ). take at (front ++ drop at s) ++ (slotBytes n ++ x)) (sym (drop-drop 51 at (front ++ drop at s)))
-        ∙ written-part front (slotBytes n) s at 51 (forward-long s (p * 51) at (omega arith) (omega arith))
-        ∙ append_assoc front (slotBytes n) (drop (at + 51) s)
-        ∙ sym out-bytes
+        ap (λ (x : List ℕ). take at x ++ (slot_bytes n ++ drop (at + 51) x)) (e ∙ sym (append_assoc (take (p * 51) s) moved (drop at s)))
+        ∙ ap (λ (x : List ℕ). take at (front ++ drop at s) ++ (slot_bytes n ++ x)) (sym (drop-drop 51 at (front ++ drop at s)))
+        ∙ written_part front (slot_bytes n) s at 51 (forward_long s (p * 51) at (omega arith) (omega arith))
+        ∙ append_assoc front (slot_bytes n) (drop (at + 51) s)
+        ∙ sym out_bytes

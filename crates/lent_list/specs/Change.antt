@@ -4,6 +4,6 @@ use Rattle.refusal.specs.declared.Refusal.TheVariants.{KeyNotHeld}
 use Rattle.nearest.specs.declared.Answer.{Answer}
 use Rattle.nearest.specs.declared.Answer.TheVariants.{Done, Refused}
 
-unfoldable pub removeAnswer : Bool → Answer
-removeAnswer true = Done
-removeAnswer false = Refused KeyNotHeld
+unfoldable pub remove_answer : Bool → Answer
+remove_answer true = Done
+remove_answer false = Refused KeyNotHeld

@@ -1,10 +1,10 @@
 // A list that keeps its rules changed where it stands in lent bytes: a node kept, and one taken out.
 ghost use Rattle.std.specs.Prelude.{◌≡◌, true, ◌≤◌, length};
-ghost use Rattle.node.specs.Families.{knownFamily};
+ghost use Rattle.node.specs.Families.{known_family};
 ghost use Rattle.nearest.specs.declared.Answer.TheVariants.{Done};
-ghost use Rattle.nearest.specs.Calls.{checked, offerAnswer, offered, removed};
-ghost use Rattle.lent_list_laws.specs.Layout.{listLength, listAt, stored};
-ghost use Rattle.lent_list.specs.Change.{removeAnswer};
+ghost use Rattle.nearest.specs.Calls.{checked, offer_answer, offered, removed};
+ghost use Rattle.lent_list_laws.specs.Layout.{list_length, list_at, stored};
+ghost use Rattle.lent_list.specs.Change.{remove_answer};
 
 use crate::{layout, search, shift, slot};
 use key::{Key, in_place};
@@ -13,9 +13,9 @@ use node::Node;
 // Offers a node of known family, and tells whether it is kept. Document 01: "An offered key already held has its node replaced. Else, with room, it is put in.
 // Else, if nearer than the furthest, it takes that one's room. Else it is not kept."
 pub(crate) fn keep(memory: &mut [u8], node: Node) -> bool
-    requires { (listLength ≤ length memory.old) × (checked (listAt memory.old) ≡ Done) × (knownFamily node.family ≡ true) }
-    ensures result_value { offerAnswer result ≡ (offered (listAt memory.old) node).answer }
-    ensures memory_after { memory.new ≡ stored (offered (listAt memory.old) node).list memory.old }
+    requires { (list_length ≤ length memory.old) × (checked (list_at memory.old) ≡ Done) × (known_family node.family ≡ true) }
+    ensures result_value { offer_answer result ≡ (offered (list_at memory.old) node).answer }
+    ensures memory_after { memory.new ≡ stored (offered (list_at memory.old) node).list memory.old }
 {
     let size = memory[layout::SIZE] as usize;
     let count = memory[layout::COUNT] as usize;
@@ -51,9 +51,9 @@ pub(crate) fn keep(memory: &mut [u8], node: Node) -> bool
 
 // Takes out the node of a key, and tells whether the key was held.
 pub(crate) fn take_out(memory: &mut [u8], key: Key) -> bool
-    requires { (listLength ≤ length memory.old) × (checked (listAt memory.old) ≡ Done) }
-    ensures result_value { removeAnswer result ≡ (removed (listAt memory.old) key).answer }
-    ensures memory_after { memory.new ≡ stored (removed (listAt memory.old) key).list memory.old }
+    requires { (list_length ≤ length memory.old) × (checked (list_at memory.old) ≡ Done) }
+    ensures result_value { remove_answer result ≡ (removed (list_at memory.old) key).answer }
+    ensures memory_after { memory.new ≡ stored (removed (list_at memory.old) key).list memory.old }
 {
     let count = memory[layout::COUNT] as usize;
     let index = search::find(&memory[layout::SLOTS..layout::END], count, &key.0);

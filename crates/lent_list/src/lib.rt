@@ -3,8 +3,8 @@
 // An offer and a removal do what those of `nearest` do, the test of the whole list first, where the list stands: keys are compared in place, and only the
 // slots that move are copied. A refused one writes nothing. Where the memory comes from, and how long it lives, stay with the host.
 ghost use Rattle.std.specs.Prelude.{◌≡◌};
-ghost use Rattle.lent_list_laws.specs.Calls.{shortRefusal, Begins, Offers, Removes};
-ghost use Rattle.lent_list.specs.Held.{held_at, nothingShown};
+ghost use Rattle.lent_list_laws.specs.Calls.{short_refusal, Begins, Offers, Removes};
+ghost use Rattle.lent_list.specs.Held.{held_at, nothing_shown};
 
 mod change;
 mod layout;
@@ -113,7 +113,7 @@ pub fn held_at(memory: &[u8], index: usize) -> HeldNode
 
 // Why memory too short for a list is refused. The list's test asks for its size first: 12 where the first byte is no size; else 14, as without a byte.
 fn too_short(memory: &[u8]) -> Refusal
-    ensures { result ≡ shortRefusal memory.now }
+    ensures { result ≡ short_refusal memory.now }
 {
     if memory.len() == 0 {
         return Refusal::ListNotWhole;
@@ -127,7 +127,7 @@ fn too_short(memory: &[u8]) -> Refusal
 
 // No node to show, and why.
 fn none(held: Held) -> HeldNode
-    ensures { result ≡ nothingShown held }
+    ensures { result ≡ nothing_shown held }
 {
     HeldNode {
         held,

@@ -1,16 +1,16 @@
 // Slots of a list in lent bytes moved where they stand: one put between them, and one taken from between them.
 ghost use Rattle.std.specs.Prelude.{◌≡◌, ◌∷◌, ◌++◌, ◌+◌, ◌-◌, ◌<◌, ◌≤◌, length, take, drop};
-ghost use Rattle.lists.specs.Insert.{insertAt, removeAt};
-ghost use Rattle.node.specs.Values.{blankNode};
-ghost use Rattle.lent_list_laws.specs.Layout.{slotLength, slotsLength, slotNumber, slotsAt, slotsBytes};
+ghost use Rattle.lists.specs.Insert.{insert_at, remove_at};
+ghost use Rattle.node.specs.Values.{blank_node};
+ghost use Rattle.lent_list_laws.specs.Layout.{slot_length, slots_length, slot_number, slots_at, slots_bytes};
 
 use crate::{layout, slot};
 use node::Node;
 
 // The bytes from `start` to before `end` move back by one slot, the last of them first; the slot at `start` stays as it was.
 fn move_back(slots: &mut [u8], start: usize, end: usize)
-    requires { (start ≤ end) × (end + slotLength ≤ length slots.old) }
-    ensures { slots.new ≡ take (start + slotLength) slots.old ++ (take (end - start) (drop start slots.old) ++ drop (end + slotLength) slots.old) }
+    requires { (start ≤ end) × (end + slot_length ≤ length slots.old) }
+    ensures { slots.new ≡ take (start + slot_length) slots.old ++ (take (end - start) (drop start slots.old) ++ drop (end + slot_length) slots.old) }
 {
     let mut i = end;
     while start < i {
@@ -21,8 +21,8 @@ fn move_back(slots: &mut [u8], start: usize, end: usize)
 
 // The bytes behind the slot at `start` move forward by one slot, to all places before `end`; the slot at `end` stays as it was.
 fn move_forward(slots: &mut [u8], start: usize, end: usize)
-    requires { (start ≤ end) × (end + slotLength ≤ length slots.old) }
-    ensures { slots.new ≡ take start slots.old ++ (take (end - start) (drop (start + slotLength) slots.old) ++ drop end slots.old) }
+    requires { (start ≤ end) × (end + slot_length ≤ length slots.old) }
+    ensures { slots.new ≡ take start slots.old ++ (take (end - start) (drop (start + slot_length) slots.old) ++ drop end slots.old) }
 {
     let mut i = start;
     while i < end {
@@ -33,8 +33,8 @@ fn move_forward(slots: &mut [u8], start: usize, end: usize)
 
 // The node put at `place`, and those from there to before `last` moved back by one; what stood at `last` is gone.
 pub(crate) fn open_at(slots: &mut [u8], place: usize, last: usize, node: Node)
-    requires { (length slots.old ≡ slotsLength) × (place ≤ last) × (last < slotNumber) }
-    ensures { slots.new ≡ slotsBytes (take (last + 1) (insertAt place node (slotsAt slotNumber slots.old)) ++ drop (last + 1) (slotsAt slotNumber slots.old)) }
+    requires { (length slots.old ≡ slots_length) × (place ≤ last) × (last < slot_number) }
+    ensures { slots.new ≡ slots_bytes (take (last + 1) (insert_at place node (slots_at slot_number slots.old)) ++ drop (last + 1) (slots_at slot_number slots.old)) }
 {
     move_back(slots, place * layout::SLOT_END, last * layout::SLOT_END);
     slot::write_at(node, slots, place);
@@ -42,8 +42,8 @@ pub(crate) fn open_at(slots: &mut [u8], place: usize, last: usize, node: Node)
 
 // The node at `place` taken out, those after it up to `last` moved forward by one, and the slot at `last` blank.
 pub(crate) fn close_at(slots: &mut [u8], place: usize, last: usize)
-    requires { (length slots.old ≡ slotsLength) × (place ≤ last) × (last < slotNumber) }
-    ensures { slots.new ≡ slotsBytes (take last (removeAt place (slotsAt slotNumber slots.old)) ++ (blankNode ∷ drop (last + 1) (slotsAt slotNumber slots.old))) }
+    requires { (length slots.old ≡ slots_length) × (place ≤ last) × (last < slot_number) }
+    ensures { slots.new ≡ slots_bytes (take last (remove_at place (slots_at slot_number slots.old)) ++ (blank_node ∷ drop (last + 1) (slots_at slot_number slots.old))) }
 {
     move_forward(slots, place * layout::SLOT_END, last * layout::SLOT_END);
     slot::write_at(Node::blank(), slots, last);

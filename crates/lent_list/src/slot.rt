@@ -1,6 +1,6 @@
 // The slots of a list in lent bytes: one by itself, one by its index, and all 16.
 ghost use Rattle.std.specs.Prelude.{◌≡◌, ◌++◌, ◌+◌, ◌*◌, ◌<◌, length, take, drop};
-ghost use Rattle.lent_list_laws.specs.Layout.{slotLength, slotsLength, slotNumber, slot_at, slotsAt, slotBytes, slotsBytes};
+ghost use Rattle.lent_list_laws.specs.Layout.{slot_length, slots_length, slot_number, slot_at, slots_at, slot_bytes, slots_bytes};
 
 use crate::layout;
 use key::Key;
@@ -9,7 +9,7 @@ use node::Node;
 
 // The node that stands in a slot.
 fn read(bytes: &[u8]) -> Node
-    requires { length bytes.now ≡ slotLength }
+    requires { length bytes.now ≡ slot_length }
     ensures { result ≡ slot_at bytes.now }
 {
     Node {
@@ -32,8 +32,8 @@ fn address(bytes: &[u8]) -> [u8; 16]
 
 // Fills a slot.
 fn write(node: Node, out: &mut [u8])
-    requires { length out.old ≡ slotLength }
-    ensures { out.new ≡ slotBytes node }
+    requires { length out.old ≡ slot_length }
+    ensures { out.new ≡ slot_bytes node }
 {
     let address = node.address;
     let port = node.port as u64;
@@ -46,8 +46,8 @@ fn write(node: Node, out: &mut [u8])
 
 // The node in the slot at an index.
 pub(crate) fn read_at(slots: &[u8], index: usize) -> Node
-    requires { (length slots.now ≡ slotsLength) × (index < slotNumber) }
-    ensures { result ≡ slot_at (take slotLength (drop (index * slotLength) slots.now)) }
+    requires { (length slots.now ≡ slots_length) × (index < slot_number) }
+    ensures { result ≡ slot_at (take slot_length (drop (index * slot_length) slots.now)) }
 {
     let at = index * layout::SLOT_END;
     let end = at + layout::SLOT_END;
@@ -56,8 +56,8 @@ pub(crate) fn read_at(slots: &[u8], index: usize) -> Node
 
 // Fills the slot at an index.
 pub(crate) fn write_at(node: Node, slots: &mut [u8], index: usize)
-    requires { (length slots.old ≡ slotsLength) × (index < slotNumber) }
-    ensures { slots.new ≡ take (index * slotLength) slots.old ++ (slotBytes node ++ drop (index * slotLength + slotLength) slots.old) }
+    requires { (length slots.old ≡ slots_length) × (index < slot_number) }
+    ensures { slots.new ≡ take (index * slot_length) slots.old ++ (slot_bytes node ++ drop (index * slot_length + slot_length) slots.old) }
 {
     let at = index * layout::SLOT_END;
     let end = at + layout::SLOT_END;
@@ -66,8 +66,8 @@ pub(crate) fn write_at(node: Node, slots: &mut [u8], index: usize)
 
 // The nodes that stand in all slots, the slots behind the count included.
 pub(crate) fn read_all(bytes: &[u8]) -> [Node; 16]
-    requires { length bytes.now ≡ slotsLength }
-    ensures { result ≡ slotsAt slotNumber bytes.now }
+    requires { length bytes.now ≡ slots_length }
+    ensures { result ≡ slots_at slot_number bytes.now }
 {
     let blank = Node::blank();
     let mut nodes = [blank; 16];
@@ -85,8 +85,8 @@ pub(crate) fn read_all(bytes: &[u8]) -> [Node; 16]
 
 // Fills all slots.
 pub(crate) fn write_all(nodes: [Node; 16], out: &mut [u8])
-    requires { length out.old ≡ slotsLength }
-    ensures { out.new ≡ slotsBytes nodes }
+    requires { length out.old ≡ slots_length }
+    ensures { out.new ≡ slots_bytes nodes }
 {
     let mut at = 0;
     let mut i = 0;

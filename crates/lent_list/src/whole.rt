@@ -1,8 +1,8 @@
 // The test of a list where it stands in lent bytes: its keys are compared in place, and no list is read out.
 ghost use Rattle.std.specs.Prelude.{◌≡◌, ◌≤◌, length, take};
-ghost use Rattle.nearest.specs.Lists.{allKnown, rising};
+ghost use Rattle.nearest.specs.Lists.{all_known, rising};
 ghost use Rattle.nearest.specs.Calls.{checked};
-ghost use Rattle.lent_list_laws.specs.Layout.{listLength, slotsLength, slotNumber, slotsAt, listAt};
+ghost use Rattle.lent_list_laws.specs.Layout.{list_length, slots_length, slot_number, slots_at, list_at};
 
 use crate::{layout, search};
 use key::in_place;
@@ -11,8 +11,8 @@ use refusal::Refusal;
 
 // Whether the list keeps its own rules: 12, 14.
 pub(crate) fn check(memory: &[u8]) -> Answer
-    requires { listLength ≤ length memory.now }
-    ensures { result ≡ checked (listAt memory.now) }
+    requires { list_length ≤ length memory.now }
+    ensures { result ≡ checked (list_at memory.now) }
 {
     let size = memory[layout::SIZE] as usize;
     if !NearestList::size_right(size) {
@@ -34,8 +34,8 @@ pub(crate) fn check(memory: &[u8]) -> Answer
 
 // Whether the family of each node held is known.
 fn all_known(slots: &[u8], count: usize) -> bool
-    requires { (length slots.now ≡ slotsLength) × (count ≤ slotNumber) }
-    ensures { result ≡ allKnown (take count (slotsAt slotNumber slots.now)) }
+    requires { (length slots.now ≡ slots_length) × (count ≤ slot_number) }
+    ensures { result ≡ all_known (take count (slots_at slot_number slots.now)) }
 {
     let mut i = 0;
     while i < count {
@@ -50,8 +50,8 @@ fn all_known(slots: &[u8], count: usize) -> bool
 
 // Whether the nodes held are strictly rising in distance: neighbours decide. The loop goes on from a first node, so there must be one.
 fn rising(target: &[u8], slots: &[u8], count: usize) -> bool
-    requires { (length target.now ≡ 32) × (length slots.now ≡ slotsLength) × (count ≤ slotNumber) }
-    ensures { result ≡ rising target.now (take count (slotsAt slotNumber slots.now)) }
+    requires { (length target.now ≡ 32) × (length slots.now ≡ slots_length) × (count ≤ slot_number) }
+    ensures { result ≡ rising target.now (take count (slots_at slot_number slots.now)) }
 {
     if count == 0 {
         return true;

@@ -12,12 +12,12 @@ use Rattle.wire.specs.Numbers.{number_of, bytes_of}
 use Rattle.refusal.specs.declared.Refusal.TheVariants.{ListSize, ListNotWhole}
 use Rattle.key.specs.declared.Key.{Key}
 use Rattle.node.specs.declared.Node.{Node}
-use Rattle.node.specs.Values.{blankNode}
+use Rattle.node.specs.Values.{blank_node}
 use Rattle.nearest.specs.declared.NearestList.{NearestList}
 use Rattle.nearest.specs.declared.Answer.TheVariants as answer
-use Rattle.nearest.specs.Lists.{sizeRight}
-use Rattle.lent_list_laws.specs.Layout.{slot_at, slotsAt, listAt, slotBytes, slotsBytes, listBytes}
-use Rattle.lent_list_laws.specs.Calls.{shortRefusal, begunAnswer}
+use Rattle.nearest.specs.Lists.{size_right}
+use Rattle.lent_list_laws.specs.Layout.{slot_at, slots_at, list_at, slot_bytes, slots_bytes, list_bytes}
+use Rattle.lent_list_laws.specs.Calls.{short_refusal, begun_answer}
 
 abbrev key : ℕ → Key
 key n = record { 0 = replicate 32 n }
@@ -29,52 +29,52 @@ abbrev slot : List ℕ
 slot = 2 ∷ 127 ∷ 0 ∷ 0 ∷ 1 ∷ (replicate 12 0 ++ (1 ∷ 2 ∷ replicate 32 5))
 
 -- the slot of the node, the higher byte of the port first, and the node in the slot
-pub slot-written : slotBytes one ≡ slot
-unfolding slotBytes bytes_of
-slot-written = refl
+pub slot_written : slot_bytes one ≡ slot
+unfolding slot_bytes bytes_of
+slot_written = refl
 
 pub slot_read : slot_at slot ≡ one
 unfolding slot_at number_of
 slot_read = refl
 
 abbrev small : NearestList
-small = record { target = key 9; size = 8; count = 1; nodes = one ∷ replicate 15 blankNode }
+small = record { target = key 9; size = 8; count = 1; nodes = one ∷ replicate 15 blank_node }
 
 abbrev memory : List ℕ
 memory = 8 ∷ 1 ∷ (replicate 32 9 ++ (slot ++ replicate 765 0))
 
 -- it has 16 slots
-pub sixteen : length (listAt memory).nodes ≡ 16
-unfolding listAt slotsAt
+pub sixteen : length (list_at memory).nodes ≡ 16
+unfolding list_at slots_at
 sixteen = refl
 
 -- the 850 bytes of the list, and the list that they are
-pub small-written : listBytes small ≡ memory
-unfolding listBytes slotsBytes slotBytes bytes_of blankNode
-small-written = refl
+pub small_written : list_bytes small ≡ memory
+unfolding list_bytes slots_bytes slot_bytes bytes_of blank_node
+small_written = refl
 
-pub small-read : listAt memory ≡ small
-unfolding listAt slotsAt slot_at number_of blankNode
-small-read = refl
+pub small_read : list_at memory ≡ small
+unfolding list_at slots_at slot_at number_of blank_node
+small_read = refl
 
 -- too short: 12 where the first byte is no size, and else 14
-pub short_none : shortRefusal [] ≡ ListNotWhole
-unfolding shortRefusal
+pub short_none : short_refusal [] ≡ ListNotWhole
+unfolding short_refusal
 short_none = refl
 
-pub short-eight : shortRefusal (8 ∷ []) ≡ ListNotWhole
-unfolding shortRefusal sizeRight
-short-eight = refl
+pub short_eight : short_refusal (8 ∷ []) ≡ ListNotWhole
+unfolding short_refusal size_right
+short_eight = refl
 
-pub short-seventeen : shortRefusal (17 ∷ []) ≡ ListSize
-unfolding shortRefusal sizeRight
-short-seventeen = refl
+pub short_seventeen : short_refusal (17 ∷ []) ≡ ListSize
+unfolding short_refusal size_right
+short_seventeen = refl
 
 -- a list begun in it: 12 for a bad size comes first
-pub begun-bad : begunAnswer (answer.Refused ListSize) [] ≡ answer.Refused ListSize
-unfolding begunAnswer
-begun-bad = refl
+pub begun_bad : begun_answer (answer.Refused ListSize) [] ≡ answer.Refused ListSize
+unfolding begun_answer
+begun_bad = refl
 
-pub begun-short : begunAnswer answer.Done [] ≡ answer.Refused ListNotWhole
-unfolding begunAnswer
-begun-short = refl
+pub begun_short : begun_answer answer.Done [] ≡ answer.Refused ListNotWhole
+unfolding begun_answer
+begun_short = refl

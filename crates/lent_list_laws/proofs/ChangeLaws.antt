@@ -9,27 +9,27 @@ use native.Mathlib.Omega.{arith}
 use lib.ListN.{length, get_or, take, drop, set}
 use lib.Seq.{drop-drop}
 use Rattle.wire.specs.Numbers.{Bytes}
-use Rattle.wire.proofs.Numbers.{bytes-getD}
-use Rattle.wire.proofs.Copy.{length-lent}
+use Rattle.wire.proofs.Numbers.{bytes_get_d}
+use Rattle.wire.proofs.Copy.{length_lent}
 use Rattle.key.specs.Keys.{IsKey, key_of}
 use Rattle.node.specs.declared.Node.{Node}
-use Rattle.node.specs.Families.{knownFamily}
-use Rattle.node.proofs.WriteLaws.{withPart}
+use Rattle.node.specs.Families.{known_family}
+use Rattle.node.proofs.WriteLaws.{with_part}
 use Rattle.nearest.specs.declared.NearestList.{NearestList}
 use Rattle.nearest.specs.declared.Answer.TheVariants.{Done}
-use Rattle.nearest.specs.Lists.{nodeKey}
+use Rattle.nearest.specs.Lists.{node_key}
 use Rattle.nearest.specs.Slots.{position}
 use Rattle.nearest.specs.Calls.{checked}
 use Rattle.nearest.proofs.Front.{no_node}
 use Rattle.nearest.proofs.Members.{in_take}
 use Rattle.nearest.proofs.Judge.{whole}
 use Rattle.nearest.proofs.OfferLaws.{AtPlace}
-use Rattle.lent_list_laws.specs.Layout.{slotsAt, listAt, slotsBytes, stored}
-use Rattle.lent_list_laws.proofs.SlotLaws.{slots-front}
-use Rattle.lent_list_laws.proofs.PartLaws.{key-lent}
+use Rattle.lent_list_laws.specs.Layout.{slots_at, list_at, slots_bytes, stored}
+use Rattle.lent_list_laws.proofs.SlotLaws.{slots_front}
+use Rattle.lent_list_laws.proofs.PartLaws.{key_lent}
 use Rattle.lent_list_laws.proofs.StoreLaws.{list_written}
-use Rattle.lent_list_laws.proofs.RoundTrips.{numbers-before}
-use Rattle.lent_list_laws.proofs.AfterCalls.{each_in, read-storable}
+use Rattle.lent_list_laws.proofs.RoundTrips.{numbers_before}
+use Rattle.lent_list_laws.proofs.AfterCalls.{each_in, read_storable}
 
 -- the bytes of all slots
 abbrev pub slots_of : List ℕ → List ℕ
@@ -41,60 +41,60 @@ changed l c ns = record { target = l.target; size = l.size; count = c; nodes = n
 
 -- ---- what stands there
 
-pub nodes-there : (m : List ℕ) → slotsAt 16 (slots_of m) ≡ (listAt m).nodes
-unfolding listAt
-nodes-there m = slots-front 16 (drop 34 m)
+pub nodes_there : (m : List ℕ) → slots_at 16 (slots_of m) ≡ (list_at m).nodes
+unfolding list_at
+nodes_there m = slots_front 16 (drop 34 m)
 
 -- of a list that passes its test
-pub count-there : (m : List ℕ) → checked (listAt m) ≡ Done → get_or m 1 0 ≤ 16
-unfolding listAt
-count-there m e = let w = whole (listAt m) e in let x = w.within in let y = w.small in omega arith
+pub count_there : (m : List ℕ) → checked (list_at m) ≡ Done → get_or m 1 0 ≤ 16
+unfolding list_at
+count_there m e = let w = whole (list_at m) e in let x = w.within in let y = w.small in omega arith
 
-pub key-there : (m : List ℕ) → 850 ≤ length m → (i : ℕ) → i < 16 → (part : List ℕ) → part ≡ take 32 (drop (i * 51 + 19) (slots_of m))
-    → key_of part ≡ nodeKey (get_or (listAt m).nodes i no_node)
-key-there m room i h part e =
-    let long = length-lent m 34 816 room in
-    key-lent 16 i (slots_of m) no_node h (omega arith) part e ∙ ap (λ (ns : List Node). nodeKey (get_or ns i no_node)) (nodes-there m)
+pub key_there : (m : List ℕ) → 850 ≤ length m → (i : ℕ) → i < 16 → (part : List ℕ) → part ≡ take 32 (drop (i * 51 + 19) (slots_of m))
+    → key_of part ≡ node_key (get_or (list_at m).nodes i no_node)
+key_there m room i h part e =
+    let long = length_lent m 34 816 room in
+    key_lent 16 i (slots_of m) no_node h (omega arith) part e ∙ ap (λ (ns : List Node). node_key (get_or ns i no_node)) (nodes_there m)
 
 module _ (m : List ℕ) (room : 850 ≤ length m) (b : Bytes m) where
   -- what is known of an offer that is not refused, once the place of its key is found
-  pub placed : (n : Node) (p : ℕ) → checked (listAt m) ≡ Done → knownFamily n.family ≡ true → IsKey (nodeKey n)
-      → p ≡ position (take 32 (drop 2 m)) (nodeKey n) (take (get_or m 1 0) (slotsAt 16 (slots_of m))) → AtPlace (listAt m) n p
-  unfolding listAt
+  pub placed : (n : Node) (p : ℕ) → checked (list_at m) ≡ Done → known_family n.family ≡ true → IsKey (node_key n)
+      → p ≡ position (take 32 (drop 2 m)) (node_key n) (take (get_or m 1 0) (slots_at 16 (slots_of m))) → AtPlace (list_at m) n p
+  unfolding list_at
   placed n p stands family key e =
-      let s = read-storable m room b in
+      let s = read_storable m room b in
       record {
         stands = stands;
         family = family;
         slots = s.slots;
-        target-key = s.target;
-        new-key = key;
-        held-keys = λ x i. (each_in (listAt m).nodes s.nodes x (in_take (listAt m).count (listAt m).nodes x i)).1.key;
-        place = e ∙ ap (λ (ns : List Node). position (take 32 (drop 2 m)) (nodeKey n) (take (get_or m 1 0) ns)) (nodes-there m);
+        target_key = s.target;
+        new_key = key;
+        held_keys = λ x i. (each_in (list_at m).nodes s.nodes x (in_take (list_at m).count (list_at m).nodes x i)).1.key;
+        place = e ∙ ap (λ (ns : List Node). position (take 32 (drop 2 m)) (node_key n) (take (get_or m 1 0) ns)) (nodes_there m);
       }
 
   -- ---- the slots written over
 
   front : take 34 m ≡ get_or m 0 0 ∷ (get_or m 1 0 ∷ take 32 (drop 2 m))
-  front = sym (ap (take 34) (numbers-before m room b))
+  front = sym (ap (take 34) (numbers_before m room b))
 
-  module _ (ns : List Node) (new : List ℕ) (e : new ≡ slotsBytes ns) where
-    put : withPart m 34 850 new ≡ (get_or m 0 0 ∷ (get_or m 1 0 ∷ (take 32 (drop 2 m) ++ slotsBytes ns))) ++ drop 850 m
+  module _ (ns : List Node) (new : List ℕ) (e : new ≡ slots_bytes ns) where
+    put : with_part m 34 850 new ≡ (get_or m 0 0 ∷ (get_or m 1 0 ∷ (take 32 (drop 2 m) ++ slots_bytes ns))) ++ drop 850 m
     put =
         ap₂ (λ (x y : List ℕ). x ++ (y ++ drop 816 (drop 34 m))) front e
-        ∙ ap (λ (l : List ℕ). (get_or m 0 0 ∷ (get_or m 1 0 ∷ take 32 (drop 2 m))) ++ (slotsBytes ns ++ l)) (drop-drop 816 34 m)
-        ∙ sym (append_assoc (get_or m 0 0 ∷ (get_or m 1 0 ∷ take 32 (drop 2 m))) (slotsBytes ns) (drop 850 m))
+        ∙ ap (λ (l : List ℕ). (get_or m 0 0 ∷ (get_or m 1 0 ∷ take 32 (drop 2 m))) ++ (slots_bytes ns ++ l)) (drop-drop 816 34 m)
+        ∙ sym (append_assoc (get_or m 0 0 ∷ (get_or m 1 0 ∷ take 32 (drop 2 m))) (slots_bytes ns) (drop 850 m))
 
-    lowest : (c : ℕ) → c < 256 → (left : List ℕ) → left ≡ (get_or m 0 0 ∷ (c ∷ (take 32 (drop 2 m) ++ slotsBytes ns))) ++ drop 850 m
-        → left ≡ stored (changed (listAt m) c ns) m
-    unfolding listAt
+    lowest : (c : ℕ) → c < 256 → (left : List ℕ) → left ≡ (get_or m 0 0 ∷ (c ∷ (take 32 (drop 2 m) ++ slots_bytes ns))) ++ drop 850 m
+        → left ≡ stored (changed (list_at m) c ns) m
+    unfolding list_at
     lowest c h left s =
-        list_written (changed (listAt m) c ns) m left room
-        (s ∙ ap₂ (λ (x y : ℕ). (x ∷ (y ∷ (take 32 (drop 2 m) ++ slotsBytes ns))) ++ drop 850 m) (sym (mod-eq_of_lt (bytes-getD 0 m b))) (sym (mod-eq_of_lt h)))
+        list_written (changed (list_at m) c ns) m left room
+        (s ∙ ap₂ (λ (x y : ℕ). (x ∷ (y ∷ (take 32 (drop 2 m) ++ slots_bytes ns))) ++ drop 850 m) (sym (mod-eq_of_lt (bytes_get_d 0 m b))) (sym (mod-eq_of_lt h)))
 
-    pub slots-stored : withPart m 34 850 new ≡ stored (changed (listAt m) (listAt m).count ns) m
-    unfolding listAt
-    slots-stored = lowest (get_or m 1 0) (bytes-getD 1 m b) _ put
+    pub slots_stored : with_part m 34 850 new ≡ stored (changed (list_at m) (list_at m).count ns) m
+    unfolding list_at
+    slots_stored = lowest (get_or m 1 0) (bytes_get_d 1 m b) _ put
 
-    pub count-stored : (c : ℕ) → c < 256 → set (withPart m 34 850 new) 1 c ≡ stored (changed (listAt m) c ns) m
-    count-stored c h = lowest c h _ (ap (λ (l : List ℕ). set l 1 c) put)
+    pub count_stored : (c : ℕ) → c < 256 → set (with_part m 34 850 new) 1 c ≡ stored (changed (list_at m) c ns) m
+    count_stored c h = lowest c h _ (ap (λ (l : List ℕ). set l 1 c) put)

@@ -13,29 +13,29 @@ use Rattle.nearest.specs.declared.NearestList.{NearestList}
 use Rattle.nearest.specs.declared.Answer.TheVariants as answer
 use Rattle.nearest.specs.declared.OfferAnswer.TheVariants as offer
 use Rattle.nearest.specs.Calls.{offered, removed}
-use Rattle.lent_list_laws.specs.Layout.{listLength, listAt, stored}
-use Rattle.lent_list_laws.specs.Calls.{shortRefusal, offerAnswered, Offers, removeAnswered, Removes}
-use Rattle.lent_list_laws.proofs.RoundTrips.{refused-offer-stored, refused-remove-stored}
+use Rattle.lent_list_laws.specs.Layout.{list_length, list_at, stored}
+use Rattle.lent_list_laws.specs.Calls.{short_refusal, offer_answered, Offers, remove_answered, Removes}
+use Rattle.lent_list_laws.proofs.RoundTrips.{refused_offer_stored, refused_remove_stored}
 
 -- where what a refusal by value hands back is stored without a change, in memory long enough
 module _ (m : List ℕ) where
-  by_length : {A : Type 0} (l : NearestList) (value short given : A) → cond (leb listLength (length m)) value short ≡ given → (value ≡ given → stored l m ≡ m) → stored l m ≡ m
+  by_length : {A : Type 0} (l : NearestList) (value short given : A) → cond (leb list_length (length m)) value short ≡ given → (value ≡ given → stored l m ≡ m) → stored l m ≡ m
   unfolding stored
-  by_length {A} l value short given e long = go (leb listLength (length m)) refl e
+  by_length {A} l value short given e long = go (leb list_length (length m)) refl e
     where
-      go : (t : Bool) → leb listLength (length m) ≡ t → cond t value short ≡ given → stored l m ≡ m
+      go : (t : Bool) → leb list_length (length m) ≡ t → cond t value short ≡ given → stored l m ≡ m
       go true h e = long e
       go false h e = simp h
 
   module _ (left : List ℕ) (why : Refusal) where
-    pub refused-offer-leaves : (n : Node) → Offers n m left (offer.Refused why) → left ≡ m
-    unfolding offerAnswered
-    refused-offer-leaves n o =
-        o.leaves ∙ by_length (offered (listAt m) n).list (offered (listAt m) n).answer (offer.Refused (shortRefusal m)) (offer.Refused why) (sym o.answers)
-        (λ e. refused-offer-stored m o.bytes why n e)
+    pub refused_offer_leaves : (n : Node) → Offers n m left (offer.Refused why) → left ≡ m
+    unfolding offer_answered
+    refused_offer_leaves n o =
+        o.leaves ∙ by_length (offered (list_at m) n).list (offered (list_at m) n).answer (offer.Refused (short_refusal m)) (offer.Refused why) (sym o.answers)
+        (λ e. refused_offer_stored m o.bytes why n e)
 
-    pub refused-remove-leaves : (key : Key) → Removes key m left (answer.Refused why) → left ≡ m
-    unfolding removeAnswered
-    refused-remove-leaves key r =
-        r.leaves ∙ by_length (removed (listAt m) key).list (removed (listAt m) key).answer (answer.Refused (shortRefusal m)) (answer.Refused why) (sym r.answers)
-        (λ e. refused-remove-stored m r.bytes why key e)
+    pub refused_remove_leaves : (key : Key) → Removes key m left (answer.Refused why) → left ≡ m
+    unfolding remove_answered
+    refused_remove_leaves key r =
+        r.leaves ∙ by_length (removed (list_at m) key).list (removed (list_at m) key).answer (answer.Refused (short_refusal m)) (answer.Refused why) (sym r.answers)
+        (λ e. refused_remove_stored m r.bytes why key e)

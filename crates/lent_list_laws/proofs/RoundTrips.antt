@@ -11,12 +11,12 @@ use lib.ListN.{length, get_or, take, drop, length-drop, take-append-drop}
 use lib.Seq.{take_at, drop_at, take-add, drop-drop, drop-cons}
 use borrow.Author.Tests.{leb-true}
 use Rattle.wire.specs.Numbers.{Bytes}
-use Rattle.wire.proofs.Numbers.{bytes_drop, bytes-getD}
+use Rattle.wire.proofs.Numbers.{bytes_drop, bytes_get_d}
 use Rattle.refusal.specs.declared.Refusal.{Refusal}
 use Rattle.refusal.specs.declared.Refusal.TheVariants.{UnknownFamily, KeyNotHeld}
 use Rattle.key.specs.declared.Key.{Key}
 use Rattle.node.specs.declared.Node.{Node}
-use Rattle.node.specs.Families.{knownFamily}
+use Rattle.node.specs.Families.{known_family}
 use Rattle.nearest.specs.declared.NearestList.{NearestList}
 use Rattle.nearest.specs.declared.Answer.{Answer}
 use Rattle.nearest.specs.declared.Answer.TheVariants as answer
@@ -24,104 +24,104 @@ use Rattle.nearest.specs.declared.OfferAnswer.TheVariants as offer
 use Rattle.nearest.specs.declared.Removed.{Removed}
 use Rattle.nearest.specs.Effect.{holds, without, kept}
 use Rattle.nearest.specs.Lists.{held, holding}
-use Rattle.nearest.specs.Calls.{checked, offerAnswer, notOffered, effectOn, taken, offeredAfter, offered, removedAfter, removed}
-use Rattle.lent_list_laws.specs.Layout.{slotsAt, listAt, slotsBytes, listBytes, stored, Storable}
-use Rattle.lent_list_laws.proofs.SlotLaws.{slots-of-bytes, slots-back}
+use Rattle.nearest.specs.Calls.{checked, offer_answer, not_offered, effect_on, taken, offered_after, offered, removed_after, removed}
+use Rattle.lent_list_laws.specs.Layout.{slots_at, list_at, slots_bytes, list_bytes, stored, Storable}
+use Rattle.lent_list_laws.proofs.SlotLaws.{slots_of_bytes, slots_back}
 
 -- ---- from memory to the list and back
 
 module _ (m : List ℕ) (room : 850 ≤ length m) (b : Bytes m) where
   -- what stands from the target on
-  behind-numbers : (take 32 (drop 2 m) ++ slotsBytes (slotsAt 16 (drop 34 m))) ++ drop 850 m ≡ drop 2 m
-  behind-numbers =
+  behind_numbers : (take 32 (drop 2 m) ++ slots_bytes (slots_at 16 (drop 34 m))) ++ drop 850 m ≡ drop 2 m
+  behind_numbers =
       let d = length-drop 34 m in
-      let s : take 32 (drop 2 m) ++ slotsBytes (slotsAt 16 (drop 34 m)) ≡ take 848 (drop 2 m) =
-      ap (λ (l : List ℕ). take 32 (drop 2 m) ++ l) (slots-of-bytes 16 (drop 34 m) (omega arith) (bytes_drop 34 m b))
+      let s : take 32 (drop 2 m) ++ slots_bytes (slots_at 16 (drop 34 m)) ≡ take 848 (drop 2 m) =
+      ap (λ (l : List ℕ). take 32 (drop 2 m) ++ l) (slots_of_bytes 16 (drop 34 m) (omega arith) (bytes_drop 34 m b))
       ∙ ap (λ (l : List ℕ). take 32 (drop 2 m) ++ take 816 l) (sym (drop-drop 32 2 m)) ∙ sym (take-add 32 816 (drop 2 m)) in
       ap₂ (λ (x y : List ℕ). x ++ y) s (sym (drop-drop 848 2 m)) ∙ take-append-drop 848 (drop 2 m)
 
-  pub numbers-before : get_or m 0 0 ∷ (get_or m 1 0 ∷ drop 2 m) ≡ m
-  numbers-before = ap (λ (l : List ℕ). get_or m 0 0 ∷ l) (sym (drop-cons m 1 0 (omega arith))) ∙ sym (drop-cons m 0 0 (omega arith))
+  pub numbers_before : get_or m 0 0 ∷ (get_or m 1 0 ∷ drop 2 m) ≡ m
+  numbers_before = ap (λ (l : List ℕ). get_or m 0 0 ∷ l) (sym (drop-cons m 1 0 (omega arith))) ∙ sym (drop-cons m 0 0 (omega arith))
 
-  pub write-of-read : listBytes (listAt m) ++ drop 850 m ≡ m
-  unfolding listBytes listAt
-  write-of-read =
-      ap₂ (λ (x y : ℕ). x ∷ (y ∷ ((take 32 (drop 2 m) ++ slotsBytes (slotsAt 16 (drop 34 m))) ++ drop 850 m)))
-      (mod-eq_of_lt (bytes-getD 0 m b)) (mod-eq_of_lt (bytes-getD 1 m b))
-      ∙ ap (λ (l : List ℕ). get_or m 0 0 ∷ (get_or m 1 0 ∷ l)) behind-numbers ∙ numbers-before
+  pub write_of_read : list_bytes (list_at m) ++ drop 850 m ≡ m
+  unfolding list_bytes list_at
+  write_of_read =
+      ap₂ (λ (x y : ℕ). x ∷ (y ∷ ((take 32 (drop 2 m) ++ slots_bytes (slots_at 16 (drop 34 m))) ++ drop 850 m)))
+      (mod-eq_of_lt (bytes_get_d 0 m b)) (mod-eq_of_lt (bytes_get_d 1 m b))
+      ∙ ap (λ (l : List ℕ). get_or m 0 0 ∷ (get_or m 1 0 ∷ l)) behind_numbers ∙ numbers_before
 
 -- so storing the list that stands there changes nothing, whatever the memory's length
-pub stored_same : (m : List ℕ) → Bytes m → stored (listAt m) m ≡ m
+pub stored_same : (m : List ℕ) → Bytes m → stored (list_at m) m ≡ m
 unfolding stored
 stored_same m b = by (leb 850 (length m)) refl
   where
-    by : (t : Bool) → leb 850 (length m) ≡ t → cond t (listBytes (listAt m) ++ drop 850 m) m ≡ m
-    by true e = write-of-read m (leb-true 850 (length m) e) b
+    by : (t : Bool) → leb 850 (length m) ≡ t → cond t (list_bytes (list_at m) ++ drop 850 m) m ≡ m
+    by true e = write_of_read m (leb-true 850 (length m) e) b
     by false e = refl
 
 -- ---- from the list to memory and back
 
-same-list : (t : Key) (u : List ℕ) (a b c d : ℕ) (ns ms : List Node) → t.0 ≡ u → a ≡ b → c ≡ d → ns ≡ ms
+same_list : (t : Key) (u : List ℕ) (a b c d : ℕ) (ns ms : List Node) → t.0 ≡ u → a ≡ b → c ≡ d → ns ≡ ms
     → ◌≡◌ {A = NearestList} (record { target = t; size = a; count = c; nodes = ns }) (record { target = record { 0 = u }; size = b; count = d; nodes = ms })
-same-list t u a b c d ns ms x y z w =
+same_list t u a b c d ns ms x y z w =
     ap₂ {C = NearestList} (λ (s : List ℕ) (l : List Node). record { target = record { 0 = s }; size = a; count = c; nodes = l }) x w
     ∙ ap₂ {C = NearestList} (λ (p q : ℕ). record { target = record { 0 = u }; size = p; count = q; nodes = ms }) y z
 
-pub read-of-write : (l : NearestList) (rest : List ℕ) → Storable l → listAt (listBytes l ++ rest) ≡ l
-unfolding listBytes listAt
-read-of-write l rest s =
+pub read_of_write : (l : NearestList) (rest : List ℕ) → Storable l → list_at (list_bytes l ++ rest) ≡ l
+unfolding list_bytes list_at
+read_of_write l rest s =
     let t = l.target.0 in
-    let a = append_assoc t (slotsBytes l.nodes) rest in
+    let a = append_assoc t (slots_bytes l.nodes) rest in
     let k = s.target.long in
-    same-list (record { 0 = take 32 ((t ++ slotsBytes l.nodes) ++ rest) }) t (l.size % 256) l.size (l.count % 256) l.count _ l.nodes
-    (ap (take 32) a ∙ take_at t (slotsBytes l.nodes ++ rest) 32 k)
+    same_list (record { 0 = take 32 ((t ++ slots_bytes l.nodes) ++ rest) }) t (l.size % 256) l.size (l.count % 256) l.count _ l.nodes
+    (ap (take 32) a ∙ take_at t (slots_bytes l.nodes ++ rest) 32 k)
     (mod-eq_of_lt s.size)
     (mod-eq_of_lt s.count)
-    (ap (λ (x : List ℕ). slotsAt 16 (drop 32 x)) a ∙ ap (slotsAt 16) (drop_at t (slotsBytes l.nodes ++ rest) 32 k)
-    ∙ ap (λ (n : ℕ). slotsAt n (slotsBytes l.nodes ++ rest)) (sym s.slots) ∙ slots-back l.nodes rest s.nodes)
+    (ap (λ (x : List ℕ). slots_at 16 (drop 32 x)) a ∙ ap (slots_at 16) (drop_at t (slots_bytes l.nodes ++ rest) 32 k)
+    ∙ ap (λ (n : ℕ). slots_at n (slots_bytes l.nodes ++ rest)) (sym s.slots) ∙ slots_back l.nodes rest s.nodes)
 
 -- ---- a refusal hands the list back as it stood
 
-kept-unrefused : (t : Bool) (why : Refusal) → offerAnswer t ≡ offer.Refused why → ⊥
-unfolding offerAnswer
-kept-unrefused true why e = let z : ◌≡◌ {A = ℕ} 0 1 = cc in omega arith
-kept-unrefused false why e = let z : ◌≡◌ {A = ℕ} 0 1 = cc in omega arith
+kept_unrefused : (t : Bool) (why : Refusal) → offer_answer t ≡ offer.Refused why → ⊥
+unfolding offer_answer
+kept_unrefused true why e = let z : ◌≡◌ {A = ℕ} 0 1 = cc in omega arith
+kept_unrefused false why e = let z : ◌≡◌ {A = ℕ} 0 1 = cc in omega arith
 
 module _ (l : NearestList) where
-  after-family : (n : Node) (t : Bool) (why : Refusal) → (cond t (taken l n) (notOffered l UnknownFamily)).answer ≡ offer.Refused why
-      → (cond t (taken l n) (notOffered l UnknownFamily)).list ≡ l
+  after_family : (n : Node) (t : Bool) (why : Refusal) → (cond t (taken l n) (not_offered l UnknownFamily)).answer ≡ offer.Refused why
+      → (cond t (taken l n) (not_offered l UnknownFamily)).list ≡ l
   unfolding taken
-  after-family n true why e = absurd (kept-unrefused (kept (effectOn l n)) why e)
-  after-family n false why e = refl
+  after_family n true why e = absurd (kept_unrefused (kept (effect_on l n)) why e)
+  after_family n false why e = refl
 
-  after_test : (n : Node) (a : Answer) (why : Refusal) → (offeredAfter a l n).answer ≡ offer.Refused why → (offeredAfter a l n).list ≡ l
-  unfolding offeredAfter
+  after_test : (n : Node) (a : Answer) (why : Refusal) → (offered_after a l n).answer ≡ offer.Refused why → (offered_after a l n).list ≡ l
+  unfolding offered_after
   after_test n (answer.Refused x) why e = refl
-  after_test n answer.Done why e = after-family n (knownFamily n.family) why e
+  after_test n answer.Done why e = after_family n (known_family n.family) why e
 
-  pub offer-refused-same : (n : Node) (why : Refusal) → (offered l n).answer ≡ offer.Refused why → (offered l n).list ≡ l
+  pub offer_refused_same : (n : Node) (why : Refusal) → (offered l n).answer ≡ offer.Refused why → (offered l n).list ≡ l
   unfolding offered
-  offer-refused-same n why e = after_test n (checked l) why e
+  offer_refused_same n why e = after_test n (checked l) why e
 
-  after-search : (ns : NearestList) (t : Bool) (why : Refusal)
+  after_search : (ns : NearestList) (t : Bool) (why : Refusal)
       → (cond {A = Removed} t (record { list = ns; answer = answer.Done }) (record { list = l; answer = answer.Refused KeyNotHeld })).answer ≡ answer.Refused why
       → (cond {A = Removed} t (record { list = ns; answer = answer.Done }) (record { list = l; answer = answer.Refused KeyNotHeld })).list ≡ l
-  after-search ns true why e = let z : ◌≡◌ {A = ℕ} 0 1 = cc in absurd (omega arith)
-  after-search ns false why e = refl
+  after_search ns true why e = let z : ◌≡◌ {A = ℕ} 0 1 = cc in absurd (omega arith)
+  after_search ns false why e = refl
 
-  remove-after-test : (key : Key) (a : Answer) (why : Refusal) → (removedAfter a l key).answer ≡ answer.Refused why → (removedAfter a l key).list ≡ l
-  unfolding removedAfter
-  remove-after-test key (answer.Refused x) why e = refl
-  remove-after-test key answer.Done why e = after-search (holding l (without key.0 (held l))) (holds key.0 (held l)) why e
+  remove_after_test : (key : Key) (a : Answer) (why : Refusal) → (removed_after a l key).answer ≡ answer.Refused why → (removed_after a l key).list ≡ l
+  unfolding removed_after
+  remove_after_test key (answer.Refused x) why e = refl
+  remove_after_test key answer.Done why e = after_search (holding l (without key.0 (held l))) (holds key.0 (held l)) why e
 
-  pub remove-refused-same : (key : Key) (why : Refusal) → (removed l key).answer ≡ answer.Refused why → (removed l key).list ≡ l
+  pub remove_refused_same : (key : Key) (why : Refusal) → (removed l key).answer ≡ answer.Refused why → (removed l key).list ≡ l
   unfolding removed
-  remove-refused-same key why e = remove-after-test key (checked l) why e
+  remove_refused_same key why e = remove_after_test key (checked l) why e
 
 -- so storing what a refused offer or a refused removal hands back leaves every byte of the memory
 module _ (m : List ℕ) (b : Bytes m) (why : Refusal) where
-  pub refused-offer-stored : (n : Node) → (offered (listAt m) n).answer ≡ offer.Refused why → stored (offered (listAt m) n).list m ≡ m
-  refused-offer-stored n e = ap (λ (l : NearestList). stored l m) (offer-refused-same (listAt m) n why e) ∙ stored_same m b
+  pub refused_offer_stored : (n : Node) → (offered (list_at m) n).answer ≡ offer.Refused why → stored (offered (list_at m) n).list m ≡ m
+  refused_offer_stored n e = ap (λ (l : NearestList). stored l m) (offer_refused_same (list_at m) n why e) ∙ stored_same m b
 
-  pub refused-remove-stored : (key : Key) → (removed (listAt m) key).answer ≡ answer.Refused why → stored (removed (listAt m) key).list m ≡ m
-  refused-remove-stored key e = ap (λ (l : NearestList). stored l m) (remove-refused-same (listAt m) key why e) ∙ stored_same m b
+  pub refused_remove_stored : (key : Key) → (removed (list_at m) key).answer ≡ answer.Refused why → stored (removed (list_at m) key).list m ≡ m
+  refused_remove_stored key e = ap (λ (l : NearestList). stored l m) (remove_refused_same (list_at m) key why e) ∙ stored_same m b

@@ -11,47 +11,47 @@ use Rattle.nearest.specs.declared.Answer.{Answer}
 use Rattle.nearest.specs.declared.Answer.TheVariants as answer
 use Rattle.nearest.specs.declared.OfferAnswer.{OfferAnswer}
 use Rattle.nearest.specs.declared.OfferAnswer.TheVariants as offer
-use Rattle.nearest.specs.Lists.{sizeRight}
+use Rattle.nearest.specs.Lists.{size_right}
 use Rattle.nearest.specs.Calls.{begun, offered, removed}
-use Rattle.lent_list_laws.specs.Layout.{sizePlace, listLength, listAt, stored, Fits}
+use Rattle.lent_list_laws.specs.Layout.{size_place, list_length, list_at, stored, Fits}
 
 -- ---- memory too short
 
 -- "List calls: 12, 14": 12 where the size is there and is not 1 to 16; else 14, as where no byte is there
-unfoldable pub shortRefusal : List ℕ → Refusal
-shortRefusal memory = cond (ltb sizePlace (length memory)) (cond (sizeRight (get_or memory sizePlace 0)) ListNotWhole ListSize) ListNotWhole
+unfoldable pub short_refusal : List ℕ → Refusal
+short_refusal memory = cond (ltb size_place (length memory)) (cond (size_right (get_or memory size_place 0)) ListNotWhole ListSize) ListNotWhole
 
 -- ---- begin: 12 comes first, since the size is a parameter and no part of the memory; then 14 for memory too short
 
-unfoldable pub begunAnswer : Answer → List ℕ → Answer
-begunAnswer (answer.Refused why) memory = answer.Refused why
-begunAnswer answer.Done memory = cond (leb listLength (length memory)) answer.Done (answer.Refused ListNotWhole)
+unfoldable pub begun_answer : Answer → List ℕ → Answer
+begun_answer (answer.Refused why) memory = answer.Refused why
+begun_answer answer.Done memory = cond (leb list_length (length memory)) answer.Done (answer.Refused ListNotWhole)
 
 -- a bad size leaves the empty list of size 8 for that target in memory that is long enough
 pub record Begins (target : Key) (size : ℕ) (memory left : List ℕ) (answer : Answer) : Type 0 where
   -- as the type of the parameter has it
   pub key : IsKey target.0
-  pub answers : answer ≡ begunAnswer (begun target size).answer memory
+  pub answers : answer ≡ begun_answer (begun target size).answer memory
   pub leaves : left ≡ stored (begun target size).list memory
 
 -- ---- offer and remove: of memory too short no more than its first byte is judged. A refusal hands back the list that stands there, and then what is left is
--- the memory as it was, by `refused-offer-leaves` and `refused-remove-leaves` of proofs/RefusedLeaves.
+-- the memory as it was, by `refused_offer_leaves` and `refused_remove_leaves` of proofs/RefusedLeaves.
 
-unfoldable pub offerAnswered : List ℕ → Node → OfferAnswer
-offerAnswered memory n = cond (leb listLength (length memory)) (offered (listAt memory) n).answer (offer.Refused (shortRefusal memory))
+unfoldable pub offer_answered : List ℕ → Node → OfferAnswer
+offer_answered memory n = cond (leb list_length (length memory)) (offered (list_at memory) n).answer (offer.Refused (short_refusal memory))
 
 pub record Offers (n : Node) (memory left : List ℕ) (answer : OfferAnswer) : Type 0 where
   -- as the types of the parameters have it
   pub bytes : Bytes memory
   pub node : Fits n
-  pub answers : answer ≡ offerAnswered memory n
-  pub leaves : left ≡ stored (offered (listAt memory) n).list memory
+  pub answers : answer ≡ offer_answered memory n
+  pub leaves : left ≡ stored (offered (list_at memory) n).list memory
 
-unfoldable pub removeAnswered : List ℕ → Key → Answer
-removeAnswered memory key = cond (leb listLength (length memory)) (removed (listAt memory) key).answer (answer.Refused (shortRefusal memory))
+unfoldable pub remove_answered : List ℕ → Key → Answer
+remove_answered memory key = cond (leb list_length (length memory)) (removed (list_at memory) key).answer (answer.Refused (short_refusal memory))
 
 pub record Removes (key : Key) (memory left : List ℕ) (answer : Answer) : Type 0 where
   -- as the type of the parameter has it
   pub bytes : Bytes memory
-  pub answers : answer ≡ removeAnswered memory key
-  pub leaves : left ≡ stored (removed (listAt memory) key).list memory
+  pub answers : answer ≡ remove_answered memory key
+  pub leaves : left ≡ stored (removed (list_at memory) key).list memory

@@ -13,13 +13,13 @@ use Rattle.lists.specs.Find.{leading, first_of}
 module _ {A : Type 0} (t : A → Bool) where
   -- ---- how many pass, from the front
 
-  pub leading-none : leading t [] ≡ 0
+  pub leading_none : leading t [] ≡ 0
   unfolding leading
-  leading-none = refl
+  leading_none = refl
 
-  pub leading-one : (m : A) (ms : List A) (b : Bool) → t m ≡ b → leading t (m ∷ ms) ≡ cond b (suc (leading t ms)) 0
+  pub leading_one : (m : A) (ms : List A) (b : Bool) → t m ≡ b → leading t (m ∷ ms) ≡ cond b (suc (leading t ms)) 0
   unfolding leading
-  leading-one m ms b e = ap (λ (x : Bool). cond x (suc (leading t ms)) 0) e
+  leading_one m ms b e = ap (λ (x : Bool). cond x (suc (leading t ms)) 0) e
 
   pub leading_le : (ms : List A) → leading t ms ≤ length ms
   unfolding leading
@@ -31,37 +31,37 @@ module _ {A : Type 0} (t : A → Bool) where
       go false h = omega arith
 
   -- where one does not pass, no more than those before it do
-  pub leading-stops : (ms : List A) (i : ℕ) (d : A) → i < length ms → t (get_or ms i d) ≡ false → leading t ms ≤ i
-  leading-stops [] i d h e = absurd (not-suc-le-zero h)
-  leading-stops (m ∷ ms) zero d h e = let q = leading-one m ms false e in omega arith
-  leading-stops (m ∷ ms) (suc i) d h e = go (t m) refl (leading-stops ms i d (le_of_suc-le-suc h) e)
+  pub leading_stops : (ms : List A) (i : ℕ) (d : A) → i < length ms → t (get_or ms i d) ≡ false → leading t ms ≤ i
+  leading_stops [] i d h e = absurd (not-suc-le-zero h)
+  leading_stops (m ∷ ms) zero d h e = let q = leading_one m ms false e in omega arith
+  leading_stops (m ∷ ms) (suc i) d h e = go (t m) refl (leading_stops ms i d (le_of_suc-le-suc h) e)
     where
       go : (b : Bool) → t m ≡ b → leading t ms ≤ i → leading t (m ∷ ms) ≤ suc i
-      go true q r = let s = leading-one m ms true q in omega arith
-      go false q r = let s = leading-one m ms false q in omega arith
+      go true q r = let s = leading_one m ms true q in omega arith
+      go false q r = let s = leading_one m ms false q in omega arith
 
   -- what stands behind them has no say
-  pub leading-take : (ms : List A) (j : ℕ) → leading t ms ≤ j → leading t (take j ms) ≡ leading t ms
-  leading-take [] zero h = refl
-  leading-take [] (suc j) h = refl
-  leading-take (m ∷ ms) j h = go (t m) refl (leading-take ms) j h
+  pub leading_take : (ms : List A) (j : ℕ) → leading t ms ≤ j → leading t (take j ms) ≡ leading t ms
+  leading_take [] zero h = refl
+  leading_take [] (suc j) h = refl
+  leading_take (m ∷ ms) j h = go (t m) refl (leading_take ms) j h
     where
       go : (b : Bool) → t m ≡ b → ((i : ℕ) → leading t ms ≤ i → leading t (take i ms) ≡ leading t ms) →
           (j : ℕ) → leading t (m ∷ ms) ≤ j → leading t (take j (m ∷ ms)) ≡ leading t (m ∷ ms)
-      go true e ih zero h = absurd (let q = leading-one m ms true e in omega arith)
+      go true e ih zero h = absurd (let q = leading_one m ms true e in omega arith)
       go true e ih (suc j) h =
-          let q = leading-one m ms true e in
-          let r = leading-one m (take j ms) true e in
+          let q = leading_one m ms true e in
+          let r = leading_one m (take j ms) true e in
           let s = ih j (omega arith) in
           omega arith
-      go false e ih zero h = let q = leading-one m ms false e in let r = leading-none in omega arith
-      go false e ih (suc j) h = let q = leading-one m ms false e in let r = leading-one m (take j ms) false e in omega arith
+      go false e ih zero h = let q = leading_one m ms false e in let r = leading_none in omega arith
+      go false e ih (suc j) h = let q = leading_one m ms false e in let r = leading_one m (take j ms) false e in omega arith
 
   -- ---- where the first that passes stands
 
-  pub first-none : first_of t [] ≡ 0
+  pub first_none : first_of t [] ≡ 0
   unfolding first_of
-  first-none = refl
+  first_none = refl
 
   pub first_one : (m : A) (ms : List A) (b : Bool) → t m ≡ b → first_of t (m ∷ ms) ≡ cond b 0 (suc (first_of t ms))
   unfolding first_of
@@ -70,15 +70,15 @@ module _ {A : Type 0} (t : A → Bool) where
   -- ---- a loop that looks for them, one turn at a time
 
   module _ (ms : List A) (d : A) (i : ℕ) (h : i < length ms) where
-    pub leading-turn : (b : Bool) → t (get_or ms i d) ≡ b → leading t (drop i ms) ≡ cond b (suc (leading t (drop (i + 1) ms))) 0
-    leading-turn b e = rw (add-one, drop-cons ms i d h) (leading-one (get_or ms i d) (drop (suc i) ms) b e)
+    pub leading_turn : (b : Bool) → t (get_or ms i d) ≡ b → leading t (drop i ms) ≡ cond b (suc (leading t (drop (i + 1) ms))) 0
+    leading_turn b e = rw (add-one, drop-cons ms i d h) (leading_one (get_or ms i d) (drop (suc i) ms) b e)
 
-    pub first-turn : (b : Bool) → t (get_or ms i d) ≡ b → first_of t (drop i ms) ≡ cond b 0 (suc (first_of t (drop (i + 1) ms)))
-    first-turn b e = rw (add-one, drop-cons ms i d h) (first_one (get_or ms i d) (drop (suc i) ms) b e)
+    pub first_turn : (b : Bool) → t (get_or ms i d) ≡ b → first_of t (drop i ms) ≡ cond b 0 (suc (first_of t (drop (i + 1) ms)))
+    first_turn b e = rw (add-one, drop-cons ms i d h) (first_one (get_or ms i d) (drop (suc i) ms) b e)
 
   module _ (ms : List A) (i : ℕ) (h : length ms ≤ i) where
     pub leading_end : leading t (drop i ms) ≡ 0
-    leading_end = rw (drop_of_length-le ms h) leading-none
+    leading_end = rw (drop_of_length-le ms h) leading_none
 
-    pub first-end : first_of t (drop i ms) ≡ 0
-    first-end = rw (drop_of_length-le ms h) first-none
+    pub first_end : first_of t (drop i ms) ≡ 0
+    first_end = rw (drop_of_length-le ms h) first_none

@@ -8,16 +8,16 @@ use borrow.Author.Tests.{le-leb, lt-leb, leb-true}
 use Rattle.refusal.specs.declared.Refusal.TheVariants.{ListSize, ListNotWhole}
 use Rattle.nearest.specs.declared.NearestList.{NearestList}
 use Rattle.nearest.specs.declared.Answer.TheVariants.{Done, Refused}
-use Rattle.nearest.specs.Lists.{allKnown, rising, held, sizeRight, keepsRules}
+use Rattle.nearest.specs.Lists.{all_known, rising, held, size_right, keeps_rules}
 use Rattle.nearest.specs.Calls.{checked}
 use Rattle.nearest.proofs.Order.{both_true}
 
 -- what a list is that is not refused
 pub record Whole (l : NearestList) : Type 0 where
-  pub some-room : 1 ≤ l.size
+  pub some_room : 1 ≤ l.size
   pub small : l.size ≤ 16
   pub within : l.count ≤ l.size
-  pub knows : allKnown (held l) ≡ true
+  pub knows : all_known (held l) ≡ true
   pub rises : rising l.target.0 (held l) ≡ true
 
 passed : (a b : Bool) → cond a (cond b Done (Refused ListNotWhole)) (Refused ListSize) ≡ Done → (a ≡ true) × (b ≡ true)
@@ -25,49 +25,49 @@ passed true true e = (refl, refl)
 passed true false e = let z : ◌≡◌ {A = ℕ} 0 1 = cc in absurd (omega arith)
 passed false b e = let z : ◌≡◌ {A = ℕ} 0 1 = cc in absurd (omega arith)
 
-pub size-bounds : (k : ℕ) → sizeRight k ≡ true → (1 ≤ k) × (k ≤ 16)
-unfolding sizeRight
-size-bounds k h = let w = both_true (leb 1 k) (leb k 16) h in (leb-true 1 k w.0, leb-true k 16 w.1)
+pub size_bounds : (k : ℕ) → size_right k ≡ true → (1 ≤ k) × (k ≤ 16)
+unfolding size_right
+size_bounds k h = let w = both_true (leb 1 k) (leb k 16) h in (leb-true 1 k w.0, leb-true k 16 w.1)
 
-pub bounds-size : (k : ℕ) → 1 ≤ k → k ≤ 16 → sizeRight k ≡ true
-unfolding sizeRight
-bounds-size k h g = simp (le-leb 1 k h, le-leb k 16 g)
+pub bounds_size : (k : ℕ) → 1 ≤ k → k ≤ 16 → size_right k ≡ true
+unfolding size_right
+bounds_size k h g = simp (le-leb 1 k h, le-leb k 16 g)
 
 module _ (l : NearestList) where
-  pub bad-size : sizeRight l.size ≡ false → Refused ListSize ≡ checked l
+  pub bad_size : size_right l.size ≡ false → Refused ListSize ≡ checked l
   unfolding checked
-  bad-size h = simp h
+  bad_size h = simp h
 
-  module _ (s : sizeRight l.size ≡ true) where
-    judged : (b : Bool) → keepsRules l ≡ b → cond b Done (Refused ListNotWhole) ≡ checked l
+  module _ (s : size_right l.size ≡ true) where
+    judged : (b : Bool) → keeps_rules l ≡ b → cond b Done (Refused ListNotWhole) ≡ checked l
     unfolding checked
     judged b e = simp (s, e)
 
     pub too_long : l.size < l.count → Refused ListNotWhole ≡ checked l
-    unfolding keepsRules
+    unfolding keeps_rules
     too_long c = judged false (simp (lt-leb l.count l.size c))
 
     module _ (c : l.count ≤ l.size) where
-      pub unknown-held : allKnown (held l) ≡ false → Refused ListNotWhole ≡ checked l
-      unfolding keepsRules
-      unknown-held e = judged false (simp (le-leb l.count l.size c, e))
+      pub unknown_held : all_known (held l) ≡ false → Refused ListNotWhole ≡ checked l
+      unfolding keeps_rules
+      unknown_held e = judged false (simp (le-leb l.count l.size c, e))
 
-      pub not-rising : allKnown (held l) ≡ true → rising l.target.0 (held l) ≡ false → Refused ListNotWhole ≡ checked l
-      unfolding keepsRules
-      not-rising e f = judged false (simp (le-leb l.count l.size c, e, f))
+      pub not_rising : all_known (held l) ≡ true → rising l.target.0 (held l) ≡ false → Refused ListNotWhole ≡ checked l
+      unfolding keeps_rules
+      not_rising e f = judged false (simp (le-leb l.count l.size c, e, f))
 
-      pub passes : allKnown (held l) ≡ true → rising l.target.0 (held l) ≡ true → Done ≡ checked l
-      unfolding keepsRules
+      pub passes : all_known (held l) ≡ true → rising l.target.0 (held l) ≡ true → Done ≡ checked l
+      unfolding keeps_rules
       passes e f = judged true (simp (le-leb l.count l.size c, e, f))
 
   pub whole : checked l ≡ Done → Whole l
-  unfolding checked keepsRules
+  unfolding checked keeps_rules
   whole e =
-      let p = passed (sizeRight l.size) (leb l.count l.size && (allKnown (held l) && rising l.target.0 (held l))) e in
-      let q = size-bounds l.size p.0 in
-      let r = both_true (leb l.count l.size) (allKnown (held l) && rising l.target.0 (held l)) p.1 in
-      let s = both_true (allKnown (held l)) (rising l.target.0 (held l)) r.1 in
-      record { some-room = q.0; small = q.1; within = leb-true l.count l.size r.0; knows = s.0; rises = s.1 }
+      let p = passed (size_right l.size) (leb l.count l.size && (all_known (held l) && rising l.target.0 (held l))) e in
+      let q = size_bounds l.size p.0 in
+      let r = both_true (leb l.count l.size) (all_known (held l) && rising l.target.0 (held l)) p.1 in
+      let s = both_true (all_known (held l)) (rising l.target.0 (held l)) r.1 in
+      record { some_room = q.0; small = q.1; within = leb-true l.count l.size r.0; knows = s.0; rises = s.1 }
 
-  pub whole-passes : Whole l → checked l ≡ Done
-  whole-passes w = sym (passes (bounds-size l.size w.some-room w.small) w.within w.knows w.rises)
+  pub whole_passes : Whole l → checked l ≡ Done
+  whole_passes w = sym (passes (bounds_size l.size w.some_room w.small) w.within w.knows w.rises)

@@ -18,40 +18,40 @@ use native.Mathlib.Omega.{arith}
 use Rattle.key.specs.declared.Key.{Key}
 use Rattle.key.specs.Keys.{IsKey}
 use Rattle.node.specs.declared.Node.{Node}
-use Rattle.node.specs.Families.{knownFamily}
+use Rattle.node.specs.Families.{known_family}
 use Rattle.nearest.specs.declared.NearestList.{NearestList}
 use Rattle.nearest.specs.declared.Begun.{Begun}
 use Rattle.nearest.specs.declared.Offered.{Offered}
-use Rattle.nearest.specs.Lists.{nodeKey, held, allKnown}
-use Rattle.nearest.specs.Effect.{effect, afterEffect, kept}
-use Rattle.nearest.specs.Calls.{begun, offered, offerAnswer}
-use Rattle.nearest.specs.Sequence.{offers, refusedOffer, accepted, Nearest, Keyed, knownOnes, list_of}
-use Rattle.nearest.proofs.Steps.{known-none, rising_none}
-use Rattle.nearest.proofs.LastLaws.{in-more}
-use Rattle.nearest.proofs.Known.{after-known}
-use Rattle.nearest.proofs.OneOffer.{offer-keeps-nearest}
-use Rattle.nearest.proofs.ListOf.{begun-is, held-listOf, offer-known, offer-stranger}
+use Rattle.nearest.specs.Lists.{node_key, held, all_known}
+use Rattle.nearest.specs.Effect.{effect, after_effect, kept}
+use Rattle.nearest.specs.Calls.{begun, offered, offer_answer}
+use Rattle.nearest.specs.Sequence.{offers, refused_offer, accepted, Nearest, Keyed, known_ones, list_of}
+use Rattle.nearest.proofs.Steps.{known_none, rising_none}
+use Rattle.nearest.proofs.LastLaws.{in_more}
+use Rattle.nearest.proofs.Known.{after_known}
+use Rattle.nearest.proofs.OneOffer.{offer_keeps_nearest}
+use Rattle.nearest.proofs.ListOf.{begun_is, held_list_of, offer_known, offer_stranger}
 
 -- ---- the fold, one node more
 
-answer-stands : (b : Bool) → refusedOffer (offerAnswer b) ≡ false
-unfolding refusedOffer offerAnswer
-answer-stands true = refl
-answer-stands false = refl
+answer_stands : (b : Bool) → refused_offer (offer_answer b) ≡ false
+unfolding refused_offer offer_answer
+answer_stands true = refl
+answer_stands false = refl
 
 module _ (l : NearestList) (n : Node) (ns : List Node) where
-  pub offers-more : (m : NearestList) → (offered l n).list ≡ m → offers l (n ∷ ns) ≡ offers m ns
+  pub offers_more : (m : NearestList) → (offered l n).list ≡ m → offers l (n ∷ ns) ≡ offers m ns
   unfolding offers
-  offers-more m e = ap (λ (x : NearestList). offers x ns) e
+  offers_more m e = ap (λ (x : NearestList). offers x ns) e
 
-  accepted-more : (m : NearestList) (b : Bool) → (offered l n).list ≡ m → refusedOffer (offered l n).answer ≡ b
+  accepted_more : (m : NearestList) (b : Bool) → (offered l n).list ≡ m → refused_offer (offered l n).answer ≡ b
       → accepted l (n ∷ ns) ≡ cond b (accepted m ns) (n ∷ accepted m ns)
   unfolding accepted
-  accepted-more m b e f = ap₂ (λ (x : Bool) (y : NearestList). cond x (accepted y ns) (n ∷ accepted y ns)) f e
+  accepted_more m b e f = ap₂ (λ (x : Bool) (y : NearestList). cond x (accepted y ns) (n ∷ accepted y ns)) f e
 
-pub ones-one : (n : Node) (ns : List Node) (b : Bool) → knownFamily n.family ≡ b → knownOnes (n ∷ ns) ≡ cond b (n ∷ knownOnes ns) (knownOnes ns)
-unfolding knownOnes
-ones-one n ns b e = ap (λ (x : Bool). cond x (n ∷ knownOnes ns) (knownOnes ns)) e
+pub ones_one : (n : Node) (ns : List Node) (b : Bool) → known_family n.family ≡ b → known_ones (n ∷ ns) ≡ cond b (n ∷ known_ones ns) (known_ones ns)
+unfolding known_ones
+ones_one n ns b e = ap (λ (x : Bool). cond x (n ∷ known_ones ns) (known_ones ns)) e
 
 -- ---- the induction over the offers
 
@@ -60,47 +60,47 @@ module _ (target : Key) (size : ℕ) (lo : 1 ≤ size) (hi : size ≤ 16) (ht : 
   record Ends (past h ns : List Node) : Type 0 where
     pub nodes : List Node
     pub list : offers (list_of target size h) ns ≡ list_of target size nodes
-    pub unrefused : accepted (list_of target size h) ns ≡ knownOnes ns
-    pub nearest : Nearest target.0 size (past ++ knownOnes ns) nodes
+    pub unrefused : accepted (list_of target size h) ns ≡ known_ones ns
+    pub nearest : Nearest target.0 size (past ++ known_ones ns) nodes
 
-  keyed-more : (past : List Node) (n : Node) → Keyed past → IsKey (nodeKey n) → Keyed (past ++ (n ∷ []))
-  keyed-more past n hp hn x i = ⊎_elim (hp x) (λ (p : x ≡ n). subst (λ (z : Node). IsKey (nodeKey z)) (sym p) hn) (in-more past n x i)
+  keyed_more : (past : List Node) (n : Node) → Keyed past → IsKey (node_key n) → Keyed (past ++ (n ∷ []))
+  keyed_more past n hp hn x i = ⊎_elim (hp x) (λ (p : x ≡ n). subst (λ (z : Node). IsKey (node_key z)) (sym p) hn) (in_more past n x i)
 
   abbrev Rest : List Node → Type 0
-  Rest ns = (past h : List Node) → Keyed past → allKnown h ≡ true → Nearest target.0 size past h → Ends past h ns
+  Rest ns = (past h : List Node) → Keyed past → all_known h ≡ true → Nearest target.0 size past h → Ends past h ns
 
-  step : (n : Node) (ns : List Node) → IsKey (nodeKey n) → Rest ns → (past h : List Node) → Keyed past → allKnown h ≡ true → Nearest target.0 size past h
-      → (b : Bool) → knownFamily n.family ≡ b → Ends past h (n ∷ ns)
-  unfolding refusedOffer
+  step : (n : Node) (ns : List Node) → IsKey (node_key n) → Rest ns → (past h : List Node) → Keyed past → all_known h ≡ true → Nearest target.0 size past h
+      → (b : Bool) → known_family n.family ≡ b → Ends past h (n ∷ ns)
+  unfolding refused_offer
   step n ns hn rest past h hp f N true e =
       let w = effect target.0 size n h in
-      let g = afterEffect w target.0 n h in
-      let o = offer-known target size lo hi h N.short f N.rises n e in
+      let g = after_effect w target.0 n h in
+      let o = offer_known target size lo hi h N.short f N.rises n e in
       let q = ap (λ (x : Offered). x.list) o in
-      let r = rest (past ++ (n ∷ [])) g (keyed-more past n hp hn) (after-known w target.0 n h e f) (offer-keeps-nearest target.0 size past h n ht hn hp N lo) in record {
+      let r = rest (past ++ (n ∷ [])) g (keyed_more past n hp hn) (after_known w target.0 n h e f) (offer_keeps_nearest target.0 size past h n ht hn hp N lo) in record {
         nodes = r.nodes;
-        list = offers-more (list_of target size h) n ns (list_of target size g) q ∙ r.list;
+        list = offers_more (list_of target size h) n ns (list_of target size g) q ∙ r.list;
         unrefused =
-            accepted-more (list_of target size h) n ns (list_of target size g) false q (ap (λ (x : Offered). refusedOffer x.answer) o ∙ answer-stands (kept w))
-            ∙ ap (λ (x : List Node). n ∷ x) r.unrefused ∙ sym (ones-one n ns true e);
+            accepted_more (list_of target size h) n ns (list_of target size g) false q (ap (λ (x : Offered). refused_offer x.answer) o ∙ answer_stands (kept w))
+            ∙ ap (λ (x : List Node). n ∷ x) r.unrefused ∙ sym (ones_one n ns true e);
         nearest =
             subst (λ (x : List Node). Nearest target.0 size x r.nodes)
-            (append_assoc past (n ∷ []) (knownOnes ns) ∙ ap (λ (x : List Node). past ++ x) (sym (ones-one n ns true e))) r.nearest;
+            (append_assoc past (n ∷ []) (known_ones ns) ∙ ap (λ (x : List Node). past ++ x) (sym (ones_one n ns true e))) r.nearest;
       }
   step n ns hn rest past h hp f N false e =
-      let o = offer-stranger target size lo hi h N.short f N.rises n e in
+      let o = offer_stranger target size lo hi h N.short f N.rises n e in
       let q = ap (λ (x : Offered). x.list) o in
       let r = rest past h hp f N in record {
         nodes = r.nodes;
-        list = offers-more (list_of target size h) n ns (list_of target size h) q ∙ r.list;
+        list = offers_more (list_of target size h) n ns (list_of target size h) q ∙ r.list;
         unrefused =
-            accepted-more (list_of target size h) n ns (list_of target size h) true q (ap (λ (x : Offered). refusedOffer x.answer) o)
-            ∙ r.unrefused ∙ sym (ones-one n ns false e);
-        nearest = subst (λ (x : List Node). Nearest target.0 size (past ++ x) r.nodes) (sym (ones-one n ns false e)) r.nearest;
+            accepted_more (list_of target size h) n ns (list_of target size h) true q (ap (λ (x : Offered). refused_offer x.answer) o)
+            ∙ r.unrefused ∙ sym (ones_one n ns false e);
+        nearest = subst (λ (x : List Node). Nearest target.0 size (past ++ x) r.nodes) (sym (ones_one n ns false e)) r.nearest;
       }
 
   ends : (ns : List Node) → Keyed ns → Rest ns
-  unfolding offers accepted knownOnes
+  unfolding offers accepted known_ones
   ends [] hs past h hp f N = record {
     nodes = h;
     list = refl;
@@ -108,7 +108,7 @@ module _ (target : Key) (size : ℕ) (lo : 1 ≤ size) (hi : size ≤ 16) (ht : 
     nearest = subst (λ (x : List Node). Nearest target.0 size x h) (sym (append-nil past)) N;
   }
   ends (n ∷ ns) hs past h hp f N =
-      step n ns (hs n (inl refl)) (ends ns (λ x i. hs x (inr i))) past h hp f N (knownFamily n.family) refl
+      step n ns (hs n (inl refl)) (ends ns (λ x i. hs x (inr i))) past h hp f N (known_family n.family) refl
 
   none : Nearest target.0 size [] []
   none = record { rises = rising_none target.0; short = omega arith; last = λ x i. absurd i; nearest = λ x l. absurd l }
@@ -117,27 +117,27 @@ module _ (target : Key) (size : ℕ) (lo : 1 ≤ size) (hi : size ≤ 16) (ht : 
     abbrev first : NearestList
     first = (begun target size).list
 
-    from-empty : Ends [] [] ns
-    from-empty = ends ns hs [] [] (λ x i. absurd i) known-none none
+    from_empty_lem : Ends [] [] ns
+    from_empty_lem = ends ns hs [] [] (λ x i. absurd i) known_none none
 
     begins : first ≡ list_of target size []
-    begins = ap (λ (x : Begun). x.list) (begun-is target size lo hi)
+    begins = ap (λ (x : Begun). x.list) (begun_is target size lo hi)
 
     -- a node is refused just where its family is unknown
-    pub accepted-known : accepted first ns ≡ knownOnes ns
-    accepted-known = ap (λ (l : NearestList). accepted l ns) begins ∙ from-empty.unrefused
+    pub accepted_known : accepted first ns ≡ known_ones ns
+    accepted_known = ap (λ (l : NearestList). accepted l ns) begins ∙ from_empty_lem.unrefused
 
-    list-is : offers first ns ≡ list_of target size from-empty.nodes
-    list-is = ap (λ (l : NearestList). offers l ns) begins ∙ from-empty.list
+    list_is : offers first ns ≡ list_of target size from_empty_lem.nodes
+    list_is = ap (λ (l : NearestList). offers l ns) begins ∙ from_empty_lem.list
 
-    held-is : held (offers first ns) ≡ from-empty.nodes
-    held-is = ap held list-is ∙ held-listOf target size from-empty.nodes
+    held_is : held (offers first ns) ≡ from_empty_lem.nodes
+    held_is = ap held list_is ∙ held_list_of target size from_empty_lem.nodes
 
     -- the theorem
-    pub offers-hold-nearest : Nearest target.0 size (accepted first ns) (held (offers first ns))
-    offers-hold-nearest = subst (λ (x : List Node). Nearest target.0 size x (held (offers first ns))) (sym accepted-known)
-        (subst (Nearest target.0 size (knownOnes ns)) (sym held-is) from-empty.nearest)
+    pub offers_hold_nearest : Nearest target.0 size (accepted first ns) (held (offers first ns))
+    offers_hold_nearest = subst (λ (x : List Node). Nearest target.0 size x (held (offers first ns))) (sym accepted_known)
+        (subst (Nearest target.0 size (known_ones ns)) (sym held_is) from_empty_lem.nearest)
 
     -- and nothing of the list is left unsaid
-    pub offers-leave-blank : offers first ns ≡ list_of target size (held (offers first ns))
-    offers-leave-blank = list-is ∙ ap (list_of target size) (sym held-is)
+    pub offers_leave_blank : offers first ns ≡ list_of target size (held (offers first ns))
+    offers_leave_blank = list_is ∙ ap (list_of target size) (sym held_is)

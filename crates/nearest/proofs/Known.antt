@@ -5,38 +5,38 @@ use mathlib.Core.Logic.{◌⊎◌, inl, inr, ⊎_elim}
 use mathlib.Core.List.{List, [], ◌∷◌}
 use Prim.Native.Nat.{ℕ}
 use Rattle.node.specs.declared.Node.{Node}
-use Rattle.node.specs.Families.{knownFamily}
-use Rattle.nearest.specs.Lists.{allKnown}
-use Rattle.nearest.specs.Effect.{Effect, added, replaced, putOut, tooFar, without, afterEffect}
+use Rattle.node.specs.Families.{known_family}
+use Rattle.nearest.specs.Lists.{all_known}
+use Rattle.nearest.specs.Effect.{Effect, added, replaced, put_out, too_far, without, after_effect}
 use Rattle.nearest.specs.Sequence.{In}
-use Rattle.nearest.proofs.Steps.{known-none, known-one}
-use Rattle.nearest.proofs.Members.{in_without, in_insert, in-replace}
+use Rattle.nearest.proofs.Steps.{known_none, known_one}
+use Rattle.nearest.proofs.Members.{in_without, in_insert, in_replace}
 use Rattle.nearest.proofs.Order.{both_true}
 
-pub known-each : (ns : List Node) → allKnown ns ≡ true → (x : Node) → In x ns → knownFamily x.family ≡ true
-known-each [] e x i = absurd i
-known-each (n ∷ ns) e x (inl p) =
-    ap (λ (z : Node). knownFamily z.family) p
-    ∙ (both_true (knownFamily n.family) (allKnown ns) (sym (known-one n ns (knownFamily n.family) refl) ∙ e)).0
-known-each (n ∷ ns) e x (inr i) =
-    known-each ns (both_true (knownFamily n.family) (allKnown ns) (sym (known-one n ns (knownFamily n.family) refl) ∙ e)).1 x i
+pub known_each : (ns : List Node) → all_known ns ≡ true → (x : Node) → In x ns → known_family x.family ≡ true
+known_each [] e x i = absurd i
+known_each (n ∷ ns) e x (inl p) =
+    ap (λ (z : Node). known_family z.family) p
+    ∙ (both_true (known_family n.family) (all_known ns) (sym (known_one n ns (known_family n.family) refl) ∙ e)).0
+known_each (n ∷ ns) e x (inr i) =
+    known_each ns (both_true (known_family n.family) (all_known ns) (sym (known_one n ns (known_family n.family) refl) ∙ e)).1 x i
 
-pub each-known : (ns : List Node) → ((x : Node) → In x ns → knownFamily x.family ≡ true) → allKnown ns ≡ true
-each-known [] f = known-none
-each-known (n ∷ ns) f = known-one n ns true (f n (inl refl)) ∙ each-known ns (λ x i. f x (inr i))
+pub each_known : (ns : List Node) → ((x : Node) → In x ns → known_family x.family ≡ true) → all_known ns ≡ true
+each_known [] f = known_none
+each_known (n ∷ ns) f = known_one n ns true (f n (inl refl)) ∙ each_known ns (λ x i. f x (inr i))
 
 -- each node after an offer is the node offered, or was held before
-pub after-from : (w : Effect) (t : List ℕ) (n : Node) (ns : List Node) (x : Node) → In x (afterEffect w t n ns) → (x ≡ n) ⊎ In x ns
-unfolding afterEffect
-after-from added t n ns x i = in_insert t n ns x i
-after-from replaced t n ns x i = ⊎_elim (λ p. inl p) (λ v. inr v.0) (in-replace n ns x i)
-after-from (putOut k) t n ns x i = ⊎_elim (λ p. inl p) (λ j. inr (in_without k ns x j).0) (in_insert t n (without k ns) x i)
-after-from tooFar t n ns x i = inr i
+pub after_from : (w : Effect) (t : List ℕ) (n : Node) (ns : List Node) (x : Node) → In x (after_effect w t n ns) → (x ≡ n) ⊎ In x ns
+unfolding after_effect
+after_from added t n ns x i = in_insert t n ns x i
+after_from replaced t n ns x i = ⊎_elim (λ p. inl p) (λ v. inr v.0) (in_replace n ns x i)
+after_from (put_out k) t n ns x i = ⊎_elim (λ p. inl p) (λ j. inr (in_without k ns x j).0) (in_insert t n (without k ns) x i)
+after_from too_far t n ns x i = inr i
 
-pub after-known : (w : Effect) (t : List ℕ) (n : Node) (ns : List Node) → knownFamily n.family ≡ true → allKnown ns ≡ true → allKnown (afterEffect w t n ns) ≡ true
-after-known w t n ns f h =
-    each-known (afterEffect w t n ns)
-    (λ x i. ⊎_elim (λ (p : x ≡ n). ap (λ (z : Node). knownFamily z.family) p ∙ f) (known-each ns h x) (after-from w t n ns x i))
+pub after_known : (w : Effect) (t : List ℕ) (n : Node) (ns : List Node) → known_family n.family ≡ true → all_known ns ≡ true → all_known (after_effect w t n ns) ≡ true
+after_known w t n ns f h =
+    each_known (after_effect w t n ns)
+    (λ x i. ⊎_elim (λ (p : x ≡ n). ap (λ (z : Node). known_family z.family) p ∙ f) (known_each ns h x) (after_from w t n ns x i))
 
-pub without-known : (k : List ℕ) (ns : List Node) → allKnown ns ≡ true → allKnown (without k ns) ≡ true
-without-known k ns h = each-known (without k ns) (λ x i. known-each ns h x (in_without k ns x i).0)
+pub without_known : (k : List ℕ) (ns : List Node) → all_known ns ≡ true → all_known (without k ns) ≡ true
+without_known k ns h = each_known (without k ns) (λ x i. known_each ns h x (in_without k ns x i).0)

@@ -9,90 +9,90 @@ use lib.Seq.{take-append_seam, drop-append_seam}
 use Rattle.key.specs.declared.Key.{Key}
 use Rattle.refusal.specs.declared.Refusal.TheVariants.{UnknownFamily, KeyNotHeld, ListSize}
 use Rattle.node.specs.declared.Node.{Node}
-use Rattle.node.specs.Families.{knownFamily}
+use Rattle.node.specs.Families.{known_family}
 use Rattle.nearest.specs.declared.NearestList.{NearestList}
 use Rattle.nearest.specs.declared.Answer.TheVariants.{Done, Refused}
 use Rattle.nearest.specs.declared.Offered.{Offered}
-use Rattle.nearest.specs.Lists.{held, holding, emptyOf, sizeRight, allKnown, rising}
-use Rattle.node.specs.Values.{blankNode}
-use Rattle.nearest.specs.Effect.{Effect, effect, afterEffect, kept, holds, without}
-use Rattle.nearest.specs.Calls.{begun, checked, notOffered, offerAnswer, taken, offered, removed}
+use Rattle.nearest.specs.Lists.{held, holding, empty_of, size_right, all_known, rising}
+use Rattle.node.specs.Values.{blank_node}
+use Rattle.nearest.specs.Effect.{Effect, effect, after_effect, kept, holds, without}
+use Rattle.nearest.specs.Calls.{begun, checked, not_offered, offer_answer, taken, offered, removed}
 use Rattle.nearest.specs.Sequence.{list_of}
-use Rattle.nearest.proofs.Judge.{whole-passes, bounds-size}
-use Rattle.nearest.proofs.OfferLaws.{offer-taken, offer-unknown}
-use Rattle.nearest.proofs.RemoveLaws.{remove-taken, remove-missing}
+use Rattle.nearest.proofs.Judge.{whole_passes, bounds_size}
+use Rattle.nearest.proofs.OfferLaws.{offer_taken, offer_unknown}
+use Rattle.nearest.proofs.RemoveLaws.{remove_taken, remove_missing}
 
-drop-replicate : {A : Type 0} (b : A) (m j : ℕ) → drop j (replicate m b) ≡ replicate (m - j) b
-drop-replicate b m zero = let e : m ≡ m - 0 = omega arith in ap (λ (i : ℕ). replicate i b) e
-drop-replicate b zero (suc j) = let e : ◌≡◌ {A = ℕ} 0 (0 - suc j) = omega arith in ap (λ (i : ℕ). replicate i b) e
-drop-replicate b (suc m) (suc j) = let e : m - j ≡ suc m - suc j = omega arith in drop-replicate b m j ∙ ap (λ (i : ℕ). replicate i b) e
+drop_replicate : {A : Type 0} (b : A) (m j : ℕ) → drop j (replicate m b) ≡ replicate (m - j) b
+drop_replicate b m zero = let e : m ≡ m - 0 = omega arith in ap (λ (i : ℕ). replicate i b) e
+drop_replicate b zero (suc j) = let e : ◌≡◌ {A = ℕ} 0 (0 - suc j) = omega arith in ap (λ (i : ℕ). replicate i b) e
+drop_replicate b (suc m) (suc j) = let e : m - j ≡ suc m - suc j = omega arith in drop_replicate b m j ∙ ap (λ (i : ℕ). replicate i b) e
 
 -- what `begin` returns
-pub begun-is : (target : Key) (size : ℕ) → 1 ≤ size → size ≤ 16 → begun target size ≡ record { list = list_of target size []; answer = Done }
-unfolding begun list_of emptyOf
-begun-is target size lo hi = simp (bounds-size size lo hi)
+pub begun_is : (target : Key) (size : ℕ) → 1 ≤ size → size ≤ 16 → begun target size ≡ record { list = list_of target size []; answer = Done }
+unfolding begun list_of empty_of
+begun_is target size lo hi = simp (bounds_size size lo hi)
 
 -- what a bad size begins is what size 8 begins
-pub begun-bad : (target : Key) (size : ℕ) → sizeRight size ≡ false → begun target size ≡ record { list = (begun target 8).list; answer = Refused ListSize }
+pub begun_bad : (target : Key) (size : ℕ) → size_right size ≡ false → begun target size ≡ record { list = (begun target 8).list; answer = Refused ListSize }
 unfolding begun
-begun-bad target size h = simp (h, bounds-size 8 (omega arith) (omega arith))
+begun_bad target size h = simp (h, bounds_size 8 (omega arith) (omega arith))
 
 abbrev handing : NearestList → Effect → Offered
-handing l w = record { list = l; answer = offerAnswer (kept w) }
+handing l w = record { list = l; answer = offer_answer (kept w) }
 
 -- what an offer of a node of known family hands back
-abbrev pub offerTo : Key → ℕ → Node → List Node → Offered
-offerTo target size n h = handing (list_of target size (afterEffect (effect target.0 size n h) target.0 n h)) (effect target.0 size n h)
+abbrev pub offer_to : Key → ℕ → Node → List Node → Offered
+offer_to target size n h = handing (list_of target size (after_effect (effect target.0 size n h) target.0 n h)) (effect target.0 size n h)
 
 module _ (target : Key) (size : ℕ) where
-  pub held-listOf : (h : List Node) → held (list_of target size h) ≡ h
+  pub held_list_of : (h : List Node) → held (list_of target size h) ≡ h
   unfolding list_of
-  held-listOf h = take-append_seam h (replicate (16 - length h) blankNode)
+  held_list_of h = take-append_seam h (replicate (16 - length h) blank_node)
 
-  pub holding-listOf : (h g : List Node) → length h ≤ 16 → holding (list_of target size h) g ≡ list_of target size g
+  pub holding_list_of : (h g : List Node) → length h ≤ 16 → holding (list_of target size h) g ≡ list_of target size g
   unfolding list_of holding
-  holding-listOf h g le =
+  holding_list_of h g le =
       ap (λ (x : List Node). record { target = target; size = size; count = length g; nodes = g ++ x })
-      (ap (λ (x : List Node). drop (length g) (replicate (length h) blankNode ++ x)) (drop-append_seam h (replicate (16 - length h) blankNode))
+      (ap (λ (x : List Node). drop (length g) (replicate (length h) blank_node ++ x)) (drop-append_seam h (replicate (16 - length h) blank_node))
       ∙ ap (drop (length g))
-      (replicate-append-replicate (length h) (16 - length h) blankNode
-      ∙ ap (λ (i : ℕ). replicate i blankNode) (let e : length h + (16 - length h) ≡ 16 = omega arith in e))
-      ∙ drop-replicate blankNode 16 (length g))
+      (replicate-append-replicate (length h) (16 - length h) blank_node
+      ∙ ap (λ (i : ℕ). replicate i blank_node) (let e : length h + (16 - length h) ≡ 16 = omega arith in e))
+      ∙ drop_replicate blank_node 16 (length g))
 
   -- ---- a list that keeps its rules
 
-  module _ (lo : 1 ≤ size) (hi : size ≤ 16) (h : List Node) (short : length h ≤ size) (knows : allKnown h ≡ true) (rises : rising target.0 h ≡ true) where
-    pub listOf-whole : checked (list_of target size h) ≡ Done
+  module _ (lo : 1 ≤ size) (hi : size ≤ 16) (h : List Node) (short : length h ≤ size) (knows : all_known h ≡ true) (rises : rising target.0 h ≡ true) where
+    pub list_of_whole : checked (list_of target size h) ≡ Done
     unfolding list_of
-    listOf-whole =
-        whole-passes (list_of target size h)
+    list_of_whole =
+        whole_passes (list_of target size h)
         (record {
-          some-room = lo;
+          some_room = lo;
           small = hi;
           within = short;
-          knows = ap allKnown (held-listOf h) ∙ knows;
-          rises = ap (rising target.0) (held-listOf h) ∙ rises;
+          knows = ap all_known (held_list_of h) ∙ knows;
+          rises = ap (rising target.0) (held_list_of h) ∙ rises;
         })
 
-    pub offer-known : (n : Node) → knownFamily n.family ≡ true → offered (list_of target size h) n ≡ offerTo target size n h
+    pub offer_known : (n : Node) → known_family n.family ≡ true → offered (list_of target size h) n ≡ offer_to target size n h
     unfolding taken list_of holding effect
-    offer-known n f =
-        offer-taken (list_of target size h) n listOf-whole f
+    offer_known n f =
+        offer_taken (list_of target size h) n list_of_whole f
         ∙ ap
-        (λ (x : List Node). handing (holding (list_of target size h) (afterEffect (effect target.0 size n x) target.0 n x)) (effect target.0 size n x))
-        (held-listOf h)
+        (λ (x : List Node). handing (holding (list_of target size h) (after_effect (effect target.0 size n x) target.0 n x)) (effect target.0 size n x))
+        (held_list_of h)
         ∙ ap (λ (x : NearestList). handing x (effect target.0 size n h))
-        (holding-listOf h (afterEffect (effect target.0 size n h) target.0 n h) (omega arith))
+        (holding_list_of h (after_effect (effect target.0 size n h) target.0 n h) (omega arith))
 
-    pub offer-stranger : (n : Node) → knownFamily n.family ≡ false → offered (list_of target size h) n ≡ notOffered (list_of target size h) UnknownFamily
-    offer-stranger n f = sym (offer-unknown (list_of target size h) n listOf-whole f)
+    pub offer_stranger : (n : Node) → known_family n.family ≡ false → offered (list_of target size h) n ≡ not_offered (list_of target size h) UnknownFamily
+    offer_stranger n f = sym (offer_unknown (list_of target size h) n list_of_whole f)
 
-    pub remove-held : (key : Key) → holds key.0 h ≡ true
+    pub remove_held : (key : Key) → holds key.0 h ≡ true
         → removed (list_of target size h) key ≡ record { list = list_of target size (without key.0 h); answer = Done }
-    remove-held key f =
-        remove-taken (list_of target size h) key listOf-whole (ap (holds key.0) (held-listOf h) ∙ f)
-        ∙ ap (λ (x : List Node). record { list = holding (list_of target size h) (without key.0 x); answer = Done }) (held-listOf h)
-        ∙ ap (λ (x : NearestList). record { list = x; answer = Done }) (holding-listOf h (without key.0 h) (omega arith))
+    remove_held key f =
+        remove_taken (list_of target size h) key list_of_whole (ap (holds key.0) (held_list_of h) ∙ f)
+        ∙ ap (λ (x : List Node). record { list = holding (list_of target size h) (without key.0 x); answer = Done }) (held_list_of h)
+        ∙ ap (λ (x : NearestList). record { list = x; answer = Done }) (holding_list_of h (without key.0 h) (omega arith))
 
     pub remove_absent : (key : Key) → holds key.0 h ≡ false → removed (list_of target size h) key ≡ record { list = list_of target size h; answer = Refused KeyNotHeld }
-    remove_absent key f = remove-missing (list_of target size h) key listOf-whole (ap (holds key.0) (held-listOf h) ∙ f)
+    remove_absent key f = remove_missing (list_of target size h) key list_of_whole (ap (holds key.0) (held_list_of h) ∙ f)

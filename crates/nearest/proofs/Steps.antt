@@ -3,82 +3,82 @@ use mathlib.Core.Path.{◌≡◌, refl, ap}
 use mathlib.Core.Bool.{Bool, ◌&&◌, ◌||◌, cond, true, false}
 use mathlib.Core.List.{List, [], ◌∷◌}
 use Prim.Native.Nat.{ℕ, suc}
-use Rattle.key.specs.Keys.{sameKey, nearer}
-use Rattle.lists.proofs.Found.{leading-none, leading-one, first-none, first_one}
+use Rattle.key.specs.Keys.{same_key, nearer}
+use Rattle.lists.proofs.Found.{leading_none, leading_one, first_none, first_one}
 use Rattle.node.specs.declared.Node.{Node}
-use Rattle.node.specs.Families.{knownFamily}
-use Rattle.nearest.specs.Lists.{nodeKey, allKnown, rising, risingAfter}
+use Rattle.node.specs.Families.{known_family}
+use Rattle.nearest.specs.Lists.{node_key, all_known, rising, rising_after}
 use Rattle.nearest.specs.Effect.{holds, replace, insert, without}
 use Rattle.nearest.specs.Slots.{position, index_of}
 
-pub known-none : allKnown [] ≡ true
-unfolding allKnown
-known-none = refl
+pub known_none : all_known [] ≡ true
+unfolding all_known
+known_none = refl
 
-pub known-one : (n : Node) (ns : List Node) (b : Bool) → knownFamily n.family ≡ b → allKnown (n ∷ ns) ≡ (b && allKnown ns)
-unfolding allKnown
-known-one n ns b e = ap (λ (x : Bool). x && allKnown ns) e
+pub known_one : (n : Node) (ns : List Node) (b : Bool) → known_family n.family ≡ b → all_known (n ∷ ns) ≡ (b && all_known ns)
+unfolding all_known
+known_one n ns b e = ap (λ (x : Bool). x && all_known ns) e
 
 module _ (t : List ℕ) where
-  pub after_none : (m : Node) → risingAfter t m [] ≡ true
-  unfolding risingAfter
+  pub after_none : (m : Node) → rising_after t m [] ≡ true
+  unfolding rising_after
   after_none m = refl
 
-  pub after_one : (m n : Node) (ns : List Node) (b : Bool) → nearer t (nodeKey m) (nodeKey n) ≡ b → risingAfter t m (n ∷ ns) ≡ (b && risingAfter t n ns)
-  unfolding risingAfter
-  after_one m n ns b e = ap (λ (x : Bool). x && risingAfter t n ns) e
+  pub after_one : (m n : Node) (ns : List Node) (b : Bool) → nearer t (node_key m) (node_key n) ≡ b → rising_after t m (n ∷ ns) ≡ (b && rising_after t n ns)
+  unfolding rising_after
+  after_one m n ns b e = ap (λ (x : Bool). x && rising_after t n ns) e
 
   pub rising_none : rising t [] ≡ true
   unfolding rising
   rising_none = refl
 
-  pub rising-one : (n : Node) (ns : List Node) → rising t (n ∷ ns) ≡ risingAfter t n ns
+  pub rising_one : (n : Node) (ns : List Node) → rising t (n ∷ ns) ≡ rising_after t n ns
   unfolding rising
-  rising-one n ns = refl
+  rising_one n ns = refl
 
-  pub position-none : (k : List ℕ) → position t k [] ≡ 0
-  position-none k = leading-none (λ (m : Node). nearer t (nodeKey m) k)
+  pub position_none : (k : List ℕ) → position t k [] ≡ 0
+  position_none k = leading_none (λ (m : Node). nearer t (node_key m) k)
 
-  pub position-one : (k : List ℕ) (m : Node) (ms : List Node) (b : Bool) → nearer t (nodeKey m) k ≡ b
+  pub position_one : (k : List ℕ) (m : Node) (ms : List Node) (b : Bool) → nearer t (node_key m) k ≡ b
       → position t k (m ∷ ms) ≡ cond b (suc (position t k ms)) 0
-  position-one k = leading-one (λ (m : Node). nearer t (nodeKey m) k)
+  position_one k = leading_one (λ (m : Node). nearer t (node_key m) k)
 
-  pub insert-none : (n : Node) → insert t n [] ≡ n ∷ []
+  pub insert_none : (n : Node) → insert t n [] ≡ n ∷ []
   unfolding insert
-  insert-none n = refl
+  insert_none n = refl
 
-  pub insert-one : (n m : Node) (ms : List Node) (b : Bool) → nearer t (nodeKey m) (nodeKey n) ≡ b → insert t n (m ∷ ms) ≡ cond b (m ∷ insert t n ms) (n ∷ m ∷ ms)
+  pub insert_one : (n m : Node) (ms : List Node) (b : Bool) → nearer t (node_key m) (node_key n) ≡ b → insert t n (m ∷ ms) ≡ cond b (m ∷ insert t n ms) (n ∷ m ∷ ms)
   unfolding insert
-  insert-one n m ms b e = ap (λ (x : Bool). cond x (m ∷ insert t n ms) (n ∷ m ∷ ms)) e
+  insert_one n m ms b e = ap (λ (x : Bool). cond x (m ∷ insert t n ms) (n ∷ m ∷ ms)) e
 
 module _ (k : List ℕ) where
-  pub index-none : index_of k [] ≡ 0
-  index-none = first-none (λ (m : Node). sameKey (nodeKey m) k)
+  pub index_none : index_of k [] ≡ 0
+  index_none = first_none (λ (m : Node). same_key (node_key m) k)
 
-  pub index-one : (m : Node) (ms : List Node) (b : Bool) → sameKey (nodeKey m) k ≡ b → index_of k (m ∷ ms) ≡ cond b 0 (suc (index_of k ms))
-  index-one = first_one (λ (m : Node). sameKey (nodeKey m) k)
+  pub index_one : (m : Node) (ms : List Node) (b : Bool) → same_key (node_key m) k ≡ b → index_of k (m ∷ ms) ≡ cond b 0 (suc (index_of k ms))
+  index_one = first_one (λ (m : Node). same_key (node_key m) k)
 
-  pub holds-none : holds k [] ≡ false
+  pub holds_none : holds k [] ≡ false
   unfolding holds
-  holds-none = refl
+  holds_none = refl
 
-  pub holds-one : (m : Node) (ms : List Node) (b : Bool) → sameKey (nodeKey m) k ≡ b → holds k (m ∷ ms) ≡ (b || holds k ms)
+  pub holds_one : (m : Node) (ms : List Node) (b : Bool) → same_key (node_key m) k ≡ b → holds k (m ∷ ms) ≡ (b || holds k ms)
   unfolding holds
-  holds-one m ms b e = ap (λ (x : Bool). x || holds k ms) e
+  holds_one m ms b e = ap (λ (x : Bool). x || holds k ms) e
 
-  pub without-none : without k [] ≡ []
+  pub without_none : without k [] ≡ []
   unfolding without
-  without-none = refl
+  without_none = refl
 
-  pub without-one : (m : Node) (ms : List Node) (b : Bool) → sameKey (nodeKey m) k ≡ b → without k (m ∷ ms) ≡ cond b (without k ms) (m ∷ without k ms)
+  pub without_one : (m : Node) (ms : List Node) (b : Bool) → same_key (node_key m) k ≡ b → without k (m ∷ ms) ≡ cond b (without k ms) (m ∷ without k ms)
   unfolding without
-  without-one m ms b e = ap (λ (x : Bool). cond x (without k ms) (m ∷ without k ms)) e
+  without_one m ms b e = ap (λ (x : Bool). cond x (without k ms) (m ∷ without k ms)) e
 
 module _ (n : Node) where
-  pub replace-none : replace n [] ≡ []
+  pub replace_none : replace n [] ≡ []
   unfolding replace
-  replace-none = refl
+  replace_none = refl
 
-  pub replace-one : (m : Node) (ms : List Node) (b : Bool) → sameKey (nodeKey m) (nodeKey n) ≡ b → replace n (m ∷ ms) ≡ cond b n m ∷ replace n ms
+  pub replace_one : (m : Node) (ms : List Node) (b : Bool) → same_key (node_key m) (node_key n) ≡ b → replace n (m ∷ ms) ≡ cond b n m ∷ replace n ms
   unfolding replace
-  replace-one m ms b e = ap (λ (x : Bool). cond x n m ∷ replace n ms) e
+  replace_one m ms b e = ap (λ (x : Bool). cond x n m ∷ replace n ms) e

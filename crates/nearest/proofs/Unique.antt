@@ -7,11 +7,11 @@ use Prim.Native.Nat.{ℕ, suc, ◌<◌, ◌≤◌}
 use native.Mathlib.Omega.{arith}
 use lib.ListN.{length}
 use Rattle.key.specs.Keys.{nearer}
-use Rattle.key.proofs.Cancel.{nearer-lt}
+use Rattle.key.proofs.Cancel.{nearer_lt}
 use Rattle.node.specs.declared.Node.{Node}
-use Rattle.nearest.specs.Lists.{nodeKey}
+use Rattle.nearest.specs.Lists.{node_key}
 use Rattle.nearest.specs.Sequence.{In, Nearest}
-use Rattle.nearest.proofs.Order.{far, Up, rising-up}
+use Rattle.nearest.proofs.Order.{far, Up, rising_up}
 
 module _ (t : List ℕ) where
   abbrev Sub : List Node → List Node → Type 0
@@ -63,18 +63,18 @@ module _ (t : List ℕ) where
     within : (h g : List Node) → Nearest t k past h → Nearest t k past g → Sub h g
     within h g H G n i =
         ⊎_elim (λ j. j)
-        (λ (w : (length g ≡ k) × ((m : Node) → In m g → nearer t (nodeKey m) (nodeKey n) ≡ true)).
+        (λ (w : (length g ≡ k) × ((m : Node) → In m g → nearer t (node_key m) (node_key n) ≡ true)).
         absurd
         (let sub : Sub g h
         = λ m j. ⊎_elim (λ l. l)
-        (λ (v : (length h ≡ k) × ((q : Node) → In q h → nearer t (nodeKey q) (nodeKey m) ≡ true)).
-        absurd (omega (arith, nearer-lt t (nodeKey n) (nodeKey m) (v.1 n i), nearer-lt t (nodeKey m) (nodeKey n) (w.1 m j))))
+        (λ (v : (length h ≡ k) × ((q : Node) → In q h → nearer t (node_key q) (node_key m) ≡ true)).
+        absurd (omega (arith, nearer_lt t (node_key n) (node_key m) (v.1 n i), nearer_lt t (node_key m) (node_key n) (w.1 m j))))
         (H.nearest m (G.last m j)) in
-        let c = shorter h g n (rising-up t g G.rises) (rising-up t h H.rises) sub i (λ m j. nearer-lt t (nodeKey m) (nodeKey n) (w.1 m j)) in
+        let c = shorter h g n (rising_up t g G.rises) (rising_up t h H.rises) sub i (λ m j. nearer_lt t (node_key m) (node_key n) (w.1 m j)) in
         let d = H.short in
         let e = w.0 in
         omega arith))
         (G.nearest n (H.last n i))
 
-    pub one-nearest : (h g : List Node) → Nearest t k past h → Nearest t k past g → h ≡ g
-    one-nearest h g H G = same_nodes h g (rising-up t h H.rises) (rising-up t g G.rises) (within h g H G) (within g h G H)
+    pub one_nearest : (h g : List Node) → Nearest t k past h → Nearest t k past g → h ≡ g
+    one_nearest h g H G = same_nodes h g (rising_up t h H.rises) (rising_up t g G.rises) (within h g H G) (within g h G H)

@@ -1,14 +1,14 @@
 -- Where a node goes in a list of nodes, and where one stands: what the private functions over slots find.
 use Rattle.std.specs.Prelude.{List, ℕ}
-use Rattle.key.specs.Keys.{sameKey, nearer}
+use Rattle.key.specs.Keys.{same_key, nearer}
 use Rattle.lists.specs.Find.{leading, first_of}
 use Rattle.node.specs.declared.Node.{Node}
-use Rattle.nearest.specs.Lists.{nodeKey}
+use Rattle.nearest.specs.Lists.{node_key}
 
 -- how many nodes are nearer than a key, from the front
 abbrev pub position : List ℕ → List ℕ → List Node → ℕ
-position target key = leading (λ (m : Node). nearer target (nodeKey m) key)
+position target key = leading (λ (m : Node). nearer target (node_key m) key)
 
 -- where a key first stands, or the length where it does not
 abbrev pub index_of : List ℕ → List Node → ℕ
-index_of key = first_of (λ (m : Node). sameKey (nodeKey m) key)
+index_of key = first_of (λ (m : Node). same_key (node_key m) key)

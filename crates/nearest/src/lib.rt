@@ -3,7 +3,7 @@
 // A list is a value: a call takes it and hands it back, changed or as it stood, with its answer beside it. Where nodes come from, and who asks
 // them for more, stay with the host.
 ghost use Rattle.std.specs.Prelude.{◌≡◌};
-ghost use Rattle.nearest.specs.Lists.{defaultSize, emptyOf, sizeRight};
+ghost use Rattle.nearest.specs.Lists.{default_size, empty_of, size_right};
 ghost use Rattle.nearest.specs.Calls.{begun, checked, offered, removed};
 
 mod slots;
@@ -66,7 +66,7 @@ impl NearestList {
 
     // The empty list of size 8.
     pub fn empty(target: Key) -> Self
-        ensures { result ≡ emptyOf target defaultSize }
+        ensures { result ≡ empty_of target default_size }
     {
         let blank = Node::blank();
         NearestList {
@@ -97,7 +97,7 @@ impl NearestList {
 
     // Whether a list may be of this size: 1 to 16.
     pub fn size_right(size: usize) -> bool
-        ensures { result ≡ sizeRight size }
+        ensures { result ≡ size_right size }
     {
         if size < NearestList::SMALLEST_SIZE {
             return false;

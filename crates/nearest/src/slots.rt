@@ -1,8 +1,8 @@
 // The slots of a nearest list: what its first `count` nodes are, and how one is put between them or taken from between them.
 ghost use Rattle.std.specs.Prelude.{◌≡◌, ◌+◌, ◌<◌, ◌≤◌, ◌∷◌, ◌++◌, take, drop};
-ghost use Rattle.nearest.specs.Lists.{allKnown, rising};
-ghost use Rattle.node.specs.Values.{blankNode};
-ghost use Rattle.lists.specs.Insert.{insertAt, removeAt};
+ghost use Rattle.nearest.specs.Lists.{all_known, rising};
+ghost use Rattle.node.specs.Values.{blank_node};
+ghost use Rattle.lists.specs.Insert.{insert_at, remove_at};
 ghost use Rattle.nearest.specs.Slots.{position, index_of};
 
 use key::Key;
@@ -11,7 +11,7 @@ use node::Node;
 // Whether the family of each node held is known.
 pub(crate) fn all_known(nodes: [Node; 16], count: usize) -> bool
     requires { count ≤ 16 }
-    ensures { result ≡ allKnown (take count nodes) }
+    ensures { result ≡ all_known (take count nodes) }
 {
     let mut i = 0;
     while i < count {
@@ -83,7 +83,7 @@ pub(crate) fn find(nodes: [Node; 16], count: usize, key: Key) -> usize
 // The node put at `place`, and those from there to before `last` moved back by one; what stood at `last` is gone.
 pub(crate) fn open_at(nodes: [Node; 16], place: usize, last: usize, node: Node) -> [Node; 16]
     requires { (place ≤ last) × (last < 16) }
-    ensures { result ≡ take (last + 1) (insertAt place node nodes) ++ drop (last + 1) nodes }
+    ensures { result ≡ take (last + 1) (insert_at place node nodes) ++ drop (last + 1) nodes }
 {
     let mut out = nodes;
     let mut carried = node;
@@ -100,7 +100,7 @@ pub(crate) fn open_at(nodes: [Node; 16], place: usize, last: usize, node: Node) 
 // The node at `place` taken out, those after it up to `last` moved forward by one, and the slot at `last` blank.
 pub(crate) fn close_at(nodes: [Node; 16], place: usize, last: usize) -> [Node; 16]
     requires { (place ≤ last) × (last < 16) }
-    ensures { result ≡ take last (removeAt place nodes) ++ (blankNode ∷ drop (last + 1) nodes) }
+    ensures { result ≡ take last (remove_at place nodes) ++ (blank_node ∷ drop (last + 1) nodes) }
 {
     let mut out = nodes;
     let mut i = place;

@@ -9,37 +9,37 @@ use lib.ListN.{take}
 use lib.Seq.{take-nil, take-take}
 use Rattle.key.specs.Keys.{nearer}
 use Rattle.node.specs.declared.Node.{Node}
-use Rattle.nearest.specs.Lists.{nodeKey}
+use Rattle.nearest.specs.Lists.{node_key}
 use Rattle.nearest.specs.Effect.{insert}
-use Rattle.nearest.proofs.Steps.{insert-one}
-use Rattle.nearest_first.specs.NearestFirst.{arrangedOnto, nearestOf}
-use Rattle.nearest_first.specs.Kept.{keptOnto}
+use Rattle.nearest.proofs.Steps.{insert_one}
+use Rattle.nearest_first.specs.NearestFirst.{arranged_onto, nearest_of}
+use Rattle.nearest_first.specs.Kept.{kept_onto}
 
 module _ (t : List ℕ) (n : Node) where
-  front-step : (k : ℕ) (m : Node) (ms : List Node) (b : Bool) → nearer t (nodeKey m) (nodeKey n) ≡ b → take k (insert t n (take k ms)) ≡ take k (insert t n ms)
+  front_step : (k : ℕ) (m : Node) (ms : List Node) (b : Bool) → nearer t (node_key m) (node_key n) ≡ b → take k (insert t n (take k ms)) ≡ take k (insert t n ms)
       → take (suc k) (insert t n (m ∷ take k ms)) ≡ take (suc k) (insert t n (m ∷ ms))
-  front-step k m ms true e ih =
-      ap (take (suc k)) (insert-one t n m (take k ms) true e) ∙ ap (λ (x : List Node). m ∷ x) ih ∙ sym (ap (take (suc k)) (insert-one t n m ms true e))
-  front-step k m ms false e ih =
-      ap (take (suc k)) (insert-one t n m (take k ms) false e) ∙ ap (λ (x : List Node). n ∷ x) (take-take k (suc k) (m ∷ ms) (omega arith))
-      ∙ sym (ap (take (suc k)) (insert-one t n m ms false e))
+  front_step k m ms true e ih =
+      ap (take (suc k)) (insert_one t n m (take k ms) true e) ∙ ap (λ (x : List Node). m ∷ x) ih ∙ sym (ap (take (suc k)) (insert_one t n m ms true e))
+  front_step k m ms false e ih =
+      ap (take (suc k)) (insert_one t n m (take k ms) false e) ∙ ap (λ (x : List Node). n ∷ x) (take-take k (suc k) (m ∷ ms) (omega arith))
+      ∙ sym (ap (take (suc k)) (insert_one t n m ms false e))
 
-  pub front-decides : (k : ℕ) (ms : List Node) → take k (insert t n (take k ms)) ≡ take k (insert t n ms)
-  front-decides zero ms = refl
-  front-decides (suc k) [] = refl
-  front-decides (suc k) (m ∷ ms) = front-step k m ms (nearer t (nodeKey m) (nodeKey n)) refl (front-decides k ms)
+  pub front_decides : (k : ℕ) (ms : List Node) → take k (insert t n (take k ms)) ≡ take k (insert t n ms)
+  front_decides zero ms = refl
+  front_decides (suc k) [] = refl
+  front_decides (suc k) (m ∷ ms) = front_step k m ms (nearer t (node_key m) (node_key n)) refl (front_decides k ms)
 
 module _ (k : ℕ) (t : List ℕ) where
-  pub kept-is-front : (done ns : List Node) → keptOnto k t (take k done) ns ≡ take k (arrangedOnto t done ns)
-  kept-is-front done [] = refl
-  kept-is-front done (n ∷ ns) = ap (λ (x : List Node). keptOnto k t x ns) (front-decides t n k done) ∙ kept-is-front (insert t n done) ns
+  pub kept_is_front : (done ns : List Node) → kept_onto k t (take k done) ns ≡ take k (arranged_onto t done ns)
+  kept_is_front done [] = refl
+  kept_is_front done (n ∷ ns) = ap (λ (x : List Node). kept_onto k t x ns) (front_decides t n k done) ∙ kept_is_front (insert t n done) ns
 
   -- what is kept in the end is what is asked for
-  pub kept-is-nearest : (ns : List Node) → keptOnto k t [] ns ≡ nearestOf k t ns
-  kept-is-nearest ns = ap (λ (x : List Node). keptOnto k t x ns) (sym (take-nil k)) ∙ kept-is-front [] ns
+  pub kept_is_nearest : (ns : List Node) → kept_onto k t [] ns ≡ nearest_of k t ns
+  kept_is_nearest ns = ap (λ (x : List Node). kept_onto k t x ns) (sym (take-nil k)) ∙ kept_is_front [] ns
 
   -- ---- on the way
 
-  pub kept_append : (best xs ys : List Node) → keptOnto k t best (xs ++ ys) ≡ keptOnto k t (keptOnto k t best xs) ys
+  pub kept_append : (best xs ys : List Node) → kept_onto k t best (xs ++ ys) ≡ kept_onto k t (kept_onto k t best xs) ys
   kept_append best [] ys = refl
   kept_append best (x ∷ xs) ys = kept_append (take k (insert t x best)) xs ys

@@ -5,28 +5,28 @@ use Prim.Native.Nat.{ℕ, ◌+◌, ◌≤◌}
 use native.Mathlib.Omega.{arith}
 use lib.Dec.{eqb}
 use borrow.Author.Tests.{ne_eqb}
-use Rattle.node.specs.Families.{knownFamily, addressLength, packedLength}
+use Rattle.node.specs.Families.{known_family, address_length, packed_length}
 
 -- ---- which they are
 
-pub unknown-family : (family : ℕ) → (family ≡ 2 → ⊥) → (family ≡ 10 → ⊥) → (family ≡ 130 → ⊥) → (family ≡ 138 → ⊥) → knownFamily family ≡ false
-unfolding knownFamily
-unknown-family k a b c d = simp (ne_eqb k 2 a, ne_eqb k 10 b, ne_eqb k 130 c, ne_eqb k 138 d)
+pub unknown_family : (family : ℕ) → (family ≡ 2 → ⊥) → (family ≡ 10 → ⊥) → (family ≡ 130 → ⊥) → (family ≡ 138 → ⊥) → known_family family ≡ false
+unfolding known_family
+unknown_family k a b c d = simp (ne_eqb k 2 a, ne_eqb k 10 b, ne_eqb k 130 c, ne_eqb k 138 d)
 
 -- ---- lengths
 
-pub unknown-address : (family : ℕ) → (family ≡ 2 → ⊥) → (family ≡ 10 → ⊥) → (family ≡ 130 → ⊥) → (family ≡ 138 → ⊥) → addressLength family ≡ 0
-unfolding addressLength
-unknown-address k a b c d = simp (ne_eqb k 2 a, ne_eqb k 10 b, ne_eqb k 130 c, ne_eqb k 138 d)
+pub unknown_address : (family : ℕ) → (family ≡ 2 → ⊥) → (family ≡ 10 → ⊥) → (family ≡ 130 → ⊥) → (family ≡ 138 → ⊥) → address_length family ≡ 0
+unfolding address_length
+unknown_address k a b c d = simp (ne_eqb k 2 a, ne_eqb k 10 b, ne_eqb k 130 c, ne_eqb k 138 d)
 
 -- "39 in all", "51"
-pub ipv4-bytes : (packedLength 2 ≡ 39) × (packedLength 130 ≡ 39)
-unfolding packedLength addressLength
-ipv4-bytes = (refl, refl)
+pub ipv4_bytes : (packed_length 2 ≡ 39) × (packed_length 130 ≡ 39)
+unfolding packed_length address_length
+ipv4_bytes = (refl, refl)
 
-pub ipv6-bytes : (packedLength 10 ≡ 51) × (packedLength 138 ≡ 51)
-unfolding packedLength addressLength
-ipv6-bytes = (refl, refl)
+pub ipv6_bytes : (packed_length 10 ≡ 51) × (packed_length 138 ≡ 51)
+unfolding packed_length address_length
+ipv6_bytes = (refl, refl)
 
 at_most : (a b : Bool) → cond a 4 (cond b 16 0) ≤ 16
 at_most true b = omega arith
@@ -34,10 +34,10 @@ at_most false true = omega arith
 at_most false false = omega arith
 
 -- an address has no more than 16 bytes
-pub address-fits : (family : ℕ) → addressLength family ≤ 16
-unfolding addressLength
-address-fits family = at_most (eqb family 2 || eqb family 130) (eqb family 10 || eqb family 138)
+pub address_fits : (family : ℕ) → address_length family ≤ 16
+unfolding address_length
+address_fits family = at_most (eqb family 2 || eqb family 130) (eqb family 10 || eqb family 138)
 
-pub packed-length : (family : ℕ) → packedLength family ≡ 35 + addressLength family
-unfolding packedLength
-packed-length family = omega arith
+pub packed_length_lem : (family : ℕ) → packed_length family ≡ 35 + address_length family
+unfolding packed_length
+packed_length_lem family = omega arith

@@ -4,18 +4,18 @@ use lib.ListN.{length-map}
 use denote.RattleType.{owns, Valss}
 use denote.Shadow.{shadow}
 use denote.Struct.Declared.{shape}
-use Rattle.key.proofs.Owned.{each-byte}
+use Rattle.key.proofs.Owned.{each_byte}
 use Rattle.node.specs.declared.Node.{Node}
 use Rattle.node.specs.Values.{IsNode}
 use Rattle.node.specs.contracts.Node as type
 
-pub is-node : (n : Node) (values : Valss (shape type.the_type).fields) → shadow (owns (shape type.the_type).fields ((type.the_type).to n) values) → IsNode n
-is-node n values g =
+pub is_node : (n : Node) (values : Valss (shape type.the_type).fields) → shadow (owns (shape type.the_type).fields ((type.the_type).to n) values) → IsNode n
+is_node n values g =
     let address = g.1.0 in
     let key = g.1.1.1.0.1.1.0 in
     record {
       long = sym (length-map n.address _) ∙ address.1.0.1;
-      bytes = each-byte n.address address.0 address.1.1;
+      bytes = each_byte n.address address.0 address.1.1;
       port = g.1.1.0.1;
-      key = record { long = sym (length-map n.key.0 _) ∙ key.1.0.1; bytes = each-byte n.key.0 key.0 key.1.1 };
+      key = record { long = sym (length-map n.key.0 _) ∙ key.1.0.1; bytes = each_byte n.key.0 key.0 key.1.1 };
     }

@@ -4,7 +4,7 @@ use Rattle.wire.specs.Numbers.{Bytes, number_of, bytes_of}
 use Rattle.key.specs.Keys.{IsKey}
 use Rattle.refusal.specs.declared.Refusal.{Refusal}
 use Rattle.refusal.specs.declared.Refusal.TheVariants.{UnknownFamily, NodeCutShort}
-use Rattle.node.specs.Families.{knownFamily, addressLength, packedLength}
+use Rattle.node.specs.Families.{known_family, address_length, packed_length}
 
 -- what document 001 calls a node info: the address has as many bytes as its family says
 pub record NodeInfo : Type 0 where
@@ -14,16 +14,16 @@ pub record NodeInfo : Type 0 where
   pub key : List ℕ
 
 -- "A packed node is a family byte, the address, a 2-byte port, the key."
-unfoldable pub packedNode : NodeInfo → List ℕ
-packedNode n = n.family ∷ (n.address ++ (bytes_of 2 n.port ++ n.key))
+unfoldable pub packed_node : NodeInfo → List ℕ
+packed_node n = n.family ∷ (n.address ++ (bytes_of 2 n.port ++ n.key))
 
 -- the same read: what the bytes after a family byte are
 unfoldable pub node_of : ℕ → List ℕ → NodeInfo
 node_of family rest = record {
   family = family;
-  address = take (addressLength family) rest;
-  port = number_of (take 2 (drop (addressLength family) rest));
-  key = take 32 (drop 2 (drop (addressLength family) rest));
+  address = take (address_length family) rest;
+  port = number_of (take 2 (drop (address_length family) rest));
+  key = take 32 (drop 2 (drop (address_length family) rest));
 }
 
 pub data Read : Type 0 where
@@ -39,14 +39,14 @@ check false why after = refused why
 unfoldable pub read_node : List ℕ → Read
 read_node [] = refused NodeCutShort
 read_node (family ∷ rest) =
-    check (knownFamily family) UnknownFamily
-    (check (leb (packedLength family) (length (family ∷ rest))) NodeCutShort
+    check (known_family family) UnknownFamily
+    (check (leb (packed_length family) (length (family ∷ rest))) NodeCutShort
     (node (node_of family rest)))
 
 -- values that the fields of a node can have. Port 0 is allowed.
 pub record FitsNode (n : NodeInfo) : Type 0 where
-  pub known : knownFamily n.family ≡ true
-  pub long : length n.address ≡ addressLength n.family
+  pub known : known_family n.family ≡ true
+  pub long : length n.address ≡ address_length n.family
   pub bytes : Bytes n.address
   pub port : n.port < 2 ^ 16
   pub key : IsKey n.key
@@ -54,4 +54,4 @@ pub record FitsNode (n : NodeInfo) : Type 0 where
 -- a node that stands at the front of bytes, packed, whatever follows it
 pub record Taken (bytes : List ℕ) (n : NodeInfo) : Type 0 where
   pub fits : FitsNode n
-  pub front : bytes ≡ packedNode n ++ drop (length (packedNode n)) bytes
+  pub front : bytes ≡ packed_node n ++ drop (length (packed_node n)) bytes

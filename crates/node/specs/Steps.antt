@@ -8,7 +8,7 @@ use Rattle.node.specs.declared.walk.Shown.{Shown}
 use Rattle.node.specs.declared.walk.Shown.TheVariants as shown
 use Rattle.node.specs.declared.walk.Stepped.{Stepped}
 use Rattle.node.specs.Nodes as nodes
-use Rattle.node.specs.Values.{infoOf, value_of, blankNode}
+use Rattle.node.specs.Values.{info_of, value_of, blank_node}
 
 -- what a step does: it shows a node, or says that the list ends, or is refused
 pub data Showing : Type 0 where
@@ -17,9 +17,9 @@ pub data Showing : Type 0 where
   refuses : Refusal → Showing
 
 -- the node read, or its refusal
-unfoldable pub showingRead : nodes.Read → Showing
-showingRead (nodes.node n) = shows n
-showingRead (nodes.refused why) = refuses why
+unfoldable pub showing_read : nodes.Read → Showing
+showing_read (nodes.node n) = shows n
+showing_read (nodes.refused why) = refuses why
 
 -- "At the end it says so; a place past the end gets 16, bytes left at a count of 4 or more get 17"; else what is read there. The place past
 -- the end and the end are told at any count.
@@ -28,46 +28,46 @@ step_of list place count =
     cond (ltb (length list) place) (refuses NodeCutShort)
     (cond (eqb place (length list)) ends
     (cond (leb 4 count) (refuses BytesAfterNodes)
-    (showingRead (nodes.read_node (drop place list)))))
+    (showing_read (nodes.read_node (drop place list)))))
 
 -- the place after a step: "where the following one starts"; the end and a refusal leave the walker as it was
-unfoldable pub placeAfter : Showing → ℕ → ℕ
-placeAfter (shows n) place = place + length (nodes.packedNode n)
-placeAfter ends place = place
-placeAfter (refuses why) place = place
+unfoldable pub place_after : Showing → ℕ → ℕ
+place_after (shows n) place = place + length (nodes.packed_node n)
+place_after ends place = place
+place_after (refuses why) place = place
 
 -- the count shown after it
-unfoldable pub countAfter : Showing → ℕ → ℕ
-countAfter (shows n) count = count + 1
-countAfter ends count = count
-countAfter (refuses why) count = count
+unfoldable pub count_after : Showing → ℕ → ℕ
+count_after (shows n) count = count + 1
+count_after ends count = count
+count_after (refuses why) count = count
 
 -- for each case of the answer as code, what it stands for, with the node beside it
-unfoldable pub showingOf : Shown → Node → Showing
-showingOf shown.Node n = shows (infoOf n)
-showingOf shown.End n = ends
-showingOf (shown.Refused why) n = refuses why
+unfoldable pub showing_of : Shown → Node → Showing
+showing_of shown.Node n = shows (info_of n)
+showing_of shown.End n = ends
+showing_of (shown.Refused why) n = refuses why
 
 -- and the answer as code: its case, the node beside it (the blank node where none is shown), and the walker after the step
-unfoldable pub shownBy : Showing → Shown
-shownBy (shows n) = shown.Node
-shownBy ends = shown.End
-shownBy (refuses why) = shown.Refused why
+unfoldable pub shown_by : Showing → Shown
+shown_by (shows n) = shown.Node
+shown_by ends = shown.End
+shown_by (refuses why) = shown.Refused why
 
 unfoldable pub node_by : Showing → Node
 node_by (shows n) = value_of n
-node_by ends = blankNode
-node_by (refuses why) = blankNode
+node_by ends = blank_node
+node_by (refuses why) = blank_node
 
-unfoldable pub shownStep : ℕ → ℕ → Showing → Stepped
-shownStep place count step = record {
-  shown = shownBy step;
+unfoldable pub shown_step : ℕ → ℕ → Showing → Stepped
+shown_step place count step = record {
+  shown = shown_by step;
   node = node_by step;
-  place = placeAfter step place;
-  count = countAfter step count;
+  place = place_after step place;
+  count = count_after step count;
 }
 
 -- the step's answer: it stands for what document 01 has shown there, and it is just the one above
 pub record Steps (list : List ℕ) (place count : ℕ) (answer : Stepped) : Type 0 where
-  pub means : showingOf answer.shown answer.node ≡ step_of list place count
-  pub exact : answer ≡ shownStep place count (step_of list place count)
+  pub means : showing_of answer.shown answer.node ≡ step_of list place count
+  pub exact : answer ≡ shown_step place count (step_of list place count)

@@ -3,29 +3,29 @@ use Rattle.std.specs.Prelude.{cond, List, ◌++◌, ◌≡◌, ℕ, leb, length,
 use Rattle.refusal.specs.declared.Refusal.TheVariants.{UnknownFamily, OutputTooShort}
 use Rattle.node.specs.declared.writer.Written.{Written}
 use Rattle.node.specs.declared.writer.Written.TheVariants.{Bytes, Refused}
-use Rattle.node.specs.Families.{knownFamily}
-use Rattle.node.specs.Nodes.{NodeInfo, packedNode}
+use Rattle.node.specs.Families.{known_family}
+use Rattle.node.specs.Nodes.{NodeInfo, packed_node}
 use Rattle.node.specs.declared.Node.{Node}
-use Rattle.node.specs.Values.{infoOf, IsNode}
+use Rattle.node.specs.Values.{info_of, IsNode}
 
 -- the answer: 15, or 10 where the output is under the exact length, or the byte count
-unfoldable pub writtenAnswer : NodeInfo → List ℕ → Written
-writtenAnswer n out =
-    cond (knownFamily n.family)
-    (cond (leb (length (packedNode n)) (length out)) (Bytes (length (packedNode n))) (Refused OutputTooShort))
+unfoldable pub written_answer : NodeInfo → List ℕ → Written
+written_answer n out =
+    cond (known_family n.family)
+    (cond (leb (length (packed_node n)) (length out)) (Bytes (length (packed_node n))) (Refused OutputTooShort))
     (Refused UnknownFamily)
 
 -- the output: as it was, or the packed node and then what stood behind it
-unfoldable pub writtenOutput : NodeInfo → List ℕ → List ℕ
-writtenOutput n out =
-    cond (knownFamily n.family) (cond (leb (length (packedNode n)) (length out)) (packedNode n ++ drop (length (packedNode n)) out) out) out
+unfoldable pub written_output : NodeInfo → List ℕ → List ℕ
+written_output n out =
+    cond (known_family n.family) (cond (leb (length (packed_node n)) (length out)) (packed_node n ++ drop (length (packed_node n)) out) out) out
 
 -- a writer of this node into `out`: what it answers, and what it leaves
 pub record Writes (n : NodeInfo) (out : List ℕ) (answer : Written) (left : List ℕ) : Type 0 where
-  pub answers : answer ≡ writtenAnswer n out
-  pub leaves : left ≡ writtenOutput n out
+  pub answers : answer ≡ written_answer n out
+  pub leaves : left ≡ written_output n out
 
 -- the same of a node by value; its fields are as their types have them
 pub record WritesNode (n : Node) (out left : List ℕ) (answer : Written) : Type 0 where
   pub fits : IsNode n
-  pub writes : Writes (infoOf n) out answer left
+  pub writes : Writes (info_of n) out answer left

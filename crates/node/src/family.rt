@@ -1,6 +1,6 @@
 // Document 01's four families, and how long an address and a packed node of each are.
 ghost use Rattle.std.specs.Prelude.{◌≡◌};
-ghost use Rattle.node.specs.Families.{knownFamily, addressLength, packedLength};
+ghost use Rattle.node.specs.Families.{known_family, address_length, packed_length};
 
 use key::Key;
 
@@ -19,7 +19,7 @@ pub const PORT_BYTES: usize = 2;
 
 // Whether a family byte is one of the four.
 pub fn known(family: u8) -> bool
-    ensures { result ≡ knownFamily family }
+    ensures { result ≡ known_family family }
 {
     match family {
         UDP_IPV4 | UDP_IPV6 | TCP_IPV4 | TCP_IPV6 => true,
@@ -29,7 +29,7 @@ pub fn known(family: u8) -> bool
 
 // How many address bytes a node of this family has; none where the family is unknown.
 pub fn address_length(family: u8) -> usize
-    ensures { result ≡ addressLength family }
+    ensures { result ≡ address_length family }
 {
     match family {
         UDP_IPV4 | TCP_IPV4 => 4,
@@ -40,7 +40,7 @@ pub fn address_length(family: u8) -> usize
 
 // How many bytes a packed node of this family has: 39 over IPv4, 51 over IPv6; the other parts alone where the family is unknown.
 pub fn packed_length(family: u8) -> usize
-    ensures { result ≡ packedLength family }
+    ensures { result ≡ packed_length family }
 {
     FAMILY_BYTES + address_length(family) + PORT_BYTES + Key::BYTES
 }

@@ -9,7 +9,7 @@ pub mod walker;
 pub mod writer;
 
 ghost use Rattle.std.specs.Prelude.{◌≡◌};
-ghost use Rattle.node.specs.Values.{blankNode};
+ghost use Rattle.node.specs.Values.{blank_node};
 
 use key::Key;
 
@@ -26,7 +26,7 @@ pub struct Node {
 impl Node {
     // The node of zeros, whose family is unknown. It stands where there is no node to show.
     pub fn blank() -> Node
-        ensures { result ≡ blankNode }
+        ensures { result ≡ blank_node }
     {
         Node {
             family: 0,

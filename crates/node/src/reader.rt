@@ -1,8 +1,8 @@
 // One packed node, read at a place of lent bytes.
 ghost use Rattle.std.specs.Prelude.{◌≡◌, ◌++◌, ◌-◌, ◌^◌, ◌≤◌, ◌<◌, length, get_or, drop, replicate};
-ghost use Rattle.node.specs.Families.{packedLength};
+ghost use Rattle.node.specs.Families.{packed_length};
 ghost use Rattle.node.specs.Nodes.{node_of};
-ghost use Rattle.node.specs.Values.{value_of, blankNode};
+ghost use Rattle.node.specs.Values.{value_of, blank_node};
 ghost use Rattle.node.specs.Reads.{Reads};
 
 use crate::{Node, family};
@@ -47,7 +47,7 @@ pub fn read(bytes: &[u8], at: usize) -> NodeRead
 
 // A refusal, beside the blank node.
 fn refused(why: Refusal) -> NodeRead
-    ensures { result ≡ record { found = Found.Refused why; node = blankNode } }
+    ensures { result ≡ record { found = Found.Refused why; node = blank_node } }
 {
     NodeRead {
         found: Found::Refused(why),
@@ -57,7 +57,7 @@ fn refused(why: Refusal) -> NodeRead
 
 // The node whose packed bytes stand at the front of these.
 fn unpacked(packed: &[u8]) -> Node
-    requires { packedLength (get_or packed.now 0 0) ≤ length packed.now }
+    requires { packed_length (get_or packed.now 0 0) ≤ length packed.now }
     ensures { result ≡ value_of (node_of (get_or packed.now 0 0) (drop 1 packed.now)) }
 {
     let family = packed[0];

@@ -1,6 +1,6 @@
 // A lent list of packed nodes, walked: 0 to 4 nodes with no byte over.
 ghost use Rattle.std.specs.Prelude.{◌≡◌};
-ghost use Rattle.node.specs.Values.{blankNode};
+ghost use Rattle.node.specs.Values.{blank_node};
 ghost use Rattle.node.specs.Steps.{Steps};
 
 use crate::reader::Found;
@@ -58,7 +58,7 @@ pub fn step(list: &[u8], place: usize, count: usize) -> Stepped
 
 // A step that shows no node leaves the walker as it was.
 fn still(shown: Shown, place: usize, count: usize) -> Stepped
-    ensures { result ≡ record { shown = shown; node = blankNode; place = place; count = count } }
+    ensures { result ≡ record { shown = shown; node = blank_node; place = place; count = count } }
 {
     Stepped {
         shown,

@@ -1,8 +1,8 @@
 // One node, packed into a lent output.
 ghost use Rattle.std.specs.Prelude.{◌≡◌, length};
-ghost use Rattle.node.specs.Families.{packedLength};
-ghost use Rattle.node.specs.Nodes.{packedNode};
-ghost use Rattle.node.specs.Values.{infoOf};
+ghost use Rattle.node.specs.Families.{packed_length};
+ghost use Rattle.node.specs.Nodes.{packed_node};
+ghost use Rattle.node.specs.Values.{info_of};
 ghost use Rattle.node.specs.Written.{WritesNode};
 
 use crate::{Node, family};
@@ -33,8 +33,8 @@ pub fn write(node: Node, out: &mut [u8]) -> Written
 
 // Fills an output of the exact length.
 fn put(node: Node, out: &mut [u8])
-    requires { length out.old ≡ packedLength node.family }
-    ensures { out.new ≡ packedNode (infoOf node) }
+    requires { length out.old ≡ packed_length node.family }
+    ensures { out.new ≡ packed_node (info_of node) }
 {
     let address = node.address;
     let number = node.port as u64;

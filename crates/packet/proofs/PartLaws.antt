@@ -12,22 +12,22 @@ use Rattle.packet.specs.declared.Part.{Part}
 use Rattle.packet.specs.Parts.{part_of, start_of, no_part, PartAt}
 
 -- all bytes from a place on, as a part
-pub part-tail : (bytes : List ℕ) (at : ℕ) → at ≤ length bytes → part_of bytes (record { start = at; length = length (drop at bytes) }) ≡ drop at bytes
+pub part_tail : (bytes : List ℕ) (at : ℕ) → at ≤ length bytes → part_of bytes (record { start = at; length = length (drop at bytes) }) ≡ drop at bytes
 unfolding part_of
-part-tail bytes at h =
+part_tail bytes at h =
     let e = length-drop at bytes in
     simp (le-leb at (length bytes) h, le-leb (length (drop at bytes)) (length bytes - at) (omega arith)) (take-length (drop at bytes))
 
-pub start-tail : (bytes : List ℕ) (at : ℕ) → at ≤ length bytes → start_of bytes (record { start = at; length = length (drop at bytes) }) ≡ at
+pub start_tail : (bytes : List ℕ) (at : ℕ) → at ≤ length bytes → start_of bytes (record { start = at; length = length (drop at bytes) }) ≡ at
 unfolding start_of
-start-tail bytes at h =
+start_tail bytes at h =
     let e = length-drop at bytes in
     simp (le-leb at (length bytes) h, le-leb (length (drop at bytes)) (length bytes - at) (omega arith))
 
 -- no payload: no bytes, at the front
-pub no-part : (bytes : List ℕ) → part_of bytes no_part ≡ []
+pub no_part_lem : (bytes : List ℕ) → part_of bytes no_part ≡ []
 unfolding part_of
-no-part bytes = simp (le-leb 0 (length bytes) (omega arith), le-leb 0 (length bytes - 0) (omega arith))
+no_part_lem bytes = simp (le-leb 0 (length bytes) (omega arith), le-leb 0 (length bytes - 0) (omega arith))
 
 pub no_start : (bytes : List ℕ) → start_of bytes no_part ≡ 0
 unfolding start_of
@@ -37,8 +37,8 @@ no_start bytes = simp (le-leb 0 (length bytes) (omega arith), le-leb 0 (length b
 pub at_front : (packet : Bor (List ℕ)) → packet.ref_ptr ≡ (packet.ref_ptr.0, packet.ref_ptr.1 + 0)
 at_front packet = ap (λ (k : ℕ). (packet.ref_ptr.0, k)) (sym (add-zero packet.ref_ptr.1))
 
-pub no-part-at : (packet slice : Bor (List ℕ)) (part : Part) → part ≡ no_part → slice.now ≡ [] → slice.ref_ptr ≡ packet.ref_ptr → PartAt packet part slice
-no-part-at packet slice part n e f = record {
-  holds = e ∙ sym (ap (part_of packet.now) n ∙ no-part packet.now);
+pub no_part_at : (packet slice : Bor (List ℕ)) (part : Part) → part ≡ no_part → slice.now ≡ [] → slice.ref_ptr ≡ packet.ref_ptr → PartAt packet part slice
+no_part_at packet slice part n e f = record {
+  holds = e ∙ sym (ap (part_of packet.now) n ∙ no_part_lem packet.now);
   stands = f ∙ at_front packet ∙ ap (λ (k : ℕ). (packet.ref_ptr.0, packet.ref_ptr.1 + k)) (sym (ap (start_of packet.now) n ∙ no_start packet.now));
 }

@@ -7,49 +7,49 @@ use Rattle.packet.specs.declared.client.RelayPacket.TheVariants.{RoutingResponse
 use Rattle.packet.specs.declared.client.ClientRead.{ClientRead}
 use Rattle.packet.specs.declared.client.ClientRead.TheVariants.{Packet, Refused}
 use Rattle.packet_laws.specs.Read.{Read, packet, refused}
-use Rattle.packet_laws.specs.FromRelay.{FromRelay, routingResponse, connectNotice, disconnectNotice, ping, pong, oobReceived, routedData, clientRead}
-use Rattle.packet_laws.specs.Table.{kindAndKey}
+use Rattle.packet_laws.specs.FromRelay.{FromRelay, routing_response, connect_notice, disconnect_notice, ping, pong, oob_received, routed_data, client_read}
+use Rattle.packet_laws.specs.Table.{kind_and_key}
 use Rattle.packet.specs.Parts.{part_of, no_part}
 
 -- the packet that a case stands for, in the lent bytes
-unfoldable pub relayPacketOf : List ℕ → RelayPacket → FromRelay
-relayPacketOf bytes (RoutingResponse number key) = routingResponse number.0 (key_of (drop key bytes))
-relayPacketOf bytes (ConnectNotification number) = connectNotice number.0
-relayPacketOf bytes (DisconnectNotification number) = disconnectNotice number.0
-relayPacketOf bytes (Ping n) = ping n
-relayPacketOf bytes (Pong n) = pong n
-relayPacketOf bytes (OobReceived key part) = oobReceived (key_of (drop key bytes)) (part_of bytes part)
-relayPacketOf bytes (Data number part) = routedData number.0 (part_of bytes part)
+unfoldable pub relay_packet_of : List ℕ → RelayPacket → FromRelay
+relay_packet_of bytes (RoutingResponse number key) = routing_response number.0 (key_of (drop key bytes))
+relay_packet_of bytes (ConnectNotification number) = connect_notice number.0
+relay_packet_of bytes (DisconnectNotification number) = disconnect_notice number.0
+relay_packet_of bytes (Ping n) = ping n
+relay_packet_of bytes (Pong n) = pong n
+relay_packet_of bytes (OobReceived key part) = oob_received (key_of (drop key bytes)) (part_of bytes part)
+relay_packet_of bytes (Data number part) = routed_data number.0 (part_of bytes part)
 
-unfoldable pub clientReadOf : List ℕ → ClientRead → Read FromRelay
-clientReadOf bytes (Packet shown) = packet (relayPacketOf bytes shown)
-clientReadOf bytes (Refused why) = refused why
+unfoldable pub client_read_of : List ℕ → ClientRead → Read FromRelay
+client_read_of bytes (Packet shown) = packet (relay_packet_of bytes shown)
+client_read_of bytes (Refused why) = refused why
 
 -- where the parts of a packet stand: a key after the kind or after the number, a payload after the kind or after the key
-unfoldable pub shownRelay : FromRelay → RelayPacket
-shownRelay (routingResponse number key) = RoutingResponse (record { 0 = number }) 2
-shownRelay (connectNotice number) = ConnectNotification (record { 0 = number })
-shownRelay (disconnectNotice number) = DisconnectNotification (record { 0 = number })
-shownRelay (ping n) = Ping n
-shownRelay (pong n) = Pong n
-shownRelay (oobReceived key bytes) = OobReceived 1 (record { start = kindAndKey; length = length bytes })
-shownRelay (routedData number bytes) = Data (record { 0 = number }) (record { start = 1; length = length bytes })
+unfoldable pub shown_relay : FromRelay → RelayPacket
+shown_relay (routing_response number key) = RoutingResponse (record { 0 = number }) 2
+shown_relay (connect_notice number) = ConnectNotification (record { 0 = number })
+shown_relay (disconnect_notice number) = DisconnectNotification (record { 0 = number })
+shown_relay (ping n) = Ping n
+shown_relay (pong n) = Pong n
+shown_relay (oob_received key bytes) = OobReceived 1 (record { start = kind_and_key; length = length bytes })
+shown_relay (routed_data number bytes) = Data (record { 0 = number }) (record { start = 1; length = length bytes })
 
-unfoldable pub shownClientRead : Read FromRelay → ClientRead
-shownClientRead (packet p) = Packet (shownRelay p)
-shownClientRead (refused why) = Refused why
+unfoldable pub shown_client_read : Read FromRelay → ClientRead
+shown_client_read (packet p) = Packet (shown_relay p)
+shown_client_read (refused why) = Refused why
 
 -- the reader's answer: it stands for what document 01 has a client read, and each place is the packet's own
 pub record ClientReads (bytes : List ℕ) (answer : ClientRead) : Type 0 where
-  pub means : clientReadOf bytes answer ≡ clientRead bytes
-  pub exact : answer ≡ shownClientRead (clientRead bytes)
+  pub means : client_read_of bytes answer ≡ client_read bytes
+  pub exact : answer ≡ shown_client_read (client_read bytes)
 
 -- the part of the lent packet that a case names as its payload
-unfoldable pub relayPart : RelayPacket → Part
-relayPart (RoutingResponse number key) = no_part
-relayPart (ConnectNotification number) = no_part
-relayPart (DisconnectNotification number) = no_part
-relayPart (Ping n) = no_part
-relayPart (Pong n) = no_part
-relayPart (OobReceived key part) = part
-relayPart (Data number part) = part
+unfoldable pub relay_part : RelayPacket → Part
+relay_part (RoutingResponse number key) = no_part
+relay_part (ConnectNotification number) = no_part
+relay_part (DisconnectNotification number) = no_part
+relay_part (Ping n) = no_part
+relay_part (Pong n) = no_part
+relay_part (OobReceived key part) = part
+relay_part (Data number part) = part

@@ -9,51 +9,51 @@ use Rattle.packet.specs.declared.relay.ClientPacket.TheVariants.{RoutingRequest,
 use Rattle.packet.specs.declared.relay.RelayRead.{RelayRead}
 use Rattle.packet.specs.declared.relay.RelayRead.TheVariants.{Packet, Refused}
 use Rattle.packet_laws.specs.Read.{Read, packet, refused}
-use Rattle.packet_laws.specs.FromClient.{FromClient, routingRequest, dropRoute, ping, pong, oobSend, routedData, relayRead}
-use Rattle.packet_laws.specs.Table.{kindAndKey}
+use Rattle.packet_laws.specs.FromClient.{FromClient, routing_request, drop_route, ping, pong, oob_send, routed_data, relay_read}
+use Rattle.packet_laws.specs.Table.{kind_and_key}
 use Rattle.packet.specs.Parts.{part_of, no_part}
 
 -- the packet that a case stands for, in the lent bytes
-unfoldable pub clientPacketOf : List ℕ → ClientPacket → FromClient
-clientPacketOf bytes (RoutingRequest key) = routingRequest (key_of (drop key bytes))
-clientPacketOf bytes (DropRoute number) = dropRoute number.0
-clientPacketOf bytes (Ping n) = ping n
-clientPacketOf bytes (Pong n) = pong n
-clientPacketOf bytes (OobSend key part) = oobSend (key_of (drop key bytes)) (part_of bytes part)
-clientPacketOf bytes (Data number part) = routedData number.0 (part_of bytes part)
+unfoldable pub client_packet_of : List ℕ → ClientPacket → FromClient
+client_packet_of bytes (RoutingRequest key) = routing_request (key_of (drop key bytes))
+client_packet_of bytes (DropRoute number) = drop_route number.0
+client_packet_of bytes (Ping n) = ping n
+client_packet_of bytes (Pong n) = pong n
+client_packet_of bytes (OobSend key part) = oob_send (key_of (drop key bytes)) (part_of bytes part)
+client_packet_of bytes (Data number part) = routed_data number.0 (part_of bytes part)
 
-unfoldable pub relayReadOf : List ℕ → RelayRead → Read FromClient
-relayReadOf bytes (Packet shown) = packet (clientPacketOf bytes shown)
-relayReadOf bytes (Refused why) = refused why
+unfoldable pub relay_read_of : List ℕ → RelayRead → Read FromClient
+relay_read_of bytes (Packet shown) = packet (client_packet_of bytes shown)
+relay_read_of bytes (Refused why) = refused why
 
 -- where the parts of a packet stand: a key after the kind, a payload after the kind or after the key
-unfoldable pub shownClient : FromClient → ClientPacket
-shownClient (routingRequest key) = RoutingRequest 1
-shownClient (dropRoute number) = DropRoute (record { 0 = number })
-shownClient (ping n) = Ping n
-shownClient (pong n) = Pong n
-shownClient (oobSend key bytes) = OobSend 1 (record { start = kindAndKey; length = length bytes })
-shownClient (routedData number bytes) = Data (record { 0 = number }) (record { start = 1; length = length bytes })
+unfoldable pub shown_client : FromClient → ClientPacket
+shown_client (routing_request key) = RoutingRequest 1
+shown_client (drop_route number) = DropRoute (record { 0 = number })
+shown_client (ping n) = Ping n
+shown_client (pong n) = Pong n
+shown_client (oob_send key bytes) = OobSend 1 (record { start = kind_and_key; length = length bytes })
+shown_client (routed_data number bytes) = Data (record { 0 = number }) (record { start = 1; length = length bytes })
 
-unfoldable pub shownRelayRead : Read FromClient → RelayRead
-shownRelayRead (packet p) = Packet (shownClient p)
-shownRelayRead (refused why) = Refused why
+unfoldable pub shown_relay_read : Read FromClient → RelayRead
+shown_relay_read (packet p) = Packet (shown_client p)
+shown_relay_read (refused why) = Refused why
 
 -- the reader's answer: it stands for what document 01 has the relay read, and each place is the packet's own
 pub record RelayReads (bytes : List ℕ) (answer : RelayRead) : Type 0 where
-  pub means : relayReadOf bytes answer ≡ relayRead bytes
-  pub exact : answer ≡ shownRelayRead (relayRead bytes)
+  pub means : relay_read_of bytes answer ≡ relay_read bytes
+  pub exact : answer ≡ shown_relay_read (relay_read bytes)
 
 -- the refusal in a read that is one; of a packet, which has none, 5
-unfoldable pub relayRefusal : RelayRead → Refusal
-relayRefusal (Packet shown) = UnexpectedKind
-relayRefusal (Refused why) = why
+unfoldable pub relay_refusal : RelayRead → Refusal
+relay_refusal (Packet shown) = UnexpectedKind
+relay_refusal (Refused why) = why
 
 -- the part of the lent packet that a case names as its payload
-unfoldable pub clientPart : ClientPacket → Part
-clientPart (RoutingRequest key) = no_part
-clientPart (DropRoute number) = no_part
-clientPart (Ping n) = no_part
-clientPart (Pong n) = no_part
-clientPart (OobSend key part) = part
-clientPart (Data number part) = part
+unfoldable pub client_part : ClientPacket → Part
+client_part (RoutingRequest key) = no_part
+client_part (DropRoute number) = no_part
+client_part (Ping n) = no_part
+client_part (Pong n) = no_part
+client_part (OobSend key part) = part
+client_part (Data number part) = part

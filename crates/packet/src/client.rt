@@ -1,9 +1,9 @@
 // The client's end: how it reads what the relay sends.
 ghost use Rattle.std.specs.Prelude.{◌≡◌, true, length, drop};
-ghost use Rattle.packet_laws.specs.FromRelay.{fromRelay, keyFromRelay};
-ghost use Rattle.packet_laws.specs.Table.{lengthRight};
+ghost use Rattle.packet_laws.specs.FromRelay.{from_relay, key_from_relay};
+ghost use Rattle.packet_laws.specs.Table.{length_right};
 ghost use Rattle.packet.specs.Parts.{PartAt};
-ghost use Rattle.packet.specs.ClientReads.{ClientReads, relayPacketOf, shownRelay, relayPart};
+ghost use Rattle.packet.specs.ClientReads.{ClientReads, relay_packet_of, shown_relay, relay_part};
 
 use crate::{ConnectionNumber, Part, kind, parts};
 use key::Key;
@@ -60,8 +60,8 @@ pub fn read(packet: &[u8]) -> ClientRead
 
 // Where the parts of a packet of the right length stand.
 fn shown(kind: u8, packet: &[u8]) -> RelayPacket
-    requires { lengthRight kind (length packet.now) ≡ true }
-    ensures { result ≡ shownRelay (fromRelay kind (drop 1 packet.now)) }
+    requires { length_right kind (length packet.now) ≡ true }
+    ensures { result ≡ shown_relay (from_relay kind (drop 1 packet.now)) }
 {
     match kind {
         kind::RESPONSE => RelayPacket::RoutingResponse {
@@ -91,7 +91,7 @@ fn shown(kind: u8, packet: &[u8]) -> RelayPacket
 
 // The payload of a data packet or an out-of-band packet, as a part of the lent packet; the empty part at its front where there is none.
 pub fn payload(packet: &[u8], shown: RelayPacket) -> &[u8]
-    ensures { PartAt packet.entry (relayPart shown) result }
+    ensures { PartAt packet.entry (relay_part shown) result }
 {
     match shown {
         RelayPacket::OobReceived { key: _, payload } => parts::bytes_at(packet, payload),
@@ -102,7 +102,7 @@ pub fn payload(packet: &[u8], shown: RelayPacket) -> &[u8]
 
 // The key of a routing response or an out-of-band packet, by value; the key of zeros where there is none.
 pub fn key(packet: &[u8], shown: RelayPacket) -> Key
-    ensures { result.0 ≡ keyFromRelay (relayPacketOf packet.now shown) }
+    ensures { result.0 ≡ key_from_relay (relay_packet_of packet.now shown) }
 {
     match shown {
         RelayPacket::RoutingResponse { number: _, key } => parts::key_at(packet, key),

@@ -1,7 +1,7 @@
 // Document 01's table of packet kinds: who takes which, and how long each is. Each function is one check; both ends' readers and the writers
 // share them.
 ghost use Rattle.std.specs.Prelude.{◌≡◌};
-ghost use Rattle.packet_laws.specs.Table.{sizeRight, relayTakes, clientTakes, lengthRight, pingRight, numberRight};
+ghost use Rattle.packet_laws.specs.Table.{size_right, relay_takes, client_takes, length_right, ping_right, number_right};
 
 use crate::ConnectionNumber;
 
@@ -35,7 +35,7 @@ pub(crate) const MOST_OOB_BYTES: usize = 1057;
 
 // 4: "A packet has 1 to 2,032 bytes".
 pub fn size_right(size: usize) -> bool
-    ensures { result ≡ sizeRight size }
+    ensures { result ≡ size_right size }
 {
     if size == 0 {
         return false;
@@ -45,7 +45,7 @@ pub fn size_right(size: usize) -> bool
 
 // 5, at the relay: the kinds that a client sends.
 pub(crate) fn relay_takes(kind: u8) -> bool
-    ensures { result ≡ relayTakes kind }
+    ensures { result ≡ relay_takes kind }
 {
     if ConnectionNumber::FIRST <= kind {
         return true;
@@ -58,7 +58,7 @@ pub(crate) fn relay_takes(kind: u8) -> bool
 
 // 5, at the client: the kinds that the relay sends.
 pub(crate) fn client_takes(kind: u8) -> bool
-    ensures { result ≡ clientTakes kind }
+    ensures { result ≡ client_takes kind }
 {
     if ConnectionNumber::FIRST <= kind {
         return true;
@@ -71,7 +71,7 @@ pub(crate) fn client_takes(kind: u8) -> bool
 
 // 6: the table's last column.
 pub fn length_right(kind: u8, size: usize) -> bool
-    ensures { result ≡ lengthRight kind size }
+    ensures { result ≡ length_right kind size }
 {
     match kind {
         REQUEST => size == KIND_AND_KEY,
@@ -90,7 +90,7 @@ pub fn length_right(kind: u8, size: usize) -> bool
 
 // 7: a ping number is not 0.
 pub(crate) fn ping_right(kind: u8, body: &[u8]) -> bool
-    ensures { result ≡ pingRight kind body.now }
+    ensures { result ≡ ping_right kind body.now }
 {
     match kind {
         PING | PONG => wire::read_number(body) != 0,
@@ -100,7 +100,7 @@ pub(crate) fn ping_right(kind: u8, body: &[u8]) -> bool
 
 // 8, at the client: a connection number is 16 or more; the response 0 says that none was given.
 pub fn number_right(kind: u8, number: u8) -> bool
-    ensures { result ≡ numberRight kind number }
+    ensures { result ≡ number_right kind number }
 {
     match kind {
         RESPONSE => {

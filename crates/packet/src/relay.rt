@@ -1,9 +1,9 @@
 // The relay's end: how it reads what clients send.
 ghost use Rattle.std.specs.Prelude.{◌≡◌, true, length, drop};
-ghost use Rattle.packet_laws.specs.FromClient.{fromClient, keyFromClient};
-ghost use Rattle.packet_laws.specs.Table.{lengthRight};
+ghost use Rattle.packet_laws.specs.FromClient.{from_client, key_from_client};
+ghost use Rattle.packet_laws.specs.Table.{length_right};
 ghost use Rattle.packet.specs.Parts.{PartAt};
-ghost use Rattle.packet.specs.RelayReads.{RelayReads, clientPacketOf, shownClient, clientPart, relayRefusal};
+ghost use Rattle.packet.specs.RelayReads.{RelayReads, client_packet_of, shown_client, client_part, relay_refusal};
 
 use crate::{ConnectionNumber, Part, kind, parts};
 use key::Key;
@@ -29,7 +29,7 @@ pub enum RelayRead {
 impl RelayRead {
     // The refusal in a read that is one: the `else` of a `let` binds no name, and takes it from here. Of a packet, which has none, it answers 5.
     pub fn refusal(self) -> Refusal
-        ensures { result ≡ relayRefusal self }
+        ensures { result ≡ relay_refusal self }
     {
         match self {
             RelayRead::Refused(why) => why,
@@ -61,8 +61,8 @@ pub fn read(packet: &[u8]) -> RelayRead
 
 // Where the parts of a packet of the right length stand.
 fn shown(kind: u8, packet: &[u8]) -> ClientPacket
-    requires { lengthRight kind (length packet.now) ≡ true }
-    ensures { result ≡ shownClient (fromClient kind (drop 1 packet.now)) }
+    requires { length_right kind (length packet.now) ≡ true }
+    ensures { result ≡ shown_client (from_client kind (drop 1 packet.now)) }
 {
     match kind {
         kind::REQUEST => ClientPacket::RoutingRequest { key: 1 },
@@ -88,7 +88,7 @@ fn shown(kind: u8, packet: &[u8]) -> ClientPacket
 
 // The payload of a data packet or an out-of-band send, as a part of the lent packet; the empty part at its front where there is none.
 pub fn payload(packet: &[u8], shown: ClientPacket) -> &[u8]
-    ensures { PartAt packet.entry (clientPart shown) result }
+    ensures { PartAt packet.entry (client_part shown) result }
 {
     match shown {
         ClientPacket::OobSend { key: _, payload } => parts::bytes_at(packet, payload),
@@ -99,7 +99,7 @@ pub fn payload(packet: &[u8], shown: ClientPacket) -> &[u8]
 
 // The key of a routing request or an out-of-band send, by value; the key of zeros where there is none.
 pub fn key(packet: &[u8], shown: ClientPacket) -> Key
-    ensures { result.0 ≡ keyFromClient (clientPacketOf packet.now shown) }
+    ensures { result.0 ≡ key_from_client (client_packet_of packet.now shown) }
 {
     match shown {
         ClientPacket::RoutingRequest { key } => parts::key_at(packet, key),

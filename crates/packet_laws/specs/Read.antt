@@ -1,4 +1,4 @@
--- Document 01, "Relay packets": "each read is either a packet or a refusal". A refusal is named; `refusalNumber` of crate `refusal` gives document
+-- Document 01, "Relay packets": "each read is either a packet or a refusal". A refusal is named; `refusal_number` of crate `refusal` gives document
 -- 01's number of each.
 use Rattle.std.specs.Prelude.{Bool, true, false}
 use Rattle.refusal.specs.declared.Refusal.{Refusal}

@@ -2,8 +2,8 @@
 // output has room (10, last), and only then writes.
 ghost use Rattle.std.specs.Prelude.{[], ◌∷◌, ◌++◌};
 ghost use Rattle.wire.specs.Numbers.{bytes_of};
-ghost use Rattle.packet_laws.specs.FromClient.{routingRequest, dropRoute, oobSend};
-ghost use Rattle.packet_laws.specs.FromRelay.{routingResponse, connectNotice, disconnectNotice, oobReceived};
+ghost use Rattle.packet_laws.specs.FromClient.{routing_request, drop_route, oob_send};
+ghost use Rattle.packet_laws.specs.FromRelay.{routing_response, connect_notice, disconnect_notice, oob_received};
 ghost use Rattle.packet_write.specs.Written.{Puts, ClientWrites, RelayWrites, PingWrites, PongWrites, DataWrites};
 
 use key::Key;
@@ -18,7 +18,7 @@ pub enum Written {
 
 // The client's routing request: 10.
 pub fn routing_request(key: Key, out: &mut [u8]) -> Written
-    ensures { ClientWrites (routingRequest key.0) out.old out.new result }
+    ensures { ClientWrites (routing_request key.0) out.old out.new result }
 {
     if out.len() < kind::KIND_AND_KEY {
         return Written::Refused(Refusal::OutputTooShort);
@@ -30,7 +30,7 @@ pub fn routing_request(key: Key, out: &mut [u8]) -> Written
 
 // The relay's response to a routing request, with the number given or 0: 8, 10.
 pub fn routing_response(number: ConnectionNumber, key: Key, out: &mut [u8]) -> Written
-    ensures { RelayWrites (routingResponse number.0 key.0) out.old out.new result }
+    ensures { RelayWrites (routing_response number.0 key.0) out.old out.new result }
 {
     if !kind::number_right(kind::RESPONSE, number.0) {
         return Written::Refused(Refusal::NoSuchRoute);
@@ -46,7 +46,7 @@ pub fn routing_response(number: ConnectionNumber, key: Key, out: &mut [u8]) -> W
 
 // The relay's connect notification: 8, 10.
 pub fn connect_notification(number: ConnectionNumber, out: &mut [u8]) -> Written
-    ensures { RelayWrites (connectNotice number.0) out.old out.new result }
+    ensures { RelayWrites (connect_notice number.0) out.old out.new result }
 {
     if number.0 < ConnectionNumber::FIRST {
         return Written::Refused(Refusal::NoSuchRoute);
@@ -56,7 +56,7 @@ pub fn connect_notification(number: ConnectionNumber, out: &mut [u8]) -> Written
 
 // The relay's disconnect notification: 8, 10.
 pub fn disconnect_notification(number: ConnectionNumber, out: &mut [u8]) -> Written
-    ensures { RelayWrites (disconnectNotice number.0) out.old out.new result }
+    ensures { RelayWrites (disconnect_notice number.0) out.old out.new result }
 {
     if number.0 < ConnectionNumber::FIRST {
         return Written::Refused(Refusal::NoSuchRoute);
@@ -66,7 +66,7 @@ pub fn disconnect_notification(number: ConnectionNumber, out: &mut [u8]) -> Writ
 
 // The client's drop, of any number, since the relay's reader judges none: 10.
 pub fn drop_route(number: ConnectionNumber, out: &mut [u8]) -> Written
-    ensures { ClientWrites (dropRoute number.0) out.old out.new result }
+    ensures { ClientWrites (drop_route number.0) out.old out.new result }
 {
     put_pair(kind::DISCONNECT, number.0, out)
 }
@@ -93,7 +93,7 @@ pub fn pong(number: u64, out: &mut [u8]) -> Written
 
 // The client's out-of-band send: 4, 6, 10.
 pub fn oob_send(key: Key, data: &[u8], out: &mut [u8]) -> Written
-    ensures { ClientWrites (oobSend key.0 «data».now) out.old out.new result }
+    ensures { ClientWrites (oob_send key.0 «data».now) out.old out.new result }
 {
     let size = kind::KIND_AND_KEY + data.len();
     if !kind::size_right(size) {
@@ -107,7 +107,7 @@ pub fn oob_send(key: Key, data: &[u8], out: &mut [u8]) -> Written
 
 // The relay's out-of-band packet, with the sender's key: 4, 6, 10.
 pub fn oob_received(key: Key, data: &[u8], out: &mut [u8]) -> Written
-    ensures { RelayWrites (oobReceived key.0 «data».now) out.old out.new result }
+    ensures { RelayWrites (oob_received key.0 «data».now) out.old out.new result }
 {
     let size = kind::KIND_AND_KEY + data.len();
     if !kind::size_right(size) {

@@ -1,6 +1,6 @@
 -- What a run of stored calls writes for a call before its records, by the call's answer.
 use Rattle.std.specs.Prelude.{cond, List, ◌∷◌, ◌++◌, ◌≡◌, ℕ, ◌+◌, leb, length, drop}
-use Rattle.refusal.specs.Numbers.{refusalNumber}
+use Rattle.refusal.specs.Numbers.{refusal_number}
 use Rattle.wire.specs.Numbers.{bytes_of}
 use Rattle.rules.specs.Call as rules
 use Rattle.records.specs.declared.Answer.{Answer}
@@ -17,9 +17,9 @@ written (rules.accepted seat count) = count
 written (rules.refused why) = 0
 
 -- refusal (1 byte, 0 for none), seat (1, 0 for a refused call), length (2)
-unfoldable pub entryHead : rules.Answer → List ℕ
-entryHead (rules.accepted seat count) = 0 ∷ seat ∷ bytes_of 2 count
-entryHead (rules.refused why) = refusalNumber why ∷ 0 ∷ bytes_of 2 0
+unfoldable pub entry_head : rules.Answer → List ℕ
+entry_head (rules.accepted seat count) = 0 ∷ seat ∷ bytes_of 2 count
+entry_head (rules.refused why) = refusal_number why ∷ 0 ∷ bytes_of 2 0
 
 -- a head of 4 bytes is written where the output has room for it and for `count` bytes of records behind it, and otherwise nothing: the answer, which is how
 -- many bytes both are or 0, and what the output is then
@@ -29,4 +29,4 @@ pub record WritesHead (head : List ℕ) (count : ℕ) (out : List ℕ) (given : 
 
 -- the head for an answer
 abbrev pub WritesEntry : (given : rules.Answer) (out : List ℕ) (bytes : ℕ) (left : List ℕ) → Type 0
-WritesEntry given = WritesHead (entryHead given) (written given)
+WritesEntry given = WritesHead (entry_head given) (written given)

@@ -1,15 +1,15 @@
 -- Records in the lent output. Document 01, "The room": "What is sent is a run of records in the lent output: seat (1 byte), length (2), the packet.
--- An accepted call answers how many bytes it wrote; bytes after these keep their old contents." The bytes of records are those of `recordBytes` and
--- `sentBytes` of `rules`.
+-- An accepted call answers how many bytes it wrote; bytes after these keep their old contents." The bytes of records are those of `record_bytes` and
+-- `sent_bytes` of `rules`.
 use Rattle.std.specs.Prelude.{cond, List, [], ◌∷◌, ◌++◌, ◌≡◌, ℕ, ◌+◌, ◌≤◌, leb, length, take, drop}
 use Rattle.wire.specs.Numbers.{bytes_of}
 use Rattle.packet_laws.specs.Read.{Read, packet, refused}
 use Rattle.packet_laws.specs.FromRelay.{FromRelay, FitsRelay}
-use Rattle.packet_laws.specs.Judged.{relayJudged}
+use Rattle.packet_laws.specs.Judged.{relay_judged}
 use Rattle.packet_write.specs.declared.Written.{Written}
 use Rattle.packet_write.specs.declared.Written.TheVariants.{Bytes, Refused}
 use Rattle.rules.specs.Call.{Sent}
-use Rattle.rules.specs.Outcome.{to, recordBytes, sentBytes}
+use Rattle.rules.specs.Outcome.{to, record_bytes, sent_bytes}
 
 -- bytes written behind the first `at`; what stood behind them stays
 abbrev pub appended : List ℕ → ℕ → List ℕ → List ℕ
@@ -17,22 +17,22 @@ appended out at bytes = take at out ++ (bytes ++ drop (at + length bytes) out)
 
 -- records written behind the first `at` bytes: where the next would go, and what the output is then
 pub record Appends (sent : List Sent) (out : List ℕ) (at next : ℕ) (left : List ℕ) : Type 0 where
-  pub answers : next ≡ at + length (sentBytes sent)
-  pub leaves : left ≡ appended out at (sentBytes sent)
+  pub answers : next ≡ at + length (sent_bytes sent)
+  pub leaves : left ≡ appended out at (sent_bytes sent)
 
 -- what a writer appends: the record where the packet is taken and the record fits behind the first `at` bytes, and otherwise none
 unfoldable pub fitting : {A : Type 0} → Read A → Sent → ℕ → List ℕ → List Sent
 fitting (refused why) s at out = []
-fitting (packet p) s at out = cond (leb (at + length (recordBytes s)) (length out)) (s ∷ []) []
+fitting (packet p) s at out = cond (leb (at + length (record_bytes s)) (length out)) (s ∷ []) []
 
 -- for one packet of the relay's, judged as the client's reader does
-unfoldable pub fittingRecord : ℕ → FromRelay → ℕ → List ℕ → List Sent
-fittingRecord seat p at out = fitting (relayJudged p) (to seat p) at out
+unfoldable pub fitting_record : ℕ → FromRelay → ℕ → List ℕ → List Sent
+fitting_record seat p at out = fitting (relay_judged p) (to seat p) at out
 
 -- what a writer does with one packet for a seat; the packet's fields are as the types of the parameters have them
 pub record WritesRecord (seat : ℕ) (p : FromRelay) (out : List ℕ) (at next : ℕ) (left : List ℕ) : Type 0 where
   pub fits : FitsRelay p
-  pub appends : Appends (fittingRecord seat p at out) out at next left
+  pub appends : Appends (fitting_record seat p at out) out at next left
 
 -- a number that a routing response may carry: 0, or a connection number
 pub data Answers : ℕ → Type 0 where
@@ -41,13 +41,13 @@ pub data Answers : ℕ → Type 0 where
 
 -- ---- for the private functions: the packet's place, and the head once the packet's writer has answered
 
-unfoldable pub behindHead : ℕ → ℕ → ℕ
-behindHead bytes at = cond (leb (at + 3) bytes) (at + 3) bytes
+unfoldable pub behind_head : ℕ → ℕ → ℕ
+behind_head bytes at = cond (leb (at + 3) bytes) (at + 3) bytes
 
 -- where the next record goes
-unfoldable pub nextAfter : Written → ℕ → ℕ
-nextAfter (Bytes size) at = at + 3 + size
-nextAfter (Refused why) at = at
+unfoldable pub next_after : Written → ℕ → ℕ
+next_after (Bytes size) at = at + 3 + size
+next_after (Refused why) at = at
 
 -- what the output is then
 unfoldable pub headed : Written → ℕ → ℕ → List ℕ → List ℕ

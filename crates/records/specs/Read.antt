@@ -3,7 +3,7 @@
 use Rattle.std.specs.Prelude.{cond, List, [], ◌∷◌, ℕ, zero, suc, ◌<◌, leb, length, take, drop}
 use Rattle.wire.specs.Numbers.{number_of}
 use Rattle.rules.specs.Call.{Sent}
-use Rattle.rules.specs.Outcome.{recordBytes}
+use Rattle.rules.specs.Outcome.{record_bytes}
 use Rattle.records.specs.declared.RecordRead.{RecordRead}
 use Rattle.records.specs.declared.RecordRead.TheVariants as code
 
@@ -12,38 +12,38 @@ use Rattle.records.specs.declared.RecordRead.TheVariants as code
 -- no byte, bytes that end inside a record, or a record
 pub data First : Type 0 where
   none : First
-  cutShort : First
+  cut_short : First
   whole : Sent → First
 
 -- a seat and a length, and as many bytes behind them as the length says
 unfoldable pub sized : ℕ → ℕ → List ℕ → First
-sized seat size rest = cond (leb size (length rest)) (whole (record { seat = seat; bytes = take size rest })) cutShort
+sized seat size rest = cond (leb size (length rest)) (whole (record { seat = seat; bytes = take size rest })) cut_short
 
-unfoldable pub firstRecord : List ℕ → First
-firstRecord [] = none
-firstRecord (seat ∷ rest) = cond (leb 2 (length rest)) (sized seat (number_of (take 2 rest)) (drop 2 rest)) cutShort
+unfoldable pub first_record : List ℕ → First
+first_record [] = none
+first_record (seat ∷ rest) = cond (leb 2 (length rest)) (sized seat (number_of (take 2 rest)) (drop 2 rest)) cut_short
 
 -- as the code has it: the packet stands behind the head, up to the end of the record
-unfoldable pub shownFirst : First → RecordRead
-shownFirst none = code.None
-shownFirst cutShort = code.CutShort
-shownFirst (whole s) = code.Record (record { 0 = s.seat }) (length (recordBytes s))
+unfoldable pub shown_first : First → RecordRead
+shown_first none = code.None
+shown_first cut_short = code.CutShort
+shown_first (whole s) = code.Record (record { 0 = s.seat }) (length (record_bytes s))
 
 -- ---- all
 
 -- the records in a run of bytes, up to `most` of them
-unfoldable pub recordsIn : ℕ → List ℕ → List Sent
-recordsIn zero bytes = []
-recordsIn (suc most) [] = []
-recordsIn (suc most) (seat ∷ rest) =
+unfoldable pub records_in : ℕ → List ℕ → List Sent
+records_in zero bytes = []
+records_in (suc most) [] = []
+records_in (suc most) (seat ∷ rest) =
     let size = number_of (take 2 rest) in
-    record { seat = seat; bytes = take size (drop 2 rest) } ∷ recordsIn most (drop size (drop 2 rest))
+    record { seat = seat; bytes = take size (drop 2 rest) } ∷ records_in most (drop size (drop 2 rest))
 
 -- lengths from here on do not fit the two bytes of a record's length
-abbrev pub tooLong : ℕ
-tooLong = 65536
+abbrev pub too_long : ℕ
+too_long = 65536
 
 -- the packets of records are short enough
 abbrev pub Short : List Sent → Type 0
 Short [] = Unit {0}
-Short (s ∷ rest) = (length s.bytes < tooLong) × Short rest
+Short (s ∷ rest) = (length s.bytes < too_long) × Short rest

@@ -3,7 +3,7 @@
 // The writers stand in `record`, one for each kind of packet that the relay sends; the reader stands here. Nothing else writes or reads a record.
 // `entry` writes what a run of stored calls puts before the records of a call.
 ghost use Rattle.std.specs.Prelude.{◌≡◌};
-ghost use Rattle.records.specs.Read.{firstRecord, shownFirst};
+ghost use Rattle.records.specs.Read.{first_record, shown_first};
 
 use refusal::Refusal;
 use seat::Seat;
@@ -32,7 +32,7 @@ pub enum RecordRead {
 
 // The record at the front of bytes, which more may follow.
 pub fn read(bytes: &[u8]) -> RecordRead
-    ensures { result ≡ shownFirst (firstRecord bytes.now) }
+    ensures { result ≡ shown_first (first_record bytes.now) }
 {
     if bytes.len() == 0 {
         return RecordRead::None;

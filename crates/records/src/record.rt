@@ -1,8 +1,8 @@
 // The writers of records, one for each kind of packet that the relay sends. Each writes behind the first `at` bytes and answers where the next record
 // goes. Where the packet is not one that a client's reader takes, or its record does not fit, nothing changes and the answer is `at`.
 ghost use Rattle.std.specs.Prelude.{◌≡◌, ℕ, ◌+◌, ◌≤◌, length};
-ghost use Rattle.packet_laws.specs.FromRelay.{routingResponse, connectNotice, disconnectNotice, ping, pong, oobReceived, routedData};
-ghost use Rattle.records.specs.Output.{WritesRecord, behindHead, nextAfter, headed};
+ghost use Rattle.packet_laws.specs.FromRelay.{routing_response, connect_notice, disconnect_notice, ping, pong, oob_received, routed_data};
+ghost use Rattle.records.specs.Output.{WritesRecord, behind_head, next_after, headed};
 
 use crate::HEAD;
 use key::Key;
@@ -12,7 +12,7 @@ use seat::Seat;
 
 // Where the packet goes: behind the head, or at the end of the output where no head fits, so that the packet does not fit either.
 fn behind_head(bytes: usize, at: usize) -> usize
-    ensures { result ≡ behindHead bytes at }
+    ensures { result ≡ behind_head bytes at }
 {
     if bytes < HEAD {
         return bytes;
@@ -26,7 +26,7 @@ fn behind_head(bytes: usize, at: usize) -> usize
 // The head of a record, once its packet has been written or refused.
 fn head(out: &mut [u8], at: usize, seat: Seat, written: Written) -> usize
     requires { (size : ℕ) → written ≡ Written.Bytes size → at + 3 + size ≤ length out.old }
-    ensures { (result ≡ nextAfter written at) × (out.new ≡ headed written seat.0 at out.old) }
+    ensures { (result ≡ next_after written at) × (out.new ≡ headed written seat.0 at out.old) }
 {
     let Written::Bytes(size) = written else {
         return at;
@@ -40,7 +40,7 @@ fn head(out: &mut [u8], at: usize, seat: Seat, written: Written) -> usize
 
 // A connect notification for a seat.
 pub fn connected(out: &mut [u8], at: usize, seat: Seat, number: ConnectionNumber) -> usize
-    ensures { WritesRecord seat.0 (connectNotice number.0) out.old at result out.new }
+    ensures { WritesRecord seat.0 (connect_notice number.0) out.old at result out.new }
 {
     let start = behind_head(out.len(), at);
     let written = packet_write::connect_notification(number, &mut out[start..]);
@@ -49,7 +49,7 @@ pub fn connected(out: &mut [u8], at: usize, seat: Seat, number: ConnectionNumber
 
 // A disconnect notification for a seat.
 pub fn disconnected(out: &mut [u8], at: usize, seat: Seat, number: ConnectionNumber) -> usize
-    ensures { WritesRecord seat.0 (disconnectNotice number.0) out.old at result out.new }
+    ensures { WritesRecord seat.0 (disconnect_notice number.0) out.old at result out.new }
 {
     let start = behind_head(out.len(), at);
     let written = packet_write::disconnect_notification(number, &mut out[start..]);
@@ -58,7 +58,7 @@ pub fn disconnected(out: &mut [u8], at: usize, seat: Seat, number: ConnectionNum
 
 // A routing response for a seat: its number, or 0.
 pub fn response(out: &mut [u8], at: usize, seat: Seat, number: ConnectionNumber, key: Key) -> usize
-    ensures { WritesRecord seat.0 (routingResponse number.0 key.0) out.old at result out.new }
+    ensures { WritesRecord seat.0 (routing_response number.0 key.0) out.old at result out.new }
 {
     let start = behind_head(out.len(), at);
     let written = packet_write::routing_response(number, key, &mut out[start..]);
@@ -85,7 +85,7 @@ pub fn pinged(out: &mut [u8], at: usize, seat: Seat, number: u64) -> usize
 
 // An out-of-band packet for a seat.
 pub fn out_of_band(out: &mut [u8], at: usize, seat: Seat, key: Key, data: &[u8]) -> usize
-    ensures { WritesRecord seat.0 (oobReceived key.0 «data».now) out.old at result out.new }
+    ensures { WritesRecord seat.0 (oob_received key.0 «data».now) out.old at result out.new }
 {
     let start = behind_head(out.len(), at);
     let written = packet_write::oob_received(key, data, &mut out[start..]);
@@ -94,7 +94,7 @@ pub fn out_of_band(out: &mut [u8], at: usize, seat: Seat, key: Key, data: &[u8])
 
 // A data packet for a seat.
 pub fn data(out: &mut [u8], at: usize, seat: Seat, number: ConnectionNumber, data: &[u8]) -> usize
-    ensures { WritesRecord seat.0 (routedData number.0 «data».now) out.old at result out.new }
+    ensures { WritesRecord seat.0 (routed_data number.0 «data».now) out.old at result out.new }
 {
     let start = behind_head(out.len(), at);
     let written = packet_write::data(number, data, &mut out[start..]);

@@ -7,32 +7,32 @@ use lib.ListN.{replicate}
 use native.Mathlib.Omega.{arith}
 use Rattle.refusal.specs.declared.Refusal.{Refusal}
 use Rattle.refusal.specs.declared.Refusal.TheVariants.{RoomFull, AlreadySeated, NotSeated, PacketSize, UnexpectedKind, WrongLength, ZeroPing, NoSuchRoute, NotConnected, OutputTooShort, RoomNotWhole, ListSize, KeyNotHeld, ListNotWhole, UnknownFamily, NodeCutShort, BytesAfterNodes, BadFrame, ClockBack, BucketsNotWhole}
-use Rattle.refusal.specs.Numbers.{isRetired, refusals, with_number, refusalOf, LookedUp}
+use Rattle.refusal.specs.Numbers.{is_retired, refusals, with_number, refusal_of, LookedUp}
 
-pub looked-up : (why : Refusal) → LookedUp why
-unfolding refusalOf with_number refusals
-looked-up RoomFull = record { positive = omega arith; found = refl }
-looked-up AlreadySeated = record { positive = omega arith; found = refl }
-looked-up NotSeated = record { positive = omega arith; found = refl }
-looked-up PacketSize = record { positive = omega arith; found = refl }
-looked-up UnexpectedKind = record { positive = omega arith; found = refl }
-looked-up WrongLength = record { positive = omega arith; found = refl }
-looked-up ZeroPing = record { positive = omega arith; found = refl }
-looked-up NoSuchRoute = record { positive = omega arith; found = refl }
-looked-up NotConnected = record { positive = omega arith; found = refl }
-looked-up OutputTooShort = record { positive = omega arith; found = refl }
-looked-up RoomNotWhole = record { positive = omega arith; found = refl }
-looked-up ListSize = record { positive = omega arith; found = refl }
-looked-up KeyNotHeld = record { positive = omega arith; found = refl }
-looked-up ListNotWhole = record { positive = omega arith; found = refl }
-looked-up UnknownFamily = record { positive = omega arith; found = refl }
-looked-up NodeCutShort = record { positive = omega arith; found = refl }
-looked-up BytesAfterNodes = record { positive = omega arith; found = refl }
-looked-up BadFrame = record { positive = omega arith; found = refl }
-looked-up ClockBack = record { positive = omega arith; found = refl }
-looked-up BucketsNotWhole = record { positive = omega arith; found = refl }
+pub looked_up : (why : Refusal) → LookedUp why
+unfolding refusal_of with_number refusals
+looked_up RoomFull = record { positive = omega arith; found = refl }
+looked_up AlreadySeated = record { positive = omega arith; found = refl }
+looked_up NotSeated = record { positive = omega arith; found = refl }
+looked_up PacketSize = record { positive = omega arith; found = refl }
+looked_up UnexpectedKind = record { positive = omega arith; found = refl }
+looked_up WrongLength = record { positive = omega arith; found = refl }
+looked_up ZeroPing = record { positive = omega arith; found = refl }
+looked_up NoSuchRoute = record { positive = omega arith; found = refl }
+looked_up NotConnected = record { positive = omega arith; found = refl }
+looked_up OutputTooShort = record { positive = omega arith; found = refl }
+looked_up RoomNotWhole = record { positive = omega arith; found = refl }
+looked_up ListSize = record { positive = omega arith; found = refl }
+looked_up KeyNotHeld = record { positive = omega arith; found = refl }
+looked_up ListNotWhole = record { positive = omega arith; found = refl }
+looked_up UnknownFamily = record { positive = omega arith; found = refl }
+looked_up NodeCutShort = record { positive = omega arith; found = refl }
+looked_up BytesAfterNodes = record { positive = omega arith; found = refl }
+looked_up BadFrame = record { positive = omega arith; found = refl }
+looked_up ClockBack = record { positive = omega arith; found = refl }
+looked_up BucketsNotWhole = record { positive = omega arith; found = refl }
 
 -- "2 is retired", and no other
-pub retired-are : map isRetired refusals ≡ false ∷ true ∷ replicate 18 false
+pub retired_are : map is_retired refusals ≡ false ∷ true ∷ replicate 18 false
 unfolding refusals
-retired-are = refl
+retired_are = refl

@@ -2,7 +2,7 @@
 //
 // One enum serves the whole library, so that a host prints every refusal by one table.
 ghost use Rattle.std.specs.Prelude.{◌≡◌};
-ghost use Rattle.refusal.specs.Numbers.{refusalNumber};
+ghost use Rattle.refusal.specs.Numbers.{refusal_number};
 
 #[derive(Drop)]
 pub enum Refusal {
@@ -32,7 +32,7 @@ pub enum Refusal {
 impl Refusal {
     // The papers' number of a refusal.
     pub fn number(self) -> u8
-        ensures { result ≡ refusalNumber self }
+        ensures { result ≡ refusal_number self }
     {
         match self {
             Refusal::RoomFull => 1,

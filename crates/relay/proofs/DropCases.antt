@@ -8,77 +8,77 @@ use lib.Dec.{ltb}
 use lib.ListN.{get_or}
 use borrow.Author.Tests.{ltb-false, le-ltb}
 use Rattle.refusal.specs.declared.Refusal.TheVariants.{NoSuchRoute}
-use Rattle.packet_laws.specs.FromClient.{dropRoute}
-use Rattle.packet_laws.specs.FromRelay.{disconnectNotice}
-use Rattle.rules.specs.Room.{Key, Route, free, wants, Room, routeAt, firstNumber, Held}
+use Rattle.packet_laws.specs.FromClient.{drop_route}
+use Rattle.packet_laws.specs.FromRelay.{disconnect_notice}
+use Rattle.rules.specs.Room.{Key, Route, free, wants, Room, route_at, first_number, Held}
 use Rattle.rules.specs.Call.{accepted, refused}
-use Rattle.rules.specs.Outcome.{act, drop_at, accept, refuse, sentBytes, routeFreed, peer, toPeer, tellPeer}
-use Rattle.room_laws.specs.Layout.{routesTable}
-use Rattle.room_laws.specs.View.{viewRoom, viewRoutes, seatHeld}
-use Rattle.room_laws.specs.Whole.{roomWhole}
-use Rattle.room_laws.specs.Store.{store, storeAll}
+use Rattle.rules.specs.Outcome.{act, drop_at, accept, refuse, sent_bytes, route_freed, peer, to_peer, tell_peer}
+use Rattle.room_laws.specs.Layout.{routes_table}
+use Rattle.room_laws.specs.View.{view_room, view_routes, seat_held}
+use Rattle.room_laws.specs.Whole.{room_whole}
+use Rattle.room_laws.specs.Store.{store, store_all}
 use Rattle.room.specs.declared.lookup.Wanted.{Wanted}
-use Rattle.room.specs.Numbers.{routeNumbered, wantedOf, freedNumber}
+use Rattle.room.specs.Numbers.{route_numbered, wanted_of, freed_number}
 use Rattle.records.specs.Output.{Appends}
 use Rattle.relay_laws.specs.Calls.{Leaves}
 use Rattle.relay.specs.Steps.{Sits}
-use Rattle.records.proofs.AppendLaws.{appends-front, appends-front-answer}
-use Rattle.relay.proofs.LeaveCases.{tells-peer, appends-as}
-use Rattle.relay.proofs.SeatedClient.{wanted-free, wanted-wants, sits-numbered, route-of-number}
+use Rattle.records.proofs.AppendLaws.{appends_front, appends_front_answer}
+use Rattle.relay.proofs.LeaveCases.{tells_peer, appends_as}
+use Rattle.relay.proofs.SeatedClient.{wanted_free, wanted_wants, sits_numbered, route_of_number}
 
 -- a number that names a key is one
-high-number : (routes : List Route) (number : ℕ) (k : Key) → routeAt routes number ≡ wants k → 16 ≤ number
-unfolding routeAt
-high-number routes number k e = go (ltb number firstNumber) refl
+high_number : (routes : List Route) (number : ℕ) (k : Key) → route_at routes number ≡ wants k → 16 ≤ number
+unfolding route_at
+high_number routes number k e = go (ltb number first_number) refl
   where
-    go : (u : Bool) → ltb number firstNumber ≡ u → 16 ≤ number
+    go : (u : Bool) → ltb number first_number ≡ u → 16 ≤ number
     go true h = let z : free ≡ wants k = sym (rw h) ∙ e in let y : ◌≡◌ {A = ℕ} 0 1 = cc in absurd (omega arith)
-    go false h = ltb-false number firstNumber h
+    go false h = ltb-false number first_number h
 
-freed : (s n : ℕ) (b : List ℕ) (i number : ℕ) → 16 ≤ number → freedNumber s n b i number ≡ store s n b (routeFreed i (number - firstNumber))
-unfolding freedNumber
-freed s n b i number h = rw (le-ltb number firstNumber h)
+freed : (s n : ℕ) (b : List ℕ) (i number : ℕ) → 16 ≤ number → freed_number s n b i number ≡ store s n b (route_freed i (number - first_number))
+unfolding freed_number
+freed s n b i number h = rw (le-ltb number first_number h)
 
 -- ---- on the rules' room
 
 module _ (s n : ℕ) (room : Room) (b out : List ℕ) (i : ℕ) (held : Held) (number : ℕ) where
-  drops-none : routeAt held.routes number ≡ free → Leaves s n (act (dropRoute number) room i held) b out (refused NoSuchRoute) b out
-  unfolding act drop_at refuse storeAll sentBytes
-  drops-none e = record { answers = rw e; stores = rw e; writes = rw e }
+  drops_none : route_at held.routes number ≡ free → Leaves s n (act (drop_route number) room i held) b out (refused NoSuchRoute) b out
+  unfolding act drop_at refuse store_all sent_bytes
+  drops_none e = record { answers = rw e; stores = rw e; writes = rw e }
 
-  drops : (k : Key) → routeAt held.routes number ≡ wants k → (bytes : ℕ) (b' out' : List ℕ) → Appends (toPeer disconnectNotice (peer room i held.key k)) out 0 bytes out'
-      → b' ≡ store s n b (routeFreed i (number - firstNumber)) → Leaves s n (act (dropRoute number) room i held) b out (accepted i bytes) b' out'
-  unfolding act drop_at accept storeAll
+  drops : (k : Key) → route_at held.routes number ≡ wants k → (bytes : ℕ) (b' out' : List ℕ) → Appends (to_peer disconnect_notice (peer room i held.key k)) out 0 bytes out'
+      → b' ≡ store s n b (route_freed i (number - first_number)) → Leaves s n (act (drop_route number) room i held) b out (accepted i bytes) b' out'
+  unfolding act drop_at accept store_all
   drops k e bytes b' out' a f = record {
-    answers = rw e (ap (accepted i) (appends-front-answer (toPeer disconnectNotice (peer room i held.key k)) out bytes out' a));
+    answers = rw e (ap (accepted i) (appends_front_answer (to_peer disconnect_notice (peer room i held.key k)) out bytes out' a));
     stores = rw e f;
-    writes = rw e (appends-front (toPeer disconnectNotice (peer room i held.key k)) out bytes out' a);
+    writes = rw e (appends_front (to_peer disconnect_notice (peer room i held.key k)) out bytes out' a);
   }
 
 -- ---- on bytes
 
-module _ (s n : ℕ) (b : List ℕ) (whole : roomWhole s n b ≡ true) (i : ℕ) (key : Key) (sits : Sits s n b i key) (number : ℕ)
-    (w : Wanted) (answer : w ≡ wantedOf (routeNumbered s n b i number)) where
-  pub drop-none : w.held ≡ false → (out : List ℕ)
-      → Leaves s n (act (dropRoute number) (viewRoom s n b) i (seatHeld s n b i key)) b out (refused NoSuchRoute) b out
-  drop-none h out =
-      drops-none s n (viewRoom s n b) b out i (seatHeld s n b i key) number
-      (sym (sits-numbered s n b whole i key sits number) ∙ wanted-free (routeNumbered s n b i number) w answer h)
+module _ (s n : ℕ) (b : List ℕ) (whole : room_whole s n b ≡ true) (i : ℕ) (key : Key) (sits : Sits s n b i key) (number : ℕ)
+    (w : Wanted) (answer : w ≡ wanted_of (route_numbered s n b i number)) where
+  pub drop_none : w.held ≡ false → (out : List ℕ)
+      → Leaves s n (act (drop_route number) (view_room s n b) i (seat_held s n b i key)) b out (refused NoSuchRoute) b out
+  drop_none h out =
+      drops_none s n (view_room s n b) b out i (seat_held s n b i key) number
+      (sym (sits_numbered s n b whole i key sits number) ∙ wanted_free (route_numbered s n b i number) w answer h)
 
-  names : w.held ≡ true → routeAt (viewRoutes n (routesTable s n b i)) number ≡ wants w.key.0
-  names h = sym (sits-numbered s n b whole i key sits number) ∙ wanted-wants (routeNumbered s n b i number) w answer h
+  names : w.held ≡ true → route_at (view_routes n (routes_table s n b i)) number ≡ wants w.key.0
+  names h = sym (sits_numbered s n b whole i key sits number) ∙ wanted_wants (route_numbered s n b i number) w answer h
 
-  pub drop-high : w.held ≡ true → 16 ≤ number
-  drop-high h = high-number (viewRoutes n (routesTable s n b i)) number w.key.0 (names h)
+  pub drop_high : w.held ≡ true → 16 ≤ number
+  drop_high h = high_number (view_routes n (routes_table s n b i)) number w.key.0 (names h)
 
-  pub drop-route : w.held ≡ true → (out : List ℕ) (bytes : ℕ) (b' out' : List ℕ)
-      → Appends (tellPeer (viewRoom s n b) i key (get_or (viewRoutes n (routesTable s n b i)) (number - 16) free)) out 0 bytes out'
-      → b' ≡ freedNumber s n b i number
-      → Leaves s n (act (dropRoute number) (viewRoom s n b) i (seatHeld s n b i key)) b out (accepted i bytes) b' out'
-  drop-route h out bytes b' out' a f =
-      let routes : List Route = viewRoutes n (routesTable s n b i) in
-      let at : get_or routes (number - 16) free ≡ wants w.key.0 = sym (route-of-number routes number (drop-high h)) ∙ names h in
-      let told = tells-peer (viewRoom s n b) i key (get_or routes (number - 16) free) w.key.0 at in
-      drops s n (viewRoom s n b) b out i (seatHeld s n b i key) number w.key.0 (names h) bytes b' out'
-      (appends-as (toPeer disconnectNotice (peer (viewRoom s n b) i key w.key.0)) (tellPeer (viewRoom s n b) i key (get_or routes (number - 16) free)) out 0 bytes out' (sym told) a)
-      (f ∙ freed s n b i number (drop-high h))
+  pub drop_route_lem : w.held ≡ true → (out : List ℕ) (bytes : ℕ) (b' out' : List ℕ)
+      → Appends (tell_peer (view_room s n b) i key (get_or (view_routes n (routes_table s n b i)) (number - 16) free)) out 0 bytes out'
+      → b' ≡ freed_number s n b i number
+      → Leaves s n (act (drop_route number) (view_room s n b) i (seat_held s n b i key)) b out (accepted i bytes) b' out'
+  drop_route_lem h out bytes b' out' a f =
+      let routes : List Route = view_routes n (routes_table s n b i) in
+      let at : get_or routes (number - 16) free ≡ wants w.key.0 = sym (route_of_number routes number (drop_high h)) ∙ names h in
+      let told = tells_peer (view_room s n b) i key (get_or routes (number - 16) free) w.key.0 at in
+      drops s n (view_room s n b) b out i (seat_held s n b i key) number w.key.0 (names h) bytes b' out'
+      (appends_as (to_peer disconnect_notice (peer (view_room s n b) i key w.key.0)) (tell_peer (view_room s n b) i key (get_or routes (number - 16) free)) out 0 bytes out' (sym told) a)
+      (f ∙ freed s n b i number (drop_high h))

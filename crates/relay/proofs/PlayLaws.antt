@@ -8,79 +8,79 @@ use lib.Dec.{eqb, leb}
 use lib.ListN.{length, drop}
 use borrow.Author.Tests.{le-leb, lt-leb, leb-true, eq-eqb, ne_eqb, eqb-false}
 use Rattle.rules.specs.Room.{Sizes, Room}
-use Rattle.rules.specs.Call.{Call, arrive, leave, packetCall, tick}
-use Rattle.rules.specs.Outcome.{outcome, roomAfter}
+use Rattle.rules.specs.Call.{Call, arrive, leave, packet_call, tick}
+use Rattle.rules.specs.Outcome.{outcome, room_after}
 use Rattle.rules.specs.History.{event}
-use Rattle.stored.specs.Stored.{storedBytes, First, none, call, firstCall}
+use Rattle.stored.specs.Stored.{stored_bytes, First, none, call, first_call}
 use Rattle.relay.specs.declared.play.Stop.{Stop}
 use Rattle.relay.specs.declared.play.Stop.TheVariants.{End, NoCall, Allowance, Output}
-use Rattle.relay.specs.Play.{Next, stops, plays, leastSpace, nextCall, next, Run, goOn, run, entryBytes, mostSpace}
+use Rattle.relay.specs.Play.{Next, stops, plays, least_space, next_call, next, Run, go_on, run, entry_bytes, most_space}
 
 -- ---- what comes next
 
 -- the same is asked before every call
-pub least-space : (c : Call) → leastSpace c ≡ mostSpace
-least-space (arrive key) = refl
-least-space (leave seat) = refl
-least-space (packetCall seat bytes) = refl
-least-space (tick time number) = refl
+pub least_space_lem : (c : Call) → least_space c ≡ most_space
+least_space_lem (arrive key) = refl
+least_space_lem (leave seat) = refl
+least_space_lem (packet_call seat bytes) = refl
+least_space_lem (tick time number) = refl
 
-pub space-within : (c : Call) → leastSpace c ≤ mostSpace
-space-within c = let e = least-space c in omega arith
+pub space_within : (c : Call) → least_space c ≤ most_space
+space_within c = let e = least_space_lem c in omega arith
 
 module _ (allowance : ℕ) (stored : List ℕ) (space : ℕ) where
-  pub next-end : length stored ≡ 0 → next allowance stored space ≡ stops End
+  pub next_end : length stored ≡ 0 → next allowance stored space ≡ stops End
   unfolding next
-  next-end e = simp (eq-eqb (length stored) 0 e)
+  next_end e = simp (eq-eqb (length stored) 0 e)
 
   module _ (more : length stored ≡ 0 → ⊥) where
-    pub next-allowance : allowance ≡ 0 → next allowance stored space ≡ stops Allowance
+    pub next_allowance : allowance ≡ 0 → next allowance stored space ≡ stops Allowance
     unfolding next
-    next-allowance e = simp (ne_eqb (length stored) 0 more, eq-eqb allowance 0 e)
+    next_allowance e = simp (ne_eqb (length stored) 0 more, eq-eqb allowance 0 e)
 
     module _ (allowed : allowance ≡ 0 → ⊥) where
-      pub next-no-call : firstCall stored ≡ none → next allowance stored space ≡ stops NoCall
-      unfolding next nextCall
-      next-no-call e = simp (ne_eqb (length stored) 0 more, ne_eqb allowance 0 allowed, e)
+      pub next_no_call : first_call stored ≡ none → next allowance stored space ≡ stops NoCall
+      unfolding next next_call
+      next_no_call e = simp (ne_eqb (length stored) 0 more, ne_eqb allowance 0 allowed, e)
 
-      pub next-output : (c : Call) → firstCall stored ≡ call c → space < leastSpace c → next allowance stored space ≡ stops Output
-      unfolding next nextCall
-      next-output c e h = simp (ne_eqb (length stored) 0 more, ne_eqb allowance 0 allowed, e, lt-leb (leastSpace c) space h)
+      pub next_output : (c : Call) → first_call stored ≡ call c → space < least_space c → next allowance stored space ≡ stops Output
+      unfolding next next_call
+      next_output c e h = simp (ne_eqb (length stored) 0 more, ne_eqb allowance 0 allowed, e, lt-leb (least_space c) space h)
 
-      pub next-plays : (c : Call) → firstCall stored ≡ call c → leastSpace c ≤ space → next allowance stored space ≡ plays c
-      unfolding next nextCall
-      next-plays c e h = simp (ne_eqb (length stored) 0 more, ne_eqb allowance 0 allowed, e, le-leb (leastSpace c) space h)
+      pub next_plays : (c : Call) → first_call stored ≡ call c → least_space c ≤ space → next allowance stored space ≡ plays c
+      unfolding next next_call
+      next_plays c e h = simp (ne_eqb (length stored) 0 more, ne_eqb allowance 0 allowed, e, le-leb (least_space c) space h)
 
 -- what a call that comes next says
 pub record Comes (allowance : ℕ) (stored : List ℕ) (space : ℕ) (c : Call) : Type 0 where
   pub allowed : allowance ≡ 0 → ⊥
-  pub first : firstCall stored ≡ call c
-  pub room : leastSpace c ≤ space
+  pub first : first_call stored ≡ call c
+  pub room : least_space c ≤ space
 
-pub next-is : (allowance : ℕ) (stored : List ℕ) (space : ℕ) (c : Call) → next allowance stored space ≡ plays c → Comes allowance stored space c
-unfolding next nextCall
-next-is allowance stored space c e = at-end (eqb (length stored) 0) e
+pub next_is : (allowance : ℕ) (stored : List ℕ) (space : ℕ) (c : Call) → next allowance stored space ≡ plays c → Comes allowance stored space c
+unfolding next next_call
+next_is allowance stored space c e = at_end (eqb (length stored) 0) e
   where
-    with_call : (f : First) → firstCall stored ≡ f → (allowance ≡ 0 → ⊥) → nextCall f space ≡ plays c → Comes allowance stored space c
+    with_call : (f : First) → first_call stored ≡ f → (allowance ≡ 0 → ⊥) → next_call f space ≡ plays c → Comes allowance stored space c
     with_call none q a e = let z : stops NoCall ≡ plays c = e in absurd (false≢true (cc))
-    with_call (call d) q a e = with-space (leb (leastSpace d) space) refl e
+    with_call (call d) q a e = with_space (leb (least_space d) space) refl e
       where
-        with-space : (t : Bool) → leb (leastSpace d) space ≡ t → cond t (plays d) (stops Output) ≡ plays c → Comes allowance stored space c
-        with-space true l e = let same : d ≡ c = cc in record {
+        with_space : (t : Bool) → leb (least_space d) space ≡ t → cond t (plays d) (stops Output) ≡ plays c → Comes allowance stored space c
+        with_space true l e = let same : d ≡ c = cc in record {
           allowed = a;
           first = q ∙ ap call same;
-          room = subst (λ (x : Call). leastSpace x ≤ space) same (leb-true (leastSpace d) space l);
+          room = subst (λ (x : Call). least_space x ≤ space) same (leb-true (least_space d) space l);
         }
-        with-space false l e = let z : stops Output ≡ plays c = e in absurd (false≢true (cc))
+        with_space false l e = let z : stops Output ≡ plays c = e in absurd (false≢true (cc))
 
-    at-allowance : (t : Bool) → eqb allowance 0 ≡ t → cond t (stops Allowance) (nextCall (firstCall stored) space) ≡ plays c → Comes allowance stored space c
-    at-allowance false q e = with_call (firstCall stored) refl (eqb-false allowance 0 q) e
-    at-allowance true q e = let z : stops Allowance ≡ plays c = e in absurd (false≢true (cc))
+    at_allowance : (t : Bool) → eqb allowance 0 ≡ t → cond t (stops Allowance) (next_call (first_call stored) space) ≡ plays c → Comes allowance stored space c
+    at_allowance false q e = with_call (first_call stored) refl (eqb-false allowance 0 q) e
+    at_allowance true q e = let z : stops Allowance ≡ plays c = e in absurd (false≢true (cc))
 
-    at-end : (t : Bool) → cond t (stops End) (cond (eqb allowance 0) (stops Allowance) (nextCall (firstCall stored) space)) ≡ plays c
+    at_end : (t : Bool) → cond t (stops End) (cond (eqb allowance 0) (stops Allowance) (next_call (first_call stored) space)) ≡ plays c
         → Comes allowance stored space c
-    at-end false e = at-allowance (eqb allowance 0) refl e
-    at-end true e = let z : stops End ≡ plays c = e in absurd (false≢true (cc))
+    at_end false e = at_allowance (eqb allowance 0) refl e
+    at_end true e = let z : stops End ≡ plays c = e in absurd (false≢true (cc))
 
 -- ---- a run
 
@@ -89,27 +89,27 @@ abbrev pub ended : Stop → Run
 ended why = record { calls = []; why = why }
 
 -- a call, and then a run
-abbrev pub firstThen : Call → Run → Run
-firstThen c r = record { calls = c ∷ r.calls; why = r.why }
+abbrev pub first_then : Call → Run → Run
+first_then c r = record { calls = c ∷ r.calls; why = r.why }
 
 module _ (sizes : Sizes) (room : Room) (stored : List ℕ) (space : ℕ) where
   -- the rest of a run, behind a call
   abbrev pub rest_of : ℕ → Call → Run
-  rest_of more c = run sizes more (roomAfter sizes room (outcome room c)) (drop (length (storedBytes c)) stored) (space - length (entryBytes (event room c)))
+  rest_of more c = run sizes more (room_after sizes room (outcome room c)) (drop (length (stored_bytes c)) stored) (space - length (entry_bytes (event room c)))
 
-  pub run-stops : (allowance : ℕ) (why : Stop) → next allowance stored space ≡ stops why → run sizes allowance room stored space ≡ ended why
-  unfolding run goOn next
-  run-stops zero why e = go (eqb (length stored) 0) e
+  pub run_stops : (allowance : ℕ) (why : Stop) → next allowance stored space ≡ stops why → run sizes allowance room stored space ≡ ended why
+  unfolding run go_on next
+  run_stops zero why e = go (eqb (length stored) 0) e
     where
       go : (t : Bool) → cond t (stops End) (stops Allowance) ≡ stops why → record { calls = []; why = cond t End Allowance } ≡ ended why
       go true e = let q : End ≡ why = cc in ap ended q
       go false e = let q : Allowance ≡ why = cc in ap ended q
-  run-stops (suc more) why e = ap (λ (x : Next). goOn x (rest_of more)) e
+  run_stops (suc more) why e = ap (λ (x : Next). go_on x (rest_of more)) e
 
-  pub run-plays : (allowance : ℕ) (c : Call) → next allowance stored space ≡ plays c
-      → run sizes allowance room stored space ≡ firstThen c (rest_of (allowance - 1) c)
-  unfolding run goOn
-  run-plays zero c e = absurd ((next-is 0 stored space c e).allowed refl)
-  run-plays (suc more) c e =
+  pub run_plays : (allowance : ℕ) (c : Call) → next allowance stored space ≡ plays c
+      → run sizes allowance room stored space ≡ first_then c (rest_of (allowance - 1) c)
+  unfolding run go_on
+  run_plays zero c e = absurd ((next_is 0 stored space c e).allowed refl)
+  run_plays (suc more) c e =
       let one_less : more ≡ suc more - 1 = omega arith in
-      ap (λ (x : Next). goOn x (rest_of more)) e ∙ ap (λ (k : ℕ). firstThen c (rest_of k c)) one_less
+      ap (λ (x : Next). go_on x (rest_of more)) e ∙ ap (λ (k : ℕ). first_then c (rest_of k c)) one_less

@@ -6,46 +6,46 @@ use Prim.Native.Nat.{ℕ, ◌-◌, ◌≤◌}
 use lib.Dec.{ltb}
 use lib.ListN.{get_or}
 use borrow.Author.Tests.{le-ltb}
-use Rattle.rules.specs.Room.{Key, Route, free, wants, Seat, isVacant, routesOf, routeAt, firstNumber}
+use Rattle.rules.specs.Room.{Key, Route, free, wants, Seat, is_vacant, routes_of, route_at, first_number}
 use Rattle.rules.specs.Outcome.{peer}
 use Rattle.room.specs.declared.lookup.Wanted.{Wanted}
 use Rattle.room.specs.declared.peer.Peer.{Peer}
-use Rattle.room_laws.specs.Layout.{routesTable}
-use Rattle.room_laws.specs.View.{viewRoom, viewRoutes}
-use Rattle.room_laws.specs.Whole.{roomWhole}
-use Rattle.room_laws.specs.Lookup.{taken, routeAtPlace, peerWanting}
-use Rattle.room.specs.Numbers.{routeNumbered, wantedOf, peerFound}
-use Rattle.room_laws.proofs.LookupLaws.{taken_is, route-at-place-is, peer-wanting-is}
+use Rattle.room_laws.specs.Layout.{routes_table}
+use Rattle.room_laws.specs.View.{view_room, view_routes}
+use Rattle.room_laws.specs.Whole.{room_whole}
+use Rattle.room_laws.specs.Lookup.{taken, route_at_place, peer_wanting}
+use Rattle.room.specs.Numbers.{route_numbered, wanted_of, peer_found}
+use Rattle.room_laws.proofs.LookupLaws.{taken_is, route_at_place_is, peer_wanting_is}
 use Rattle.relay.specs.Steps.{Sits}
 
-pub wanted-free : (r : Route) (w : Wanted) → w ≡ wantedOf r → w.held ≡ false → r ≡ free
-unfolding wantedOf
-wanted-free free w e h = refl
-wanted-free (wants key) w e h = let z : ◌≡◌ {A = Bool} true false = sym (ap (λ (x : Wanted). x.held) e) ∙ h in cc
+pub wanted_free : (r : Route) (w : Wanted) → w ≡ wanted_of r → w.held ≡ false → r ≡ free
+unfolding wanted_of
+wanted_free free w e h = refl
+wanted_free (wants key) w e h = let z : ◌≡◌ {A = Bool} true false = sym (ap (λ (x : Wanted). x.held) e) ∙ h in cc
 
-pub wanted-wants : (r : Route) (w : Wanted) → w ≡ wantedOf r → w.held ≡ true → r ≡ wants w.key.0
-unfolding wantedOf
-wanted-wants free w e h = let z : ◌≡◌ {A = Bool} false true = sym (ap (λ (x : Wanted). x.held) e) ∙ h in cc
-wanted-wants (wants key) w e h = ap (λ (x : Wanted). wants x.key.0) (sym e)
+pub wanted_wants : (r : Route) (w : Wanted) → w ≡ wanted_of r → w.held ≡ true → r ≡ wants w.key.0
+unfolding wanted_of
+wanted_wants free w e h = let z : ◌≡◌ {A = Bool} false true = sym (ap (λ (x : Wanted). x.held) e) ∙ h in cc
+wanted_wants (wants key) w e h = ap (λ (x : Wanted). wants x.key.0) (sym e)
 
-module _ (s n : ℕ) (b : List ℕ) (whole : roomWhole s n b ≡ true) (i : ℕ) (key : Key) (sits : Sits s n b i key) where
-  pub sits-taken : taken s n b i ≡ true
-  unfolding isVacant
-  sits-taken = taken_is s n b whole i ∙ ap (λ (x : Seat). not (isVacant x)) sits
+module _ (s n : ℕ) (b : List ℕ) (whole : room_whole s n b ≡ true) (i : ℕ) (key : Key) (sits : Sits s n b i key) where
+  pub sits_taken : taken s n b i ≡ true
+  unfolding is_vacant
+  sits_taken = taken_is s n b whole i ∙ ap (λ (x : Seat). not (is_vacant x)) sits
 
-  sits-route : (j : ℕ) → routeAtPlace s n b i j ≡ get_or (viewRoutes n (routesTable s n b i)) j free
-  unfolding routesOf
-  sits-route j = route-at-place-is s n b whole i sits-taken j ∙ ap (λ (x : Seat). get_or (routesOf x) j free) sits
+  sits_route : (j : ℕ) → route_at_place s n b i j ≡ get_or (view_routes n (routes_table s n b i)) j free
+  unfolding routes_of
+  sits_route j = route_at_place_is s n b whole i sits_taken j ∙ ap (λ (x : Seat). get_or (routes_of x) j free) sits
 
-  pub sits-numbered : (number : ℕ) → routeNumbered s n b i number ≡ routeAt (viewRoutes n (routesTable s n b i)) number
-  unfolding routeNumbered routeAt
-  sits-numbered number = ap (λ (r : Route). cond (ltb number firstNumber) free r) (sits-route (number - firstNumber))
+  pub sits_numbered : (number : ℕ) → route_numbered s n b i number ≡ route_at (view_routes n (routes_table s n b i)) number
+  unfolding route_numbered route_at
+  sits_numbered number = ap (λ (r : Route). cond (ltb number first_number) free r) (sits_route (number - first_number))
 
-pub route-of-number : (routes : List Route) (number : ℕ) → 16 ≤ number → routeAt routes number ≡ get_or routes (number - 16) free
-unfolding routeAt
-route-of-number routes number h = rw (le-ltb number firstNumber h)
+pub route_of_number : (routes : List Route) (number : ℕ) → 16 ≤ number → route_at routes number ≡ get_or routes (number - 16) free
+unfolding route_at
+route_of_number routes number h = rw (le-ltb number first_number h)
 
 -- the peer that the code found by the bytes is the one in the room
-pub peer-is : (s n : ℕ) (b : List ℕ) → roomWhole s n b ≡ true → (i : ℕ) (key wanted : Key) (p : Peer) → p ≡ peerFound (peerWanting s n b i key wanted)
-    → p ≡ peerFound (peer (viewRoom s n b) i key wanted)
-peer-is s n b whole i key wanted p e = e ∙ ap peerFound (peer-wanting-is s n b whole i key wanted)
+pub peer_is : (s n : ℕ) (b : List ℕ) → room_whole s n b ≡ true → (i : ℕ) (key wanted : Key) (p : Peer) → p ≡ peer_found (peer_wanting s n b i key wanted)
+    → p ≡ peer_found (peer (view_room s n b) i key wanted)
+peer_is s n b whole i key wanted p e = e ∙ ap peer_found (peer_wanting_is s n b whole i key wanted)

@@ -9,32 +9,32 @@ use native.Mathlib.Omega.{arith}
 use lib.ListN.{length, take, drop, take-append-drop}
 use lib.Seq.{drop-drop}
 use Rattle.rules.specs.Outcome.{outcome}
-use Rattle.rules.specs.Room.{sizesOf}
-use Rattle.room_laws.specs.View.{viewRoom}
-use Rattle.room_laws.specs.Whole.{roomWhole}
-use Rattle.room_laws.specs.Store.{storeAll}
-use Rattle.stored.specs.Stored.{storedBytes}
-use Rattle.stored.proofs.StoredLaws.{first-within}
+use Rattle.rules.specs.Room.{sizes_of}
+use Rattle.room_laws.specs.View.{view_room}
+use Rattle.room_laws.specs.Whole.{room_whole}
+use Rattle.room_laws.specs.Store.{store_all}
+use Rattle.stored.specs.Stored.{stored_bytes}
+use Rattle.stored.proofs.StoredLaws.{first_within}
 use Rattle.relay.specs.declared.play.Next as code
 use Rattle.relay.specs.declared.play.Run as answer
 use Rattle.relay.specs.declared.play.Stop.{Stop}
 use Rattle.records.specs.Output.{appended}
 use Rattle.relay.specs.Play.{Next, stops, plays, next, Run, run}
 use Rattle.relay.specs.PlaySteps.{Takes, stopped, played}
-use Rattle.relay.proofs.PlayLaws.{ended, run-stops, next-is}
+use Rattle.relay.proofs.PlayLaws.{ended, run_stops, next_is}
 use Rattle.relay.proofs.LentParts.{from, from_is, length_from, back, back_is}
-use Rattle.relay.proofs.RunCases.{Rests, left, rests-stopped, stepped-whole, stepped-length, rests-first}
+use Rattle.relay.proofs.RunCases.{Rests, left, rests_stopped, stepped_whole, stepped_length, rests_first}
 
-back-same : (at : ℕ) (l : List ℕ) → back at l (from at l) ≡ l
-back-same at l = back_is at l (from at l) ∙ ap (λ (x : List ℕ). take at l ++ x) (from_is at l) ∙ take-append-drop at l
+back_same : (at : ℕ) (l : List ℕ) → back at l (from at l) ≡ l
+back_same at l = back_is at l (from at l) ∙ ap (λ (x : List ℕ). take at l ++ x) (from_is at l) ∙ take-append-drop at l
 
-back-appended : (at : ℕ) (l new entry : List ℕ) → new ≡ entry ++ drop (length entry) (from at l) → back at l new ≡ appended l at entry
-back-appended at l new entry e =
+back_appended : (at : ℕ) (l new entry : List ℕ) → new ≡ entry ++ drop (length entry) (from at l) → back at l new ≡ appended l at entry
+back_appended at l new entry e =
     back_is at l new ∙ ap (λ (x : List ℕ). take at l ++ x) e
     ∙ ap (λ (x : List ℕ). take at l ++ (entry ++ drop (length entry) x)) (from_is at l)
     ∙ ap (λ (x : List ℕ). take at l ++ (entry ++ x)) (drop-drop (length entry) at l)
 
-module _ (s n allowance : ℕ) (stored : List ℕ) (calls bytes at : ℕ) (b out : List ℕ) (whole : roomWhole s n b ≡ true)
+module _ (s n allowance : ℕ) (stored : List ℕ) (calls bytes at : ℕ) (b out : List ℕ) (whole : room_whole s n b ≡ true)
     (few : calls ≤ allowance) (within : bytes ≤ length stored) (room : at ≤ length out) where
   -- what is left at the turn's beginning
   abbrev pub here : Run
@@ -49,14 +49,14 @@ module _ (s n allowance : ℕ) (stored : List ℕ) (calls bytes at : ℕ) (b out
       → given ≡ code.TheVariants.Stopped why → Rests s n calls bytes at here b out (answer.TheVariants.Stopped why calls bytes at) b₁ (back at out new)
   turn_last given why b₁ new (stopped w e g p q) h =
       let same : w ≡ why = cc in
-      let r : here ≡ ended why = run-stops (sizesOf s n) (viewRoom s n b) (drop bytes stored) (length out - at) (allowance - calls) why (next_here (stops why) (e ∙ ap stops same)) in
-      let o : back at out new ≡ out = ap (back at out) q ∙ back-same at out in
+      let r : here ≡ ended why = run_stops (sizes_of s n) (view_room s n b) (drop bytes stored) (length out - at) (allowance - calls) why (next_here (stops why) (e ∙ ap stops same)) in
+      let o : back at out new ≡ out = ap (back at out) q ∙ back_same at out in
       subst (λ (x : Run). Rests s n calls bytes at x b out (answer.TheVariants.Stopped why calls bytes at) b₁ (back at out new)) (sym r)
       (subst (λ (x : List ℕ). Rests s n calls bytes at (ended why) b out (answer.TheVariants.Stopped why calls bytes at) x (back at out new)) (sym p)
       (subst (λ (x : List ℕ). Rests s n calls bytes at (ended why) b out (answer.TheVariants.Stopped why calls bytes at) b x) (sym o)
-      (rests-stopped s n calls bytes at why b out)))
+      (rests_stopped s n calls bytes at why b out)))
   turn_last given why b₁ new (played c entry is e g p f q) h =
-      let z : code.TheVariants.Played (length (storedBytes c)) (length entry) ≡ code.TheVariants.Stopped why = sym g ∙ h in absurd (false≢true (cc))
+      let z : code.TheVariants.Played (length (stored_bytes c)) (length entry) ≡ code.TheVariants.Stopped why = sym g ∙ h in absurd (false≢true (cc))
 
   -- a turn that played a call of `size` bytes and wrote `more`
   pub record More (size more : ℕ) (b₁ new : List ℕ) : Type 0 where
@@ -64,7 +64,7 @@ module _ (s n allowance : ℕ) (stored : List ℕ) (calls bytes at : ℕ) (b out
     pub read : bytes + size ≤ length stored
     pub wrote : at + more ≤ length out
     pub long : length (back at out new) ≡ length out
-    pub still : roomWhole s n b₁ ≡ true
+    pub still : room_whole s n b₁ ≡ true
     pub goes_on : (given : answer.Run) (b' out' : List ℕ)
         → Rests s n (calls + 1) (bytes + size) (at + more) (left s n (allowance - (calls + 1)) (drop (bytes + size) stored) b₁ (back at out new) (at + more)) b₁ (back at out new) given b' out'
         → Rests s n calls bytes at here b out given b' out'
@@ -74,32 +74,32 @@ module _ (s n allowance : ℕ) (stored : List ℕ) (calls bytes at : ℕ) (b out
   turn_more given size more b₁ new (stopped w e g p q) h =
       let z : code.TheVariants.Stopped w ≡ code.TheVariants.Played size more = sym g ∙ h in absurd (false≢true (cc))
   turn_more given size more b₁ new (played c entry is e g p f q) h =
-      let z : code.TheVariants.Played (length (storedBytes c)) (length entry) ≡ code.TheVariants.Played size more = sym g ∙ h in
-      let takes : length (storedBytes c) ≡ size = cc in
+      let z : code.TheVariants.Played (length (stored_bytes c)) (length entry) ≡ code.TheVariants.Played size more = sym g ∙ h in
+      let takes : length (stored_bytes c) ≡ size = cc in
       let writes : length entry ≡ more = cc in
       let comes = next_here (plays c) e in
-      let i = next-is (allowance - calls) (from bytes stored) (length (from at out)) c e in
-      let w = first-within (from bytes stored) c i.first in
+      let i = next_is (allowance - calls) (from bytes stored) (length (from at out)) c e in
+      let w = first_within (from bytes stored) c i.first in
       let lf = length_from bytes stored in
       let lo = length_from at out in
       let fits : at + length entry ≤ length out = omega arith in
-      let o = back-appended at out new entry q in
+      let o = back_appended at out new entry q in
       let one_less : allowance - calls - 1 ≡ allowance - (calls + 1) = omega arith in
-      let dropped : drop (length (storedBytes c)) (drop bytes stored) ≡ drop (bytes + length (storedBytes c)) stored = drop-drop (length (storedBytes c)) bytes stored in
-      let stepped = storeAll s n b (outcome (viewRoom s n b) c).changes in
+      let dropped : drop (length (stored_bytes c)) (drop bytes stored) ≡ drop (bytes + length (stored_bytes c)) stored = drop-drop (length (stored_bytes c)) bytes stored in
+      let stepped = store_all s n b (outcome (view_room s n b) c).changes in
       let go : (given : answer.Run) (b' out' : List ℕ)
-      → Rests s n (calls + 1) (bytes + length (storedBytes c)) (at + length entry)
-      (left s n (allowance - (calls + 1)) (drop (bytes + length (storedBytes c)) stored) stepped (appended out at entry) (at + length entry)) stepped (appended out at entry) given b' out'
+      → Rests s n (calls + 1) (bytes + length (stored_bytes c)) (at + length entry)
+      (left s n (allowance - (calls + 1)) (drop (bytes + length (stored_bytes c)) stored) stepped (appended out at entry) (at + length entry)) stepped (appended out at entry) given b' out'
       → Rests s n calls bytes at here b out given b' out' = λ given b' out' r.
-      rests-first s n (allowance - calls) (drop bytes stored) b out calls bytes at c whole room comes entry is fits given b' out'
-      (subst (λ (x : Run). Rests s n (calls + 1) (bytes + length (storedBytes c)) (at + length entry) x stepped (appended out at entry) given b' out')
+      rests_first s n (allowance - calls) (drop bytes stored) b out calls bytes at c whole room comes entry is fits given b' out'
+      (subst (λ (x : Run). Rests s n (calls + 1) (bytes + length (stored_bytes c)) (at + length entry) x stepped (appended out at entry) given b' out')
       (sym (ap₂ (λ (m : ℕ) (l : List ℕ). left s n m l stepped (appended out at entry) (at + length entry)) one_less dropped)) r) in
       record {
         allowed = omega (arith, i.allowed);
         read = omega arith;
         wrote = omega arith;
-        long = ap length o ∙ stepped-length s n (allowance - calls) (drop bytes stored) b out calls bytes at c whole room comes entry is fits;
-        still = ap (roomWhole s n) p ∙ stepped-whole s n (allowance - calls) (drop bytes stored) b out calls bytes at c whole room comes entry is fits;
+        long = ap length o ∙ stepped_length s n (allowance - calls) (drop bytes stored) b out calls bytes at c whole room comes entry is fits;
+        still = ap (room_whole s n) p ∙ stepped_whole s n (allowance - calls) (drop bytes stored) b out calls bytes at c whole room comes entry is fits;
         goes_on = rw (← takes, ← writes, p, o) go;
       }
 
@@ -110,9 +110,9 @@ abbrev pub Leads : ℕ → ℕ → ℕ → List ℕ → List ℕ → List ℕ �
 Leads s n allowance stored b₀ out₀ b out calls bytes at =
     (given : answer.Run) (b' out' : List ℕ)
     → Rests s n calls bytes at (left s n (allowance - calls) (drop bytes stored) b out at) b out given b' out'
-    → Rests s n 0 0 0 (run (sizesOf s n) allowance (viewRoom s n b₀) stored (length out₀)) b₀ out₀ given b' out'
+    → Rests s n 0 0 0 (run (sizes_of s n) allowance (view_room s n b₀) stored (length out₀)) b₀ out₀ given b' out'
 
-pub leads-begun : (s n allowance : ℕ) (stored b out : List ℕ) → Leads s n allowance stored b out b out 0 0 0
-leads-begun s n allowance stored b out given b' out' r =
+pub leads_begun : (s n allowance : ℕ) (stored b out : List ℕ) → Leads s n allowance stored b out b out 0 0 0
+leads_begun s n allowance stored b out given b' out' r =
     subst (λ (x : Run). Rests s n 0 0 0 x b out given b' out')
-    (ap₂ (λ (m : ℕ) (l : ℕ). run (sizesOf s n) m (viewRoom s n b) stored l) (sub-zero allowance) (sub-zero (length out))) r
+    (ap₂ (λ (m : ℕ) (l : ℕ). run (sizes_of s n) m (view_room s n b) stored l) (sub-zero allowance) (sub-zero (length out))) r

@@ -4,14 +4,14 @@
 use Rattle.std.specs.Prelude.{cond, List, [], ◌∷◌, ◌++◌, ◌≡◌, ℕ, zero, suc, ◌+◌, ◌-◌, eqb, leb, length, drop}
 use Rattle.refusal.specs.declared.Refusal.TheVariants.{RoomNotWhole}
 use Rattle.rules.specs.Room.{Sizes, Room}
-use Rattle.rules.specs.Call.{Call, arrive, leave, needed, packetCall, tick}
-use Rattle.rules.specs.Outcome.{Change, outcome, roomAfter, sentBytes}
+use Rattle.rules.specs.Call.{Call, arrive, leave, needed, packet_call, tick}
+use Rattle.rules.specs.Outcome.{Change, outcome, room_after, sent_bytes}
 use Rattle.rules.specs.History.{Event, event, transcript}
-unfoldable pub use Rattle.records.specs.Entry.{entryHead}
-use Rattle.stored.specs.Stored.{storedBytes, storedAll, First, none, call, firstCall}
-use Rattle.room_laws.specs.View.{viewRoom}
-use Rattle.room_laws.specs.Whole.{roomWhole}
-use Rattle.room_laws.specs.Store.{storeAll}
+unfoldable pub use Rattle.records.specs.Entry.{entry_head}
+use Rattle.stored.specs.Stored.{stored_bytes, stored_all, First, none, call, first_call}
+use Rattle.room_laws.specs.View.{view_room}
+use Rattle.room_laws.specs.Whole.{room_whole}
+use Rattle.room_laws.specs.Store.{store_all}
 use Rattle.relay.specs.declared.play.Run as code
 use Rattle.relay.specs.declared.play.Stop.{Stop}
 use Rattle.relay.specs.declared.play.Stop.TheVariants.{End, NoCall, Allowance, Output}
@@ -19,12 +19,12 @@ use Rattle.relay.specs.declared.play.Stop.TheVariants.{End, NoCall, Allowance, O
 -- ---- what is written for a call
 
 -- the head and the records
-unfoldable pub entryBytes : Event → List ℕ
-entryBytes e = entryHead e.answer ++ sentBytes e.sent
+unfoldable pub entry_bytes : Event → List ℕ
+entry_bytes e = entry_head e.answer ++ sent_bytes e.sent
 
-unfoldable pub entriesBytes : List Event → List ℕ
-entriesBytes [] = []
-entriesBytes (e ∷ events) = entryBytes e ++ entriesBytes events
+unfoldable pub entries_bytes : List Event → List ℕ
+entries_bytes [] = []
+entries_bytes (e ∷ events) = entry_bytes e ++ entries_bytes events
 
 -- ---- which calls are played
 
@@ -34,49 +34,49 @@ pub data Next : Type 0 where
   plays : Call → Next
 
 -- a call is played with output for its head and for what it needs
-abbrev pub leastSpace : Call → ℕ
-leastSpace (arrive key) = 4 + needed (arrive key)
-leastSpace (leave seat) = 4 + needed (leave seat)
-leastSpace (packetCall seat bytes) = 4 + needed (packetCall seat bytes)
+abbrev pub least_space : Call → ℕ
+least_space (arrive key) = 4 + needed (arrive key)
+least_space (leave seat) = 4 + needed (leave seat)
+least_space (packet_call seat bytes) = 4 + needed (packet_call seat bytes)
 -- a tick has no stored form: this number is never used
-leastSpace (tick time number) = 4 + 2048
+least_space (tick time number) = 4 + 2048
 
 -- no stored call is asked for more
-abbrev pub mostSpace : ℕ
-mostSpace = 4 + 2048
+abbrev pub most_space : ℕ
+most_space = 4 + 2048
 
-unfoldable pub nextCall : First → ℕ → Next
-nextCall none space = stops NoCall
-nextCall (call c) space = cond (leb (leastSpace c) space) (plays c) (stops Output)
+unfoldable pub next_call : First → ℕ → Next
+next_call none space = stops NoCall
+next_call (call c) space = cond (leb (least_space c) space) (plays c) (stops Output)
 
 -- the grounds to stop, in the order in which they are tested
 unfoldable pub next : ℕ → List ℕ → ℕ → Next
 next allowance stored space =
     cond (eqb (length stored) 0) (stops End)
     (cond (eqb allowance 0) (stops Allowance)
-    (nextCall (firstCall stored) space))
+    (next_call (first_call stored) space))
 
 -- the calls that are played, and why no more are
 pub record Run : Type 0 where
   pub calls : List Call
   pub why : Stop
 
-unfoldable pub goOn : Next → (Call → Run) → Run
-goOn (stops why) later = record { calls = []; why = why }
-goOn (plays c) later = record { calls = c ∷ (later c).calls; why = (later c).why }
+unfoldable pub go_on : Next → (Call → Run) → Run
+go_on (stops why) later = record { calls = []; why = why }
+go_on (plays c) later = record { calls = c ∷ (later c).calls; why = (later c).why }
 
 -- from a room on: at most `allowance` calls, each from the room that the last returned, with `space` bytes of output left
 unfoldable pub run : Sizes → ℕ → Room → List ℕ → ℕ → Run
 run sizes zero room stored space = record { calls = []; why = cond (eqb (length stored) 0) End Allowance }
 run sizes (suc more) room stored space =
-    goOn (next (suc more) stored space)
-    (λ c. run sizes more (roomAfter sizes room (outcome room c)) (drop (length (storedBytes c)) stored) (space - length (entryBytes (event room c))))
+    go_on (next (suc more) stored space)
+    (λ c. run sizes more (room_after sizes room (outcome room c)) (drop (length (stored_bytes c)) stored) (space - length (entry_bytes (event room c))))
 
 -- ---- what a run changes
 
-unfoldable pub changesAll : Sizes → Room → List Call → List Change
-changesAll sizes room [] = []
-changesAll sizes room (c ∷ calls) = (outcome room c).changes ++ changesAll sizes (roomAfter sizes room (outcome room c)) calls
+unfoldable pub changes_all : Sizes → Room → List Call → List Change
+changes_all sizes room [] = []
+changes_all sizes room (c ∷ calls) = (outcome room c).changes ++ changes_all sizes (room_after sizes room (outcome room c)) calls
 
 -- ---- what a run comes to
 
@@ -88,10 +88,10 @@ pub record Playing : Type 0 where
 -- the counts of calls, of bytes read and of bytes written; the changes of all its calls; what is written for each
 unfoldable pub played : Sizes → Room → Run → Playing
 played sizes room r =
-    let bytes = entriesBytes (transcript sizes room r.calls) in
+    let bytes = entries_bytes (transcript sizes room r.calls) in
     record {
-      answer = code.TheVariants.Stopped r.why (length r.calls) (length (storedAll r.calls)) (length bytes);
-      changes = changesAll sizes room r.calls;
+      answer = code.TheVariants.Stopped r.why (length r.calls) (length (stored_all r.calls)) (length bytes);
+      changes = changes_all sizes room r.calls;
       bytes = bytes;
     }
 
@@ -99,13 +99,13 @@ played sizes room r =
 unfoldable pub playing : ℕ → ℕ → ℕ → List ℕ → List ℕ → List ℕ → Playing
 playing s n allowance stored b out =
     let sizes : Sizes = record { seats = s; numbers = n } in
-    cond (roomWhole s n b) (played sizes (viewRoom s n b) (run sizes allowance (viewRoom s n b) stored (length out)))
+    cond (room_whole s n b) (played sizes (view_room s n b) (run sizes allowance (view_room s n b) stored (length out)))
     (record { answer = code.TheVariants.Refused RoomNotWhole; changes = []; bytes = [] })
 
 -- what it leaves: the answer, the room with the changes stored, the output with what is written and what stood behind it
 pub record LeavesRun (s n : ℕ) (p : Playing) (b out : List ℕ) (given : code.Run) (b' out' : List ℕ) : Type 0 where
   pub answers : given ≡ p.answer
-  pub stores : b' ≡ storeAll s n b p.changes
+  pub stores : b' ≡ store_all s n b p.changes
   pub writes : out' ≡ p.bytes ++ drop (length p.bytes) out
 
 -- THE PUBLIC CALL: a run of stored calls, one relation as each single call is one (`relay_laws`, `Calls.antt`)

@@ -3,10 +3,10 @@
 ghost use Rattle.std.specs.Prelude.{◌≡◌, true, ◌≤◌, length};
 ghost use Rattle.rules.specs.Call.{arrive};
 ghost use Rattle.rules.specs.Outcome.{outcome};
-ghost use Rattle.room_laws.specs.View.{viewRoom};
-ghost use Rattle.room_laws.specs.Whole.{roomWhole};
+ghost use Rattle.room_laws.specs.View.{view_room};
+ghost use Rattle.room_laws.specs.Whole.{room_whole};
 ghost use Rattle.relay_laws.specs.Calls.{answer_of, Leaves};
-ghost use Rattle.relay_laws.specs.Steps.{Made, departureOf, TakesSeat};
+ghost use Rattle.relay_laws.specs.Steps.{Made, departure_of, TakesSeat};
 
 use crate::leave;
 use key::Key;
@@ -23,8 +23,8 @@ fn leave_if_seated(
     key: Key,
     out: &mut [u8],
 ) -> usize
-    requires { (roomWhole seats numbers memory.old ≡ true) × (2048 ≤ length out.old) }
-    ensures { Made seats numbers (departureOf seats numbers memory.old key.0) memory.old out.old 0 memory.new result out.new }
+    requires { (room_whole seats numbers memory.old ≡ true) × (2048 ≤ length out.old) }
+    ensures { Made seats numbers (departure_of seats numbers memory.old key.0) memory.old out.old 0 memory.new result out.new }
 {
     let FoundSeat::At(old) = lookup::seat_of(memory, seats, numbers, key) else {
         return 0;
@@ -34,7 +34,7 @@ fn leave_if_seated(
 
 // A key that sits nowhere in a whole room takes the lowest empty seat: 1. The answer counts the bytes that the call has written.
 fn take_seat(memory: &mut [u8], seats: usize, numbers: usize, key: Key, written: usize) -> Answer
-    requires { roomWhole seats numbers memory.old ≡ true }
+    requires { room_whole seats numbers memory.old ≡ true }
     ensures { TakesSeat seats numbers key.0 memory.old written (answer_of result) memory.new }
 {
     let FoundSeat::At(seat) = lookup::lowest_empty(memory, seats, numbers) else {
@@ -52,8 +52,8 @@ pub(crate) fn step(
     key: Key,
     out: &mut [u8],
 ) -> Answer
-    requires { (roomWhole seats numbers memory.old ≡ true) × (2048 ≤ length out.old) }
-    ensures { Leaves seats numbers (outcome (viewRoom seats numbers memory.old) (arrive key.0)) memory.old out.old (answer_of result) memory.new out.new }
+    requires { (room_whole seats numbers memory.old ≡ true) × (2048 ≤ length out.old) }
+    ensures { Leaves seats numbers (outcome (view_room seats numbers memory.old) (arrive key.0)) memory.old out.old (answer_of result) memory.new out.new }
 {
     let written = leave_if_seated(memory, seats, numbers, key, out);
     take_seat(memory, seats, numbers, key, written)

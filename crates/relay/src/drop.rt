@@ -1,9 +1,9 @@
 // Drops: "Drop(number) frees it. A connected peer is told disconnected. The dropper hears nothing."
 ghost use Rattle.std.specs.Prelude.{◌≡◌, true, ◌≤◌, length};
-ghost use Rattle.packet_laws.specs.FromClient.{dropRoute};
+ghost use Rattle.packet_laws.specs.FromClient.{drop_route};
 ghost use Rattle.rules.specs.Outcome.{act};
-ghost use Rattle.room_laws.specs.View.{viewRoom, seatHeld};
-ghost use Rattle.room_laws.specs.Whole.{roomWhole};
+ghost use Rattle.room_laws.specs.View.{view_room, seat_held};
+ghost use Rattle.room_laws.specs.Whole.{room_whole};
 ghost use Rattle.relay_laws.specs.Calls.{answer_of, Leaves};
 ghost use Rattle.relay.specs.Steps.{Sits};
 
@@ -25,8 +25,8 @@ pub(crate) fn step(
     number: ConnectionNumber,
     out: &mut [u8],
 ) -> Answer
-    requires { (roomWhole seats numbers memory.old ≡ true) × Sits seats numbers memory.old seat.0 key.0 × (2048 ≤ length out.old) }
-    ensures { Leaves seats numbers (act (dropRoute number.0) (viewRoom seats numbers memory.old) seat.0 (seatHeld seats numbers memory.old seat.0 key.0)) memory.old out.old (answer_of result) memory.new out.new }
+    requires { (room_whole seats numbers memory.old ≡ true) × Sits seats numbers memory.old seat.0 key.0 × (2048 ≤ length out.old) }
+    ensures { Leaves seats numbers (act (drop_route number.0) (view_room seats numbers memory.old) seat.0 (seat_held seats numbers memory.old seat.0 key.0)) memory.old out.old (answer_of result) memory.new out.new }
 {
     let wanted = lookup::wanted_by(memory, seats, numbers, seat, number);
     if !wanted.held {

@@ -3,10 +3,10 @@
 ghost use Rattle.std.specs.Prelude.{◌≡◌, true, ◌+◌, ◌-◌, ◌≤◌, length, get_or};
 ghost use Rattle.rules.specs.Room.{free};
 ghost use Rattle.rules.specs.Call.{leave};
-ghost use Rattle.rules.specs.Outcome.{outcome, tellPeer, tellPeers};
-ghost use Rattle.room_laws.specs.Layout.{routesTable};
-ghost use Rattle.room_laws.specs.View.{viewRoom, viewRoutes};
-ghost use Rattle.room_laws.specs.Whole.{roomWhole};
+ghost use Rattle.rules.specs.Outcome.{outcome, tell_peer, tell_peers};
+ghost use Rattle.room_laws.specs.Layout.{routes_table};
+ghost use Rattle.room_laws.specs.View.{view_room, view_routes};
+ghost use Rattle.room_laws.specs.Whole.{room_whole};
 ghost use Rattle.records.specs.Output.{Appends};
 ghost use Rattle.relay_laws.specs.Calls.{answer_of, Leaves};
 ghost use Rattle.room_laws.specs.Lookup.{taken};
@@ -32,8 +32,8 @@ pub(crate) fn tell_peer(
     out: &mut [u8],
     at: usize,
 ) -> usize
-    requires { (roomWhole seats numbers memory.now ≡ true) × Sits seats numbers memory.now seat.0 key.0 × (at + 5 ≤ length out.old) × (16 ≤ number.0) }
-    ensures { Appends (tellPeer (viewRoom seats numbers memory.now) seat.0 key.0 (get_or (viewRoutes numbers (routesTable seats numbers memory.now seat.0)) (number.0 - 16) free)) out.old at result out.new }
+    requires { (room_whole seats numbers memory.now ≡ true) × Sits seats numbers memory.now seat.0 key.0 × (at + 5 ≤ length out.old) × (16 ≤ number.0) }
+    ensures { Appends (tell_peer (view_room seats numbers memory.now) seat.0 key.0 (get_or (view_routes numbers (routes_table seats numbers memory.now seat.0)) (number.0 - 16) free)) out.old at result out.new }
 {
     let wanted = lookup::wanted_by(memory, seats, numbers, seat, number);
     if !wanted.held {
@@ -55,8 +55,8 @@ fn tell_peers(
     out: &mut [u8],
     at: usize,
 ) -> usize
-    requires { (roomWhole seats numbers memory.now ≡ true) × Sits seats numbers memory.now seat.0 key.0 × TellsFit seats numbers memory.now seat.0 key.0 out.old at }
-    ensures { Appends (tellPeers (viewRoom seats numbers memory.now) seat.0 key.0 (viewRoutes numbers (routesTable seats numbers memory.now seat.0))) out.old at result out.new }
+    requires { (room_whole seats numbers memory.now ≡ true) × Sits seats numbers memory.now seat.0 key.0 × TellsFit seats numbers memory.now seat.0 key.0 out.old at }
+    ensures { Appends (tell_peers (view_room seats numbers memory.now) seat.0 key.0 (view_routes numbers (routes_table seats numbers memory.now seat.0))) out.old at result out.new }
 {
     let mut next = at;
     let mut place = 0;
@@ -77,7 +77,7 @@ pub(crate) fn depart(
     out: &mut [u8],
     at: usize,
 ) -> usize
-    requires { (roomWhole seats numbers memory.old ≡ true) × (taken seats numbers memory.old seat.0 ≡ true) × LeaveFits seats numbers memory.old seat.0 out.old at }
+    requires { (room_whole seats numbers memory.old ≡ true) × (taken seats numbers memory.old seat.0 ≡ true) × LeaveFits seats numbers memory.old seat.0 out.old at }
     ensures { Made seats numbers (departure seats numbers memory.old seat.0) memory.old out.old at memory.new result out.new }
 {
     let key = lookup::key_in(memory, seats, numbers, seat);
@@ -94,8 +94,8 @@ pub(crate) fn step(
     seat: Seat,
     out: &mut [u8],
 ) -> Answer
-    requires { (roomWhole seats numbers memory.old ≡ true) × (2048 ≤ length out.old) }
-    ensures { Leaves seats numbers (outcome (viewRoom seats numbers memory.old) (leave seat.0)) memory.old out.old (answer_of result) memory.new out.new }
+    requires { (room_whole seats numbers memory.old ≡ true) × (2048 ≤ length out.old) }
+    ensures { Leaves seats numbers (outcome (view_room seats numbers memory.old) (leave seat.0)) memory.old out.old (answer_of result) memory.new out.new }
 {
     if !lookup::is_taken(memory, seats, numbers, seat) {
         return Answer::Refused(Refusal::NotSeated);

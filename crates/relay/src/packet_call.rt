@@ -1,11 +1,11 @@
 // The packets of a client: what each asks for. "Order for a packet call: 10, 11, 3, 4, 5, 6, 7, 8, 9": the seat, then what the relay reads, then what
 // it asks for.
 ghost use Rattle.std.specs.Prelude.{◌≡◌, true, ◌≤◌, length};
-ghost use Rattle.packet_laws.specs.FromClient.{relayRead};
-ghost use Rattle.rules.specs.Call.{packetCall};
-ghost use Rattle.rules.specs.Outcome.{outcome, actOn};
-ghost use Rattle.room_laws.specs.View.{viewRoom, seatHeld};
-ghost use Rattle.room_laws.specs.Whole.{roomWhole};
+ghost use Rattle.packet_laws.specs.FromClient.{relay_read};
+ghost use Rattle.rules.specs.Call.{packet_call};
+ghost use Rattle.rules.specs.Outcome.{outcome, act_on};
+ghost use Rattle.room_laws.specs.View.{view_room, seat_held};
+ghost use Rattle.room_laws.specs.Whole.{room_whole};
 ghost use Rattle.relay_laws.specs.Calls.{answer_of, Leaves};
 ghost use Rattle.relay.specs.Steps.{Sits, Shows};
 
@@ -29,8 +29,8 @@ fn act(
     shown: ClientPacket,
     out: &mut [u8],
 ) -> Answer
-    requires { (roomWhole seats numbers memory.old ≡ true) × Sits seats numbers memory.old seat.0 key.0 × Shows packet.now shown × (2048 ≤ length out.old) }
-    ensures { Leaves seats numbers (actOn (relayRead packet.now) (viewRoom seats numbers memory.old) seat.0 (seatHeld seats numbers memory.old seat.0 key.0)) memory.old out.old (answer_of result) memory.new out.new }
+    requires { (room_whole seats numbers memory.old ≡ true) × Sits seats numbers memory.old seat.0 key.0 × Shows packet.now shown × (2048 ≤ length out.old) }
+    ensures { Leaves seats numbers (act_on (relay_read packet.now) (view_room seats numbers memory.old) seat.0 (seat_held seats numbers memory.old seat.0 key.0)) memory.old out.old (answer_of result) memory.new out.new }
 {
     match shown {
         ClientPacket::RoutingRequest { key: _ } => request::step(
@@ -79,8 +79,8 @@ pub(crate) fn step(
     packet: &[u8],
     out: &mut [u8],
 ) -> Answer
-    requires { (roomWhole seats numbers memory.old ≡ true) × (2048 ≤ length out.old) }
-    ensures { Leaves seats numbers (outcome (viewRoom seats numbers memory.old) (packetCall seat.0 packet.now)) memory.old out.old (answer_of result) memory.new out.new }
+    requires { (room_whole seats numbers memory.old ≡ true) × (2048 ≤ length out.old) }
+    ensures { Leaves seats numbers (outcome (view_room seats numbers memory.old) (packet_call seat.0 packet.now)) memory.old out.old (answer_of result) memory.new out.new }
 {
     if !lookup::is_taken(memory, seats, numbers, seat) {
         return Answer::Refused(Refusal::NotSeated);

@@ -1,6 +1,6 @@
 // Stored calls, played one after the other. The room is tested once: each step leaves a whole room for the next.
 ghost use Rattle.std.specs.Prelude.{◌≡◌, true, ◌≤◌, length};
-ghost use Rattle.room_laws.specs.Whole.{roomWhole};
+ghost use Rattle.room_laws.specs.Whole.{room_whole};
 ghost use Rattle.relay_laws.specs.Calls.{answer_of};
 ghost use Rattle.relay.specs.Play.{Plays};
 ghost use Rattle.relay.specs.PlaySteps.{Reads, Makes, Takes, RunsOn};
@@ -59,7 +59,7 @@ fn make(
     calls: &[u8],
     out: &mut [u8],
 ) -> Answer
-    requires { (roomWhole seats numbers memory.old ≡ true) × Reads calls.now call × (2048 ≤ length out.old) }
+    requires { (room_whole seats numbers memory.old ≡ true) × Reads calls.now call × (2048 ≤ length out.old) }
     ensures { Makes seats numbers calls.now memory.old out.old (answer_of result) memory.new out.new }
 {
     match call {
@@ -87,7 +87,7 @@ fn play_next(
     allowance: usize,
     out: &mut [u8],
 ) -> Next
-    requires { roomWhole seats numbers memory.old ≡ true }
+    requires { room_whole seats numbers memory.old ≡ true }
     ensures { Takes seats numbers allowance calls.now memory.old out.old result memory.new out.new }
 {
     if calls.len() == 0 {
@@ -120,7 +120,7 @@ fn play_all(
     allowance: usize,
     out: &mut [u8],
 ) -> Run
-    requires { roomWhole seats numbers memory.old ≡ true }
+    requires { room_whole seats numbers memory.old ≡ true }
     ensures { RunsOn seats numbers allowance calls.now memory.old out.old result memory.new out.new }
 {
     let mut played = 0;

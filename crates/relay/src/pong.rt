@@ -1,6 +1,6 @@
 // Pongs: document 02, "A pong with the outstanding number clears it; other pongs do nothing."
 ghost use Rattle.std.specs.Prelude.{◌≡◌, true};
-ghost use Rattle.room_laws.specs.Whole.{roomWhole};
+ghost use Rattle.room_laws.specs.Whole.{room_whole};
 ghost use Rattle.relay_laws.specs.Calls.{answer_of};
 ghost use Rattle.relay.specs.Steps.{Pongs};
 
@@ -16,7 +16,7 @@ pub(crate) fn step(
     seat: Seat,
     number: u64,
 ) -> Answer
-    requires { roomWhole seats numbers memory.old ≡ true }
+    requires { room_whole seats numbers memory.old ≡ true }
     ensures { Pongs seats numbers seat.0 number memory.old (answer_of result) memory.new }
 {
     if lookup::outstanding(memory, seats, numbers, seat) == number {

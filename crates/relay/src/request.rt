@@ -3,13 +3,13 @@
 // taken, or, with none free, the answer is 0 and nothing changes. Then, if the two are now connected, connected is sent to the asker, then to the peer,
 // each with its own number."
 ghost use Rattle.std.specs.Prelude.{◌≡◌, true, ◌+◌, ◌≤◌, length};
-ghost use Rattle.packet_laws.specs.FromClient.{routingRequest};
-ghost use Rattle.rules.specs.Outcome.{act, answerOnly, tellBoth};
-ghost use Rattle.room_laws.specs.View.{viewRoom, seatHeld};
-ghost use Rattle.room_laws.specs.Whole.{roomWhole};
+ghost use Rattle.packet_laws.specs.FromClient.{routing_request};
+ghost use Rattle.rules.specs.Outcome.{act, answer_only, tell_both};
+ghost use Rattle.room_laws.specs.View.{view_room, seat_held};
+ghost use Rattle.room_laws.specs.Whole.{room_whole};
 ghost use Rattle.records.specs.Output.{Appends, Answers};
 ghost use Rattle.relay_laws.specs.Calls.{answer_of, Leaves};
-ghost use Rattle.room.specs.Numbers.{peerOf, PeerRight};
+ghost use Rattle.room.specs.Numbers.{peer_of, PeerRight};
 ghost use Rattle.relay.specs.Steps.{Sits, Gives, Carries};
 
 use key::Key;
@@ -23,7 +23,7 @@ use seat::Seat;
 // Both are told that they are connected: the asker, then the peer.
 fn tell_both(out: &mut [u8], at: usize, seat: Seat, number: ConnectionNumber, peer: Peer) -> usize
     requires { (at + 10 ≤ length out.old) × (16 ≤ number.0) × PeerRight peer }
-    ensures { Appends (tellBoth seat.0 number.0 (peerOf peer)) out.old at result out.new }
+    ensures { Appends (tell_both seat.0 number.0 (peer_of peer)) out.old at result out.new }
 {
     match peer {
         Peer::Joined(other, theirs) => {
@@ -46,7 +46,7 @@ fn give(
     number: ConnectionNumber,
     out: &mut [u8],
 ) -> usize
-    requires { (roomWhole seats numbers memory.old ≡ true) × (2048 ≤ length out.old) × (16 ≤ number.0) }
+    requires { (room_whole seats numbers memory.old ≡ true) × (2048 ≤ length out.old) × (16 ≤ number.0) }
     ensures { Gives seats numbers memory.old seat.0 key.0 wanted.0 number.0 out.old result memory.new out.new }
 {
     let peer = peer::of(memory, seats, numbers, seat, key, wanted);
@@ -58,7 +58,7 @@ fn give(
 // The answer, with a number or with 0 for none, "and nothing else happens".
 fn answer_only(out: &mut [u8], seat: Seat, number: ConnectionNumber, wanted: Key) -> Answer
     requires { (2048 ≤ length out.old) × Answers number.0 }
-    ensures { Carries (answerOnly seat.0 number.0 wanted.0) out.old (answer_of result) out.new }
+    ensures { Carries (answer_only seat.0 number.0 wanted.0) out.old (answer_of result) out.new }
 {
     let written = record::response(out, 0, seat, number, wanted);
     Answer::Accepted(seat, written)
@@ -74,8 +74,8 @@ pub(crate) fn step(
     wanted: Key,
     out: &mut [u8],
 ) -> Answer
-    requires { (roomWhole seats numbers memory.old ≡ true) × Sits seats numbers memory.old seat.0 key.0 × (2048 ≤ length out.old) }
-    ensures { Leaves seats numbers (act (routingRequest wanted.0) (viewRoom seats numbers memory.old) seat.0 (seatHeld seats numbers memory.old seat.0 key.0)) memory.old out.old (answer_of result) memory.new out.new }
+    requires { (room_whole seats numbers memory.old ≡ true) × Sits seats numbers memory.old seat.0 key.0 × (2048 ≤ length out.old) }
+    ensures { Leaves seats numbers (act (routing_request wanted.0) (view_room seats numbers memory.old) seat.0 (seat_held seats numbers memory.old seat.0 key.0)) memory.old out.old (answer_of result) memory.new out.new }
 {
     if wanted.equals(key) {
         return answer_only(out, seat, ConnectionNumber(0), wanted);

@@ -1,14 +1,14 @@
 // Ticks: document 02, "Notice dead laptops". "First, in rising seat order, every seat whose ping has stood unanswered for 10 seconds or more leaves as if it had
 // called. Then every remaining seat with none outstanding, last pinged 30 seconds ago or more, is pinged in that order." Ages go by the tick's time.
 ghost use Rattle.std.specs.Prelude.{◌≡◌, true, ◌≤◌, ◌<◌, ◌+◌, length};
-ghost use Rattle.rules.specs.Room.{seatAt};
+ghost use Rattle.rules.specs.Room.{seat_at};
 ghost use Rattle.rules.specs.Call.{tick};
-ghost use Rattle.rules.specs.Outcome.{outcome, isOverdue, isDue};
-ghost use Rattle.room_laws.specs.View.{viewRoom};
-ghost use Rattle.room_laws.specs.Whole.{roomWhole};
+ghost use Rattle.rules.specs.Outcome.{outcome, is_overdue, is_due};
+ghost use Rattle.room_laws.specs.View.{view_room};
+ghost use Rattle.room_laws.specs.Whole.{room_whole};
 ghost use Rattle.relay_laws.specs.Calls.{answer_of, Leaves};
-ghost use Rattle.room_laws.specs.Lookup.{pingTimeOf};
-ghost use Rattle.relay_laws.specs.Steps.{Made, NotBefore, hasPassed, putOutOne, pingOne, PutsOut, PingsDue};
+ghost use Rattle.room_laws.specs.Lookup.{ping_time_of};
+ghost use Rattle.relay_laws.specs.Steps.{Made, NotBefore, has_passed, put_out_one, ping_one, PutsOut, PingsDue};
 
 use crate::leave;
 use records::{Answer, record};
@@ -24,7 +24,7 @@ const PING_EVERY: u64 = 30;
 
 // Whether so many seconds or more have passed since the last ping of a seat. What stands in an empty seat may be any time.
 fn passed(memory: &[u8], seats: usize, numbers: usize, seat: Seat, time: u64, seconds: u64) -> bool
-    ensures { result ≡ hasPassed (pingTimeOf seats numbers memory.now seat.0) time seconds }
+    ensures { result ≡ has_passed (ping_time_of seats numbers memory.now seat.0) time seconds }
 {
     let since = lookup::ping_time(memory, seats, numbers, seat);
     if time < since {
@@ -35,8 +35,8 @@ fn passed(memory: &[u8], seats: usize, numbers: usize, seat: Seat, time: u64, se
 
 // Whether the client in a seat has left a ping unanswered for 10 seconds or more.
 fn is_overdue(memory: &[u8], seats: usize, numbers: usize, seat: Seat, time: u64) -> bool
-    requires { (roomWhole seats numbers memory.now ≡ true) × NotBefore seats numbers memory.now time }
-    ensures { result ≡ isOverdue time (seatAt (viewRoom seats numbers memory.now) seat.0) }
+    requires { (room_whole seats numbers memory.now ≡ true) × NotBefore seats numbers memory.now time }
+    ensures { result ≡ is_overdue time (seat_at (view_room seats numbers memory.now) seat.0) }
 {
     if lookup::outstanding(memory, seats, numbers, seat) == 0 {
         return false;
@@ -49,8 +49,8 @@ fn is_overdue(memory: &[u8], seats: usize, numbers: usize, seat: Seat, time: u64
 
 // Whether the client in a seat is to be pinged.
 fn is_due(memory: &[u8], seats: usize, numbers: usize, seat: Seat, time: u64) -> bool
-    requires { (roomWhole seats numbers memory.now ≡ true) × NotBefore seats numbers memory.now time }
-    ensures { result ≡ isDue time (seatAt (viewRoom seats numbers memory.now) seat.0) }
+    requires { (room_whole seats numbers memory.now ≡ true) × NotBefore seats numbers memory.now time }
+    ensures { result ≡ is_due time (seat_at (view_room seats numbers memory.now) seat.0) }
 {
     if lookup::outstanding(memory, seats, numbers, seat) != 0 {
         return false;
@@ -72,8 +72,8 @@ fn put_out_one(
     out: &mut [u8],
     at: usize,
 ) -> usize
-    requires { (roomWhole seats numbers memory.old ≡ true) × NotBefore seats numbers memory.old time × (at + 1205 ≤ length out.old) }
-    ensures { Made seats numbers (putOutOne seats numbers time memory.old seat.0) memory.old out.old at memory.new result out.new }
+    requires { (room_whole seats numbers memory.old ≡ true) × NotBefore seats numbers memory.old time × (at + 1205 ≤ length out.old) }
+    ensures { Made seats numbers (put_out_one seats numbers time memory.old seat.0) memory.old out.old at memory.new result out.new }
 {
     if !is_overdue(memory, seats, numbers, seat, time) {
         return at;
@@ -83,7 +83,7 @@ fn put_out_one(
 
 // Every client that has left a ping unanswered for 10 seconds or more leaves, in rising seat order, one after the other. All together write 3,900 bytes at most.
 fn put_out(memory: &mut [u8], seats: usize, numbers: usize, time: u64, out: &mut [u8]) -> usize
-    requires { (roomWhole seats numbers memory.old ≡ true) × NotBefore seats numbers memory.old time × (5120 ≤ length out.old) }
+    requires { (room_whole seats numbers memory.old ≡ true) × NotBefore seats numbers memory.old time × (5120 ≤ length out.old) }
     ensures { PutsOut seats numbers time memory.old out.old memory.new result out.new }
 {
     let mut at = 0;
@@ -106,8 +106,8 @@ fn ping_one(
     out: &mut [u8],
     at: usize,
 ) -> usize
-    requires { (roomWhole seats numbers memory.old ≡ true) × NotBefore seats numbers memory.old time × (0 < number) × (at + 12 ≤ length out.old) }
-    ensures { Made seats numbers (pingOne seats numbers time number memory.old seat.0) memory.old out.old at memory.new result out.new }
+    requires { (room_whole seats numbers memory.old ≡ true) × NotBefore seats numbers memory.old time × (0 < number) × (at + 12 ≤ length out.old) }
+    ensures { Made seats numbers (ping_one seats numbers time number memory.old seat.0) memory.old out.old at memory.new result out.new }
 {
     if !is_due(memory, seats, numbers, seat, time) {
         return at;
@@ -126,7 +126,7 @@ fn ping_due(
     out: &mut [u8],
     at: usize,
 ) -> usize
-    requires { (roomWhole seats numbers memory.old ≡ true) × ((viewRoom seats numbers memory.old).clock ≡ time) × (0 < number) × (at + 480 ≤ length out.old) }
+    requires { (room_whole seats numbers memory.old ≡ true) × ((view_room seats numbers memory.old).clock ≡ time) × (0 < number) × (at + 480 ≤ length out.old) }
     ensures { PingsDue seats numbers time number memory.old out.old at memory.new result out.new }
 {
     let mut next = at;
@@ -156,8 +156,8 @@ pub(crate) fn step(
     number: u64,
     out: &mut [u8],
 ) -> Answer
-    requires { (roomWhole seats numbers memory.old ≡ true) × (5120 ≤ length out.old) }
-    ensures { Leaves seats numbers (outcome (viewRoom seats numbers memory.old) (tick time number)) memory.old out.old (answer_of result) memory.new out.new }
+    requires { (room_whole seats numbers memory.old ≡ true) × (5120 ≤ length out.old) }
+    ensures { Leaves seats numbers (outcome (view_room seats numbers memory.old) (tick time number)) memory.old out.old (answer_of result) memory.new out.new }
 {
     if number == 0 {
         return Answer::Refused(Refusal::ZeroPing);

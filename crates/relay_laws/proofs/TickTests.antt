@@ -8,64 +8,64 @@ use Prim.Native.Nat.{ℕ, ◌-◌, ◌≤◌}
 use native.Mathlib.Omega.{arith}
 use lib.Dec.{eqb, ltb, leb}
 use borrow.Author.Tests.{le-ltb, eq-eqb, ne_eqb}
-use Rattle.rules.specs.Room.{Held, Seat, vacant, holds, isVacant, pingIn, seatAt}
-use Rattle.rules.specs.Outcome.{overdue, isOverdue, isDue}
-use Rattle.room_laws.specs.View.{viewRoom}
-use Rattle.room_laws.specs.Whole.{roomWhole}
-use Rattle.room_laws.specs.Lookup.{taken, pingTimeOf, outstandingOf}
-use Rattle.room_laws.proofs.LookupLaws.{taken_is, ping-time-is, outstanding-is}
-use Rattle.room_laws.proofs.WholeLaws.{whole-view}
-use Rattle.relay_laws.specs.Steps.{NotBefore, hasPassed}
+use Rattle.rules.specs.Room.{Held, Seat, vacant, holds, is_vacant, ping_in, seat_at}
+use Rattle.rules.specs.Outcome.{overdue, is_overdue, is_due}
+use Rattle.room_laws.specs.View.{view_room}
+use Rattle.room_laws.specs.Whole.{room_whole}
+use Rattle.room_laws.specs.Lookup.{taken, ping_time_of, outstanding_of}
+use Rattle.room_laws.proofs.LookupLaws.{taken_is, ping_time_is, outstanding_is}
+use Rattle.room_laws.proofs.WholeLaws.{whole_view}
+use Rattle.relay_laws.specs.Steps.{NotBefore, has_passed}
 
-module _ (s n : ℕ) (b : List ℕ) (whole : roomWhole s n b ≡ true) (time : ℕ) (now : NotBefore s n b time) (i : ℕ) where
+module _ (s n : ℕ) (b : List ℕ) (whole : room_whole s n b ≡ true) (time : ℕ) (now : NotBefore s n b time) (i : ℕ) where
   -- a time that has come
-  passed-held : (held : Held) → seatAt (viewRoom s n b) i ≡ holds held → (seconds : ℕ) → hasPassed (pingTimeOf s n b i) time seconds ≡ leb seconds (time - held.ping.time)
-  unfolding hasPassed
-  passed-held held e seconds =
-      let p : held.ping.time ≤ (viewRoom s n b).clock = (whole-view s n b whole).pingTimes i held e in
-      rw (ping-time-is s n b whole i held e, le-ltb time held.ping.time (omega arith))
+  passed_held : (held : Held) → seat_at (view_room s n b) i ≡ holds held → (seconds : ℕ) → has_passed (ping_time_of s n b i) time seconds ≡ leb seconds (time - held.ping.time)
+  unfolding has_passed
+  passed_held held e seconds =
+      let p : held.ping.time ≤ (view_room s n b).clock = (whole_view s n b whole).ping_times i held e in
+      rw (ping_time_is s n b whole i held e, le-ltb time held.ping.time (omega arith))
 
-  overdue-told : (not (eqb (outstandingOf s n b i) 0) && (hasPassed (pingTimeOf s n b i) time 10 && taken s n b i)) ≡ isOverdue time (seatAt (viewRoom s n b) i)
-  unfolding isOverdue overdue pingIn isVacant
-  overdue-told = rw (taken_is s n b whole i) (go (seatAt (viewRoom s n b) i) refl)
+  overdue_told : (not (eqb (outstanding_of s n b i) 0) && (has_passed (ping_time_of s n b i) time 10 && taken s n b i)) ≡ is_overdue time (seat_at (view_room s n b) i)
+  unfolding is_overdue overdue ping_in is_vacant
+  overdue_told = rw (taken_is s n b whole i) (go (seat_at (view_room s n b) i) refl)
     where
-      go : (x : Seat) → seatAt (viewRoom s n b) i ≡ x
-          → (not (eqb (outstandingOf s n b i) 0) && (hasPassed (pingTimeOf s n b i) time 10 && not (isVacant x))) ≡ isOverdue time x
-      go vacant e = ap (λ (t : Bool). not (eqb (outstandingOf s n b i) 0) && t) (and-false (hasPassed (pingTimeOf s n b i) time 10)) ∙ and-false (not (eqb (outstandingOf s n b i) 0))
-      go (holds held) e = rw (outstanding-is s n b whole i held e, passed-held held e 10, and-true (leb 10 (time - held.ping.time)))
+      go : (x : Seat) → seat_at (view_room s n b) i ≡ x
+          → (not (eqb (outstanding_of s n b i) 0) && (has_passed (ping_time_of s n b i) time 10 && not (is_vacant x))) ≡ is_overdue time x
+      go vacant e = ap (λ (t : Bool). not (eqb (outstanding_of s n b i) 0) && t) (and-false (has_passed (ping_time_of s n b i) time 10)) ∙ and-false (not (eqb (outstanding_of s n b i) 0))
+      go (holds held) e = rw (outstanding_is s n b whole i held e, passed_held held e 10, and-true (leb 10 (time - held.ping.time)))
 
-  due-told : (eqb (outstandingOf s n b i) 0 && (hasPassed (pingTimeOf s n b i) time 30 && taken s n b i)) ≡ isDue time (seatAt (viewRoom s n b) i)
-  unfolding isDue isVacant
-  due-told = rw (taken_is s n b whole i) (go (seatAt (viewRoom s n b) i) refl)
+  due_told : (eqb (outstanding_of s n b i) 0 && (has_passed (ping_time_of s n b i) time 30 && taken s n b i)) ≡ is_due time (seat_at (view_room s n b) i)
+  unfolding is_due is_vacant
+  due_told = rw (taken_is s n b whole i) (go (seat_at (view_room s n b) i) refl)
     where
-      go : (x : Seat) → seatAt (viewRoom s n b) i ≡ x
-          → (eqb (outstandingOf s n b i) 0 && (hasPassed (pingTimeOf s n b i) time 30 && not (isVacant x))) ≡ isDue time x
-      go vacant e = ap (λ (t : Bool). eqb (outstandingOf s n b i) 0 && t) (and-false (hasPassed (pingTimeOf s n b i) time 30)) ∙ and-false (eqb (outstandingOf s n b i) 0)
-      go (holds held) e = rw (outstanding-is s n b whole i held e, passed-held held e 30, and-true (leb 30 (time - held.ping.time)))
+      go : (x : Seat) → seat_at (view_room s n b) i ≡ x
+          → (eqb (outstanding_of s n b i) 0 && (has_passed (ping_time_of s n b i) time 30 && not (is_vacant x))) ≡ is_due time x
+      go vacant e = ap (λ (t : Bool). eqb (outstanding_of s n b i) 0 && t) (and-false (has_passed (ping_time_of s n b i) time 30)) ∙ and-false (eqb (outstanding_of s n b i) 0)
+      go (holds held) e = rw (outstanding_is s n b whole i held e, passed_held held e 30, and-true (leb 30 (time - held.ping.time)))
 
   -- ---- the three tests, one after the other
 
   abbrev none : Bool
-  none = eqb (outstandingOf s n b i) 0
+  none = eqb (outstanding_of s n b i) 0
 
   abbrev since : ℕ → Bool
-  since seconds = hasPassed (pingTimeOf s n b i) time seconds
+  since seconds = has_passed (ping_time_of s n b i) time seconds
 
-  pub none-outstanding : outstandingOf s n b i ≡ 0 → false ≡ isOverdue time (seatAt (viewRoom s n b) i)
-  none-outstanding e = sym (ap (λ (t : Bool). not t && (since 10 && taken s n b i)) (eq-eqb (outstandingOf s n b i) 0 e)) ∙ overdue-told
+  pub none_outstanding : outstanding_of s n b i ≡ 0 → false ≡ is_overdue time (seat_at (view_room s n b) i)
+  none_outstanding e = sym (ap (λ (t : Bool). not t && (since 10 && taken s n b i)) (eq-eqb (outstanding_of s n b i) 0 e)) ∙ overdue_told
 
-  pub not-overdue-yet : hasPassed (pingTimeOf s n b i) time 10 ≡ false → false ≡ isOverdue time (seatAt (viewRoom s n b) i)
-  not-overdue-yet e = sym (and-false (not none)) ∙ sym (ap (λ (t : Bool). not none && (t && taken s n b i)) e) ∙ overdue-told
+  pub not_overdue_yet : has_passed (ping_time_of s n b i) time 10 ≡ false → false ≡ is_overdue time (seat_at (view_room s n b) i)
+  not_overdue_yet e = sym (and-false (not none)) ∙ sym (ap (λ (t : Bool). not none && (t && taken s n b i)) e) ∙ overdue_told
 
-  pub overdue-if-taken : outstandingOf s n b i ≢ 0 → hasPassed (pingTimeOf s n b i) time 10 ≡ true → taken s n b i ≡ isOverdue time (seatAt (viewRoom s n b) i)
-  overdue-if-taken h e =
-      sym (ap₂ (λ (t u : Bool). not t && (u && taken s n b i)) (ne_eqb (outstandingOf s n b i) 0 h) e) ∙ overdue-told
+  pub overdue_if_taken : outstanding_of s n b i ≢ 0 → has_passed (ping_time_of s n b i) time 10 ≡ true → taken s n b i ≡ is_overdue time (seat_at (view_room s n b) i)
+  overdue_if_taken h e =
+      sym (ap₂ (λ (t u : Bool). not t && (u && taken s n b i)) (ne_eqb (outstanding_of s n b i) 0 h) e) ∙ overdue_told
 
-  pub one-outstanding : outstandingOf s n b i ≢ 0 → false ≡ isDue time (seatAt (viewRoom s n b) i)
-  one-outstanding h = sym (ap (λ (t : Bool). t && (since 30 && taken s n b i)) (ne_eqb (outstandingOf s n b i) 0 h)) ∙ due-told
+  pub one_outstanding : outstanding_of s n b i ≢ 0 → false ≡ is_due time (seat_at (view_room s n b) i)
+  one_outstanding h = sym (ap (λ (t : Bool). t && (since 30 && taken s n b i)) (ne_eqb (outstanding_of s n b i) 0 h)) ∙ due_told
 
-  pub not-due-yet : hasPassed (pingTimeOf s n b i) time 30 ≡ false → false ≡ isDue time (seatAt (viewRoom s n b) i)
-  not-due-yet e = sym (and-false none) ∙ sym (ap (λ (t : Bool). none && (t && taken s n b i)) e) ∙ due-told
+  pub not_due_yet : has_passed (ping_time_of s n b i) time 30 ≡ false → false ≡ is_due time (seat_at (view_room s n b) i)
+  not_due_yet e = sym (and-false none) ∙ sym (ap (λ (t : Bool). none && (t && taken s n b i)) e) ∙ due_told
 
-  pub due-if-taken : outstandingOf s n b i ≡ 0 → hasPassed (pingTimeOf s n b i) time 30 ≡ true → taken s n b i ≡ isDue time (seatAt (viewRoom s n b) i)
-  due-if-taken h e = sym (ap₂ (λ (t u : Bool). t && (u && taken s n b i)) (eq-eqb (outstandingOf s n b i) 0 h) e) ∙ due-told
+  pub due_if_taken : outstanding_of s n b i ≡ 0 → has_passed (ping_time_of s n b i) time 30 ≡ true → taken s n b i ≡ is_due time (seat_at (view_room s n b) i)
+  due_if_taken h e = sym (ap₂ (λ (t u : Bool). t && (u && taken s n b i)) (eq-eqb (outstanding_of s n b i) 0 h) e) ∙ due_told

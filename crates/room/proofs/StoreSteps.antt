@@ -8,47 +8,47 @@ use native.Mathlib.Omega.{arith}
 use lib.ListN.{length, take, drop, set, length-append}
 use lib.Seq.{length-take-le, take_at, drop_at, drop-drop, set_split}
 use borrow.Author.Tests.{lt-ltb, le-ltb}
-use Rattle.wire.proofs.Numbers.{length-bytesOf}
+use Rattle.wire.proofs.Numbers.{length_bytes_of}
 use Rattle.table_laws.specs.Bytes.{splice}
-use Rattle.table_laws.specs.Table.{put_in, freedIn}
-use Rattle.rules.specs.Room.{Key, firstNumber}
-use Rattle.rules.specs.Outcome.{seatTaken, seatEmptied, clockSet, pingSent, pingAnswered}
-use Rattle.room_laws.specs.Layout.{word_bytes, clockStart, keyBytes, routesBytes, seatBytes, seatsBytes, roomHeader, fitsRoom, seatTable, pingStart, outstandingStart, routesStart, routesTable}
+use Rattle.table_laws.specs.Table.{put_in, freed_in}
+use Rattle.rules.specs.Room.{Key, first_number}
+use Rattle.rules.specs.Outcome.{seat_taken, seat_emptied, clock_set, ping_sent, ping_answered}
+use Rattle.room_laws.specs.Layout.{word_bytes, clock_start, key_bytes, routes_bytes, seat_bytes, seats_bytes, room_header, fits_room, seat_table, ping_start, outstanding_start, routes_start, routes_table}
 use Rattle.room_laws.specs.View.{word_at}
-use Rattle.room_laws.specs.Store.{word_of, emptied, newSeat, withClock, withPingAt, withOutstanding, withSeats, withRoutes, store, MakesEmpty}
-use Rattle.room_laws.specs.Lookup.{hasSeat}
-use Rattle.room.specs.Numbers.{givenNumber, freedNumber}
+use Rattle.room_laws.specs.Store.{word_of, emptied, new_seat, with_clock, with_ping_at, with_outstanding, with_seats, with_routes, store, MakesEmpty}
+use Rattle.room_laws.specs.Lookup.{has_seat}
+use Rattle.room.specs.Numbers.{given_number, freed_number}
 
 module _ (s n : ℕ) (b : List ℕ) where
-  pub store-taken : fitsRoom s n b ≡ true → (i : ℕ) (key : Key) → store s n b (seatTaken i key) ≡ splice b roomHeader (put_in s (seatBytes n) (seatTable s n b) i (newSeat (word_at clockStart b) key)) (seatsBytes s n)
-  unfolding store withSeats
-  store-taken h i key = rw h
+  pub store_taken : fits_room s n b ≡ true → (i : ℕ) (key : Key) → store s n b (seat_taken i key) ≡ splice b room_header (put_in s (seat_bytes n) (seat_table s n b) i (new_seat (word_at clock_start b) key)) (seats_bytes s n)
+  unfolding store with_seats
+  store_taken h i key = rw h
 
-  pub store-taken-not : fitsRoom s n b ≡ false → (i : ℕ) (key : Key) → store s n b (seatTaken i key) ≡ b
+  pub store_taken_not : fits_room s n b ≡ false → (i : ℕ) (key : Key) → store s n b (seat_taken i key) ≡ b
   unfolding store
-  store-taken-not h i key = rw h
+  store_taken_not h i key = rw h
 
-  pub store-emptied : fitsRoom s n b ≡ true → (i : ℕ) → store s n b (seatEmptied i) ≡ splice b roomHeader (freedIn s (seatTable s n b) i) (seatsBytes s n)
-  unfolding store withSeats
-  store-emptied h i = rw h
+  pub store_emptied : fits_room s n b ≡ true → (i : ℕ) → store s n b (seat_emptied i) ≡ splice b room_header (freed_in s (seat_table s n b) i) (seats_bytes s n)
+  unfolding store with_seats
+  store_emptied h i = rw h
 
-  pub store-emptied-not : fitsRoom s n b ≡ false → (i : ℕ) → store s n b (seatEmptied i) ≡ b
+  pub store_emptied_not : fits_room s n b ≡ false → (i : ℕ) → store s n b (seat_emptied i) ≡ b
   unfolding store
-  store-emptied-not h i = rw h
+  store_emptied_not h i = rw h
 
-  pub store-clock : fitsRoom s n b ≡ true → (time : ℕ) → store s n b (clockSet time) ≡ splice b clockStart (word_of time) word_bytes
-  unfolding store withClock
-  store-clock h time = rw h
+  pub store_clock : fits_room s n b ≡ true → (time : ℕ) → store s n b (clock_set time) ≡ splice b clock_start (word_of time) word_bytes
+  unfolding store with_clock
+  store_clock h time = rw h
 
-  pub store-clock-not : fitsRoom s n b ≡ false → (time : ℕ) → store s n b (clockSet time) ≡ b
+  pub store_clock_not : fits_room s n b ≡ false → (time : ℕ) → store s n b (clock_set time) ≡ b
   unfolding store
-  store-clock-not h time = rw h
+  store_clock_not h time = rw h
 
 -- ---- the ping of a seat
 
 -- a part replaced, and then the part behind it
-pub splice-twice : (b x y : List ℕ) (at k m : ℕ) → length x ≡ k → at ≤ length b → splice (splice b at x k) (at + k) y m ≡ splice b at (x ++ y) (k + m)
-splice-twice b x y at k m e h =
+pub splice_twice : (b x y : List ℕ) (at k m : ℕ) → length x ≡ k → at ≤ length b → splice (splice b at x k) (at + k) y m ≡ splice b at (x ++ y) (k + m)
+splice_twice b x y at k m e h =
     let behind = drop k (drop at b) in
     let front : length (take at b ++ x) ≡ at + k = let q = length-take-le at b h in rw length-append (omega arith) in
     let first : splice b at x k ≡ (take at b ++ x) ++ behind = sym (append_assoc (take at b) x behind) in
@@ -59,72 +59,72 @@ splice-twice b x y at k m e h =
     (sym (append_assoc x y (drop m behind)) ∙ ap (λ (q : List ℕ). (x ++ y) ++ q) (drop-drop m k (drop at b)))
 
 module _ (s n : ℕ) (b : List ℕ) (i : ℕ) where
-  pub store-sent : hasSeat s n b i ≡ true → pingStart s n i ≤ length b → (time number : ℕ) →
-      splice (splice b (pingStart s n i) (word_of time) word_bytes) (outstandingStart s n i) (word_of number) word_bytes ≡ store s n b (pingSent i time number)
-  unfolding store hasSeat withPingAt
-  store-sent h within time number =
-      ap (λ (x : ℕ). splice (splice b (pingStart s n i) (word_of time) word_bytes) x (word_of number) word_bytes)
-      (let q : outstandingStart s n i ≡ pingStart s n i + word_bytes = omega arith in q)
-      ∙ splice-twice b (word_of time) (word_of number) (pingStart s n i) word_bytes word_bytes (length-bytesOf word_bytes time) within ∙ rw h
+  pub store_sent : has_seat s n b i ≡ true → ping_start s n i ≤ length b → (time number : ℕ) →
+      splice (splice b (ping_start s n i) (word_of time) word_bytes) (outstanding_start s n i) (word_of number) word_bytes ≡ store s n b (ping_sent i time number)
+  unfolding store has_seat with_ping_at
+  store_sent h within time number =
+      ap (λ (x : ℕ). splice (splice b (ping_start s n i) (word_of time) word_bytes) x (word_of number) word_bytes)
+      (let q : outstanding_start s n i ≡ ping_start s n i + word_bytes = omega arith in q)
+      ∙ splice_twice b (word_of time) (word_of number) (ping_start s n i) word_bytes word_bytes (length_bytes_of word_bytes time) within ∙ rw h
 
-  pub store-sent-not : hasSeat s n b i ≡ false → (time number : ℕ) → store s n b (pingSent i time number) ≡ b
-  unfolding store hasSeat
-  store-sent-not h time number = rw h
+  pub store_sent_not : has_seat s n b i ≡ false → (time number : ℕ) → store s n b (ping_sent i time number) ≡ b
+  unfolding store has_seat
+  store_sent_not h time number = rw h
 
-  pub store-answered : hasSeat s n b i ≡ true → store s n b (pingAnswered i) ≡ splice b (outstandingStart s n i) (word_of 0) word_bytes
-  unfolding store hasSeat withOutstanding
-  store-answered h = rw h
+  pub store_answered : has_seat s n b i ≡ true → store s n b (ping_answered i) ≡ splice b (outstanding_start s n i) (word_of 0) word_bytes
+  unfolding store has_seat with_outstanding
+  store_answered h = rw h
 
-  pub store-answered-not : hasSeat s n b i ≡ false → store s n b (pingAnswered i) ≡ b
-  unfolding store hasSeat
-  store-answered-not h = rw h
+  pub store_answered_not : has_seat s n b i ≡ false → store s n b (ping_answered i) ≡ b
+  unfolding store has_seat
+  store_answered_not h = rw h
 
 -- ---- the routes of a seat
 
 module _ (s n : ℕ) (b : List ℕ) (i number : ℕ) where
-  pub number-low : number < firstNumber → (key : Key) → givenNumber s n b i number key ≡ b
-  unfolding givenNumber
-  number-low h key = rw (lt-ltb number firstNumber h)
+  pub number_low : number < first_number → (key : Key) → given_number s n b i number key ≡ b
+  unfolding given_number
+  number_low h key = rw (lt-ltb number first_number h)
 
-  pub number-low-freed : number < firstNumber → freedNumber s n b i number ≡ b
-  unfolding freedNumber
-  number-low-freed h = rw (lt-ltb number firstNumber h)
+  pub number_low_freed : number < first_number → freed_number s n b i number ≡ b
+  unfolding freed_number
+  number_low_freed h = rw (lt-ltb number first_number h)
 
-  pub given-not : firstNumber ≤ number → hasSeat s n b i ≡ false → (key : Key) → givenNumber s n b i number key ≡ b
-  unfolding givenNumber store hasSeat
-  given-not l h key = rw (le-ltb number firstNumber l, h)
+  pub given_not : first_number ≤ number → has_seat s n b i ≡ false → (key : Key) → given_number s n b i number key ≡ b
+  unfolding given_number store has_seat
+  given_not l h key = rw (le-ltb number first_number l, h)
 
-  pub freed-not : firstNumber ≤ number → hasSeat s n b i ≡ false → freedNumber s n b i number ≡ b
-  unfolding freedNumber store hasSeat
-  freed-not l h = rw (le-ltb number firstNumber l, h)
+  pub freed_not : first_number ≤ number → has_seat s n b i ≡ false → freed_number s n b i number ≡ b
+  unfolding freed_number store has_seat
+  freed_not l h = rw (le-ltb number first_number l, h)
 
-  pub given-in : firstNumber ≤ number → hasSeat s n b i ≡ true → (key : Key) →
-      givenNumber s n b i number key ≡ splice b (routesStart s n i) (put_in n keyBytes (routesTable s n b i) (number - firstNumber) key) (routesBytes n)
-  unfolding givenNumber store hasSeat withRoutes
-  given-in l h key = rw (le-ltb number firstNumber l, h)
+  pub given_in : first_number ≤ number → has_seat s n b i ≡ true → (key : Key) →
+      given_number s n b i number key ≡ splice b (routes_start s n i) (put_in n key_bytes (routes_table s n b i) (number - first_number) key) (routes_bytes n)
+  unfolding given_number store has_seat with_routes
+  given_in l h key = rw (le-ltb number first_number l, h)
 
-  pub freed-in : firstNumber ≤ number → hasSeat s n b i ≡ true →
-      freedNumber s n b i number ≡ splice b (routesStart s n i) (freedIn n (routesTable s n b i) (number - firstNumber)) (routesBytes n)
-  unfolding freedNumber store hasSeat withRoutes
-  freed-in l h = rw (le-ltb number firstNumber l, h)
+  pub freed_in_lem : first_number ≤ number → has_seat s n b i ≡ true →
+      freed_number s n b i number ≡ splice b (routes_start s n i) (freed_in n (routes_table s n b i) (number - first_number)) (routes_bytes n)
+  unfolding freed_number store has_seat with_routes
+  freed_in_lem l h = rw (le-ltb number first_number l, h)
 
 -- ---- the empty room
 
 -- its sizes, the count of its seats and its clock
-pub empty-written : (s n : ℕ) (b : List ℕ) → 11 ≤ length b → splice (set (set (set b 0 s) 1 n) roomHeader 0) clockStart (word_of 0) word_bytes ≡ emptied s n b
+pub empty_written : (s n : ℕ) (b : List ℕ) → 11 ≤ length b → splice (set (set (set b 0 s) 1 n) room_header 0) clock_start (word_of 0) word_bytes ≡ emptied s n b
 unfolding emptied
-empty-written s n [] h = absurd (not-suc-le-zero h)
-empty-written s n (x ∷ []) h = absurd (not-suc-le-zero (le_of_suc-le-suc h))
-empty-written s n (x ∷ y ∷ b) h =
+empty_written s n [] h = absurd (not-suc-le-zero h)
+empty_written s n (x ∷ []) h = absurd (not-suc-le-zero (le_of_suc-le-suc h))
+empty_written s n (x ∷ y ∷ b) h =
     let e = set_split b word_bytes 0 (omega arith) in
     let l = length-take-le word_bytes b (omega arith) in
     ap (λ (l : List ℕ). s ∷ n ∷ (word_of 0 ++ l)) (ap (drop word_bytes) e ∙ drop_at (take word_bytes b) (0 ∷ drop 9 b) word_bytes l)
 
 module _ (s n : ℕ) (b : List ℕ) where
-  pub makes-empty : fitsRoom s n b ≡ true → (left : List ℕ) → left ≡ emptied s n b → MakesEmpty s n b left true
-  makes-empty h left e = record { answers = rw h; leaves = rw h e }
+  pub makes_empty : fits_room s n b ≡ true → (left : List ℕ) → left ≡ emptied s n b → MakesEmpty s n b left true
+  makes_empty h left e = record { answers = rw h; leaves = rw h e }
 
-  pub makes_none : fitsRoom s n b ≡ false → MakesEmpty s n b b false
+  pub makes_none : fits_room s n b ≡ false → MakesEmpty s n b b false
   makes_none h = record { answers = rw h; leaves = rw h }
 
 -- a part that was lent comes back: where it stood, how long it is and what it holds now

@@ -1,9 +1,9 @@
 // The changes of a room, each a change of one of its tables, of its clock or of a seat's ping. Nothing is asked of the memory; on a whole room, a change that the
 // rules make leaves a whole room.
 ghost use Rattle.std.specs.Prelude.{◌≡◌};
-ghost use Rattle.rules.specs.Outcome.{seatTaken, seatEmptied, clockSet, pingSent, pingAnswered};
+ghost use Rattle.rules.specs.Outcome.{seat_taken, seat_emptied, clock_set, ping_sent, ping_answered};
 ghost use Rattle.room_laws.specs.Store.{store};
-ghost use Rattle.room.specs.Numbers.{givenNumber, freedNumber};
+ghost use Rattle.room.specs.Numbers.{given_number, freed_number};
 
 use crate::empty::Room;
 use crate::{layout, lookup};
@@ -13,7 +13,7 @@ use seat::Seat;
 
 // A seat, which is empty, is taken by a key.
 pub fn take_seat(memory: &mut [u8], seats: usize, numbers: usize, seat: Seat, key: Key)
-    ensures { memory.new ≡ store seats numbers memory.old (seatTaken seat.0 key.0) }
+    ensures { memory.new ≡ store seats numbers memory.old (seat_taken seat.0 key.0) }
 {
     if !layout::fits(memory, seats, numbers) {
         return;
@@ -32,7 +32,7 @@ pub fn take_seat(memory: &mut [u8], seats: usize, numbers: usize, seat: Seat, ke
 
 // A seat is emptied, and its routes with it.
 pub fn empty_seat(memory: &mut [u8], seats: usize, numbers: usize, seat: Seat)
-    ensures { memory.new ≡ store seats numbers memory.old (seatEmptied seat.0) }
+    ensures { memory.new ≡ store seats numbers memory.old (seat_emptied seat.0) }
 {
     if !layout::fits(memory, seats, numbers) {
         return;
@@ -54,7 +54,7 @@ pub fn give_route(
     number: ConnectionNumber,
     key: Key,
 )
-    ensures { memory.new ≡ givenNumber seats numbers memory.old seat.0 number.0 key.0 }
+    ensures { memory.new ≡ given_number seats numbers memory.old seat.0 number.0 key.0 }
 {
     if number.0 < Room::FIRST_NUMBER {
         return;
@@ -77,7 +77,7 @@ pub fn free_route(
     seat: Seat,
     number: ConnectionNumber,
 )
-    ensures { memory.new ≡ freedNumber seats numbers memory.old seat.0 number.0 }
+    ensures { memory.new ≡ freed_number seats numbers memory.old seat.0 number.0 }
 {
     if number.0 < Room::FIRST_NUMBER {
         return;
@@ -93,7 +93,7 @@ pub fn free_route(
 
 // The clock is set to a time.
 pub fn set_clock(memory: &mut [u8], seats: usize, numbers: usize, time: u64)
-    ensures { memory.new ≡ store seats numbers memory.old (clockSet time) }
+    ensures { memory.new ≡ store seats numbers memory.old (clock_set time) }
 {
     if !layout::fits(memory, seats, numbers) {
         return;
@@ -103,7 +103,7 @@ pub fn set_clock(memory: &mut [u8], seats: usize, numbers: usize, time: u64)
 
 // A seat was pinged at a time, with a number.
 pub fn set_ping(memory: &mut [u8], seats: usize, numbers: usize, seat: Seat, time: u64, number: u64)
-    ensures { memory.new ≡ store seats numbers memory.old (pingSent seat.0 time number) }
+    ensures { memory.new ≡ store seats numbers memory.old (ping_sent seat.0 time number) }
 {
     if !lookup::has_seat(memory, seats, numbers, seat) {
         return;
@@ -116,7 +116,7 @@ pub fn set_ping(memory: &mut [u8], seats: usize, numbers: usize, seat: Seat, tim
 
 // The ping of a seat was answered: none is outstanding any more.
 pub fn clear_ping(memory: &mut [u8], seats: usize, numbers: usize, seat: Seat)
-    ensures { memory.new ≡ store seats numbers memory.old (pingAnswered seat.0) }
+    ensures { memory.new ≡ store seats numbers memory.old (ping_answered seat.0) }
 {
     if !lookup::has_seat(memory, seats, numbers, seat) {
         return;

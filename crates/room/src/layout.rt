@@ -5,10 +5,10 @@
 //     route   | wanted key (32) |
 ghost use Rattle.std.specs.Prelude.{◌≡◌, true, ◌+◌, ◌<◌, ◌≤◌, length};
 ghost use Rattle.table_laws.specs.Bytes.{splice};
-ghost use Rattle.room_laws.specs.Layout.{routesBytes, seatBytes, roomBytes, sizesRight, fitsRoom, seatTable, seatStart, pingStart, outstandingStart, routesStart, routesEnd, routesTable};
-ghost use Rattle.room_laws.specs.View.{word_at, number_at, clockIn, seatPing};
-ghost use Rattle.room_laws.specs.Whole.{headerRight};
-ghost use Rattle.room_laws.specs.Store.{word_of, emptied, newSeat};
+ghost use Rattle.room_laws.specs.Layout.{routes_bytes, seat_bytes, room_bytes, sizes_right, fits_room, seat_table, seat_start, ping_start, outstanding_start, routes_start, routes_end, routes_table};
+ghost use Rattle.room_laws.specs.View.{word_at, number_at, clock_in, seat_ping};
+ghost use Rattle.room_laws.specs.Whole.{header_right};
+ghost use Rattle.room_laws.specs.Store.{word_of, emptied, new_seat};
 
 use key::Key;
 
@@ -42,7 +42,7 @@ pub(crate) const NEW_SEAT: usize = ROUTES_IN_SEAT + 1;
 
 // Whether a room can be of these sizes.
 pub fn sizes_right(seats: usize, numbers: usize) -> bool
-    ensures { result ≡ sizesRight seats numbers }
+    ensures { result ≡ sizes_right seats numbers }
 {
     if MOST_SEATS < seats {
         return false;
@@ -53,7 +53,7 @@ pub fn sizes_right(seats: usize, numbers: usize) -> bool
 // The bytes of a table of routes.
 pub(crate) fn routes_bytes(numbers: usize) -> usize
     requires { numbers ≤ 240 }
-    ensures { result ≡ routesBytes numbers }
+    ensures { result ≡ routes_bytes numbers }
 {
     1 + numbers + numbers * Key::BYTES
 }
@@ -61,7 +61,7 @@ pub(crate) fn routes_bytes(numbers: usize) -> usize
 // The bytes of a seat.
 pub(crate) fn seat_bytes(numbers: usize) -> usize
     requires { numbers ≤ 240 }
-    ensures { result ≡ seatBytes numbers }
+    ensures { result ≡ seat_bytes numbers }
 {
     ROUTES_IN_SEAT + routes_bytes(numbers)
 }
@@ -69,7 +69,7 @@ pub(crate) fn seat_bytes(numbers: usize) -> usize
 // The bytes of a room.
 pub(crate) fn room_bytes(seats: usize, numbers: usize) -> usize
     requires { (seats ≤ 40) × (numbers ≤ 240) }
-    ensures { result ≡ roomBytes seats numbers }
+    ensures { result ≡ room_bytes seats numbers }
 {
     let width = seat_bytes(numbers);
     SEATS_START + (1 + seats + seats * width)
@@ -78,7 +78,7 @@ pub(crate) fn room_bytes(seats: usize, numbers: usize) -> usize
 // Where a seat stands.
 fn seat_start(seats: usize, numbers: usize, seat: usize) -> usize
     requires { (seats ≤ 40) × (numbers ≤ 240) × (seat < seats) }
-    ensures { result ≡ seatStart seats numbers seat }
+    ensures { result ≡ seat_start seats numbers seat }
 {
     let width = seat_bytes(numbers);
     SEATS_START + (1 + seats + seat * width)
@@ -87,7 +87,7 @@ fn seat_start(seats: usize, numbers: usize, seat: usize) -> usize
 // Where the time of the last ping of a seat stands.
 pub(crate) fn ping_start(seats: usize, numbers: usize, seat: usize) -> usize
     requires { (seats ≤ 40) × (numbers ≤ 240) × (seat < seats) }
-    ensures { result ≡ pingStart seats numbers seat }
+    ensures { result ≡ ping_start seats numbers seat }
 {
     seat_start(seats, numbers, seat) + PING_IN_SEAT
 }
@@ -95,7 +95,7 @@ pub(crate) fn ping_start(seats: usize, numbers: usize, seat: usize) -> usize
 // Where the number of the ping that is outstanding stands.
 pub(crate) fn outstanding_start(seats: usize, numbers: usize, seat: usize) -> usize
     requires { (seats ≤ 40) × (numbers ≤ 240) × (seat < seats) }
-    ensures { result ≡ outstandingStart seats numbers seat }
+    ensures { result ≡ outstanding_start seats numbers seat }
 {
     seat_start(seats, numbers, seat) + OUTSTANDING_IN_SEAT
 }
@@ -103,7 +103,7 @@ pub(crate) fn outstanding_start(seats: usize, numbers: usize, seat: usize) -> us
 // Where the table of routes of a seat stands.
 pub(crate) fn routes_start(seats: usize, numbers: usize, seat: usize) -> usize
     requires { (seats ≤ 40) × (numbers ≤ 240) × (seat < seats) }
-    ensures { result ≡ routesStart seats numbers seat }
+    ensures { result ≡ routes_start seats numbers seat }
 {
     seat_start(seats, numbers, seat) + ROUTES_IN_SEAT
 }
@@ -111,14 +111,14 @@ pub(crate) fn routes_start(seats: usize, numbers: usize, seat: usize) -> usize
 // Where it ends.
 pub(crate) fn routes_end(seats: usize, numbers: usize, seat: usize) -> usize
     requires { (seats ≤ 40) × (numbers ≤ 240) × (seat < seats) }
-    ensures { result ≡ routesEnd seats numbers seat }
+    ensures { result ≡ routes_end seats numbers seat }
 {
     routes_start(seats, numbers, seat) + routes_bytes(numbers)
 }
 
 // Whether memory is long enough for a room of these sizes; it may be longer.
 pub fn fits(memory: &[u8], seats: usize, numbers: usize) -> bool
-    ensures { result ≡ fitsRoom seats numbers memory.now }
+    ensures { result ≡ fits_room seats numbers memory.now }
 {
     if !sizes_right(seats, numbers) {
         return false;
@@ -128,8 +128,8 @@ pub fn fits(memory: &[u8], seats: usize, numbers: usize) -> bool
 
 // The table of seats.
 pub(crate) fn seat_table(memory: &[u8], seats: usize, numbers: usize) -> &[u8]
-    requires { fitsRoom seats numbers memory.now ≡ true }
-    ensures { result.now ≡ seatTable seats numbers memory.now }
+    requires { fits_room seats numbers memory.now ≡ true }
+    ensures { result.now ≡ seat_table seats numbers memory.now }
 {
     let end = room_bytes(seats, numbers);
     &memory[SEATS_START..end]
@@ -137,8 +137,8 @@ pub(crate) fn seat_table(memory: &[u8], seats: usize, numbers: usize) -> &[u8]
 
 // The table of routes of a seat.
 pub(crate) fn routes_table(memory: &[u8], seats: usize, numbers: usize, seat: usize) -> &[u8]
-    requires { (fitsRoom seats numbers memory.now ≡ true) × (seat < seats) }
-    ensures { result.now ≡ routesTable seats numbers memory.now seat }
+    requires { (fits_room seats numbers memory.now ≡ true) × (seat < seats) }
+    ensures { result.now ≡ routes_table seats numbers memory.now seat }
 {
     let at = routes_start(seats, numbers, seat);
     let end = routes_end(seats, numbers, seat);
@@ -147,8 +147,8 @@ pub(crate) fn routes_table(memory: &[u8], seats: usize, numbers: usize, seat: us
 
 // Whether the header has the room's sizes.
 pub(crate) fn header_right(memory: &[u8], seats: usize, numbers: usize) -> bool
-    requires { fitsRoom seats numbers memory.now ≡ true }
-    ensures { result ≡ headerRight seats numbers memory.now }
+    requires { fits_room seats numbers memory.now ≡ true }
+    ensures { result ≡ header_right seats numbers memory.now }
 {
     if memory[SEATS_BYTE] as usize != seats {
         return false;
@@ -177,30 +177,30 @@ pub(crate) fn write_word(memory: &mut [u8], at: usize, number: u64)
 // The clock.
 pub(crate) fn clock(memory: &[u8]) -> u64
     requires { 10 ≤ length memory.now }
-    ensures { result ≡ clockIn memory.now }
+    ensures { result ≡ clock_in memory.now }
 {
     read_word(memory, CLOCK_START)
 }
 
 // The time of the last ping of a seat.
 pub(crate) fn ping_time(memory: &[u8], seats: usize, numbers: usize, seat: usize) -> u64
-    requires { (fitsRoom seats numbers memory.now ≡ true) × (seat < seats) }
-    ensures { result ≡ (seatPing seats numbers memory.now seat).time }
+    requires { (fits_room seats numbers memory.now ≡ true) × (seat < seats) }
+    ensures { result ≡ (seat_ping seats numbers memory.now seat).time }
 {
     read_word(memory, ping_start(seats, numbers, seat))
 }
 
 // The number of the ping of a seat that is outstanding.
 pub(crate) fn outstanding(memory: &[u8], seats: usize, numbers: usize, seat: usize) -> u64
-    requires { (fitsRoom seats numbers memory.now ≡ true) × (seat < seats) }
-    ensures { result ≡ (seatPing seats numbers memory.now seat).number }
+    requires { (fits_room seats numbers memory.now ≡ true) × (seat < seats) }
+    ensures { result ≡ (seat_ping seats numbers memory.now seat).number }
 {
     read_word(memory, outstanding_start(seats, numbers, seat))
 }
 
 // Writes the header of a room of these sizes, whose clock is 0, and a table of seats that lists none: its count, the first byte, is 0.
 pub(crate) fn write_empty(memory: &mut [u8], seats: usize, numbers: usize)
-    requires { fitsRoom seats numbers memory.old ≡ true }
+    requires { fits_room seats numbers memory.old ≡ true }
     ensures { memory.new ≡ emptied seats numbers memory.old }
 {
     memory[SEATS_BYTE] = seats as u8;
@@ -213,7 +213,7 @@ pub(crate) fn write_empty(memory: &mut [u8], seats: usize, numbers: usize)
 // clock as its ping time."
 pub(crate) fn new_seat(memory: &[u8], key: Key) -> [u8; NEW_SEAT]
     requires { 10 ≤ length memory.now }
-    ensures { result ≡ newSeat (word_at 2 memory.now) key.0 }
+    ensures { result ≡ new_seat (word_at 2 memory.now) key.0 }
 {
     let mut record = [0u8; NEW_SEAT];
     bytes::copy(

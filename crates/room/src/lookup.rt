@@ -1,10 +1,10 @@
 // What is looked up in a room: the clock, a seat by its key, its ping, a route by its key, the lowest that is empty or free. Nothing is asked of the memory; in a
 // whole room each lookup says what document 01's room says, with document 02's clock and pings.
 ghost use Rattle.std.specs.Prelude.{◌≡◌, true, ◌≤◌};
-ghost use Rattle.table_laws.specs.Table.{fitsTable};
+ghost use Rattle.table_laws.specs.Table.{fits_table};
 ghost use Rattle.rules.specs.Room.{free};
-ghost use Rattle.room_laws.specs.Lookup.{place_in, seatHolding, lowestEmpty, hasSeat, taken, keyIn, clockFound, pingTimeOf, outstandingOf, routeWanting, lowestRoute, routeOfPlace};
-ghost use Rattle.room.specs.Numbers.{seatFound, numberFound, routeNumbered, wantedOf};
+ghost use Rattle.room_laws.specs.Lookup.{place_in, seat_holding, lowest_empty, has_seat, taken, key_in, clock_found, ping_time_of, outstanding_of, route_wanting, lowest_route, route_of_place};
+ghost use Rattle.room.specs.Numbers.{seat_found, number_found, route_numbered, wanted_of};
 
 use crate::empty::Room;
 use crate::layout;
@@ -35,7 +35,7 @@ pub struct Wanted {
 
 impl Wanted {
     fn nothing() -> Self
-        ensures { result ≡ wantedOf free }
+        ensures { result ≡ wanted_of free }
     {
         Wanted {
             held: false,
@@ -47,7 +47,7 @@ impl Wanted {
 // A place of a table of seats as a seat.
 fn seat_at(seats: usize, place: usize) -> FoundSeat
     requires { seats ≤ 40 }
-    ensures { result ≡ seatFound (place_in seats place) }
+    ensures { result ≡ seat_found (place_in seats place) }
 {
     if seats <= place {
         return FoundSeat::None;
@@ -58,7 +58,7 @@ fn seat_at(seats: usize, place: usize) -> FoundSeat
 // A place of a table of routes as a connection number: the first is 16.
 fn number_at(numbers: usize, place: usize) -> FoundNumber
     requires { numbers ≤ 240 }
-    ensures { result ≡ numberFound (place_in numbers place) }
+    ensures { result ≡ number_found (place_in numbers place) }
 {
     if numbers <= place {
         return FoundNumber::None;
@@ -68,7 +68,7 @@ fn number_at(numbers: usize, place: usize) -> FoundNumber
 
 // The seat that holds a key.
 pub fn seat_of(memory: &[u8], seats: usize, numbers: usize, key: Key) -> FoundSeat
-    ensures { result ≡ seatFound (seatHolding seats numbers memory.now key.0) }
+    ensures { result ≡ seat_found (seat_holding seats numbers memory.now key.0) }
 {
     if !layout::fits(memory, seats, numbers) {
         return FoundSeat::None;
@@ -85,7 +85,7 @@ pub fn seat_of(memory: &[u8], seats: usize, numbers: usize, key: Key) -> FoundSe
 
 // The lowest seat that is empty.
 pub fn lowest_empty(memory: &[u8], seats: usize, numbers: usize) -> FoundSeat
-    ensures { result ≡ seatFound (lowestEmpty seats numbers memory.now) }
+    ensures { result ≡ seat_found (lowest_empty seats numbers memory.now) }
 {
     if !layout::fits(memory, seats, numbers) {
         return FoundSeat::None;
@@ -96,7 +96,7 @@ pub fn lowest_empty(memory: &[u8], seats: usize, numbers: usize) -> FoundSeat
 
 // Whether memory has such a seat.
 pub(crate) fn has_seat(memory: &[u8], seats: usize, numbers: usize, seat: Seat) -> bool
-    ensures { result ≡ hasSeat seats numbers memory.now seat.0 }
+    ensures { result ≡ has_seat seats numbers memory.now seat.0 }
 {
     if !layout::fits(memory, seats, numbers) {
         return false;
@@ -120,7 +120,7 @@ pub fn is_taken(memory: &[u8], seats: usize, numbers: usize, seat: Seat) -> bool
 
 // The number under which a seat wants a key.
 pub fn number_of(memory: &[u8], seats: usize, numbers: usize, seat: Seat, key: Key) -> FoundNumber
-    ensures { result ≡ numberFound (routeWanting seats numbers memory.now seat.0 key.0) }
+    ensures { result ≡ number_found (route_wanting seats numbers memory.now seat.0 key.0) }
 {
     if !has_seat(memory, seats, numbers, seat) {
         return FoundNumber::None;
@@ -132,7 +132,7 @@ pub fn number_of(memory: &[u8], seats: usize, numbers: usize, seat: Seat, key: K
 
 // The lowest number of a seat that is free.
 pub fn lowest_free(memory: &[u8], seats: usize, numbers: usize, seat: Seat) -> FoundNumber
-    ensures { result ≡ numberFound (lowestRoute seats numbers memory.now seat.0) }
+    ensures { result ≡ number_found (lowest_route seats numbers memory.now seat.0) }
 {
     if !has_seat(memory, seats, numbers, seat) {
         return FoundNumber::None;
@@ -144,7 +144,7 @@ pub fn lowest_free(memory: &[u8], seats: usize, numbers: usize, seat: Seat) -> F
 
 // The key of a seat, whether it is taken or not.
 pub fn key_in(memory: &[u8], seats: usize, numbers: usize, seat: Seat) -> Key
-    ensures { result.0 ≡ keyIn seats numbers memory.now seat.0 }
+    ensures { result.0 ≡ key_in seats numbers memory.now seat.0 }
 {
     if !has_seat(memory, seats, numbers, seat) {
         return Key([0u8; 32]);
@@ -156,7 +156,7 @@ pub fn key_in(memory: &[u8], seats: usize, numbers: usize, seat: Seat) -> Key
 
 // The clock; 0 where the memory is too short.
 pub fn clock(memory: &[u8], seats: usize, numbers: usize) -> u64
-    ensures { result ≡ clockFound seats numbers memory.now }
+    ensures { result ≡ clock_found seats numbers memory.now }
 {
     if !layout::fits(memory, seats, numbers) {
         return 0;
@@ -166,7 +166,7 @@ pub fn clock(memory: &[u8], seats: usize, numbers: usize) -> u64
 
 // The time of the last ping of a seat; 0 where there is no such seat.
 pub fn ping_time(memory: &[u8], seats: usize, numbers: usize, seat: Seat) -> u64
-    ensures { result ≡ pingTimeOf seats numbers memory.now seat.0 }
+    ensures { result ≡ ping_time_of seats numbers memory.now seat.0 }
 {
     if !has_seat(memory, seats, numbers, seat) {
         return 0;
@@ -176,7 +176,7 @@ pub fn ping_time(memory: &[u8], seats: usize, numbers: usize, seat: Seat) -> u64
 
 // The number of the ping of a seat that is outstanding; 0 where none is, or there is no such seat.
 pub fn outstanding(memory: &[u8], seats: usize, numbers: usize, seat: Seat) -> u64
-    ensures { result ≡ outstandingOf seats numbers memory.now seat.0 }
+    ensures { result ≡ outstanding_of seats numbers memory.now seat.0 }
 {
     if !has_seat(memory, seats, numbers, seat) {
         return 0;
@@ -186,8 +186,8 @@ pub fn outstanding(memory: &[u8], seats: usize, numbers: usize, seat: Seat) -> u
 
 // What stands at a place of a table of routes.
 fn wanted_at(routes: &[u8], numbers: usize, place: usize) -> Wanted
-    requires { fitsTable numbers 32 routes.now ≡ true }
-    ensures { result ≡ wantedOf (routeOfPlace numbers routes.now place) }
+    requires { fits_table numbers 32 routes.now ≡ true }
+    ensures { result ≡ wanted_of (route_of_place numbers routes.now place) }
 {
     if numbers <= place {
         return Wanted::nothing();
@@ -209,7 +209,7 @@ pub fn wanted_by(
     seat: Seat,
     number: ConnectionNumber,
 ) -> Wanted
-    ensures { result ≡ wantedOf (routeNumbered seats numbers memory.now seat.0 number.0) }
+    ensures { result ≡ wanted_of (route_numbered seats numbers memory.now seat.0 number.0) }
 {
     if number.0 < Room::FIRST_NUMBER {
         return Wanted::nothing();

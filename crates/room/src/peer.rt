@@ -1,9 +1,9 @@
 // The peer of a client, looked up; nothing is asked of the memory. Connected: "Two clients are connected when they sit in different seats and each has
 // a route naming the other's key."
 ghost use Rattle.std.specs.Prelude.{◌≡◌};
-ghost use Rattle.rules.specs.Outcome.{joinedBy};
-ghost use Rattle.room_laws.specs.Lookup.{routeWanting, peerWanting};
-ghost use Rattle.room.specs.Numbers.{peerFound};
+ghost use Rattle.rules.specs.Outcome.{joined_by};
+ghost use Rattle.room_laws.specs.Lookup.{route_wanting, peer_wanting};
+ghost use Rattle.room.specs.Numbers.{peer_found};
 
 use crate::lookup;
 use crate::lookup::{FoundNumber, FoundSeat};
@@ -20,7 +20,7 @@ pub enum Peer {
 
 // The peer in another seat, if that seat has a route naming the key.
 fn in_seat(memory: &[u8], seats: usize, numbers: usize, other: Seat, key: Key) -> Peer
-    ensures { result ≡ peerFound (joinedBy other.0 (routeWanting seats numbers memory.now other.0 key.0)) }
+    ensures { result ≡ peer_found (joined_by other.0 (route_wanting seats numbers memory.now other.0 key.0)) }
 {
     match lookup::number_of(memory, seats, numbers, other, key) {
         FoundNumber::At(number) => Peer::Joined(other, number),
@@ -30,7 +30,7 @@ fn in_seat(memory: &[u8], seats: usize, numbers: usize, other: Seat, key: Key) -
 
 // The peer of the client in `seat`, whose key is `key`, on a route that names `wanted`.
 pub fn of(memory: &[u8], seats: usize, numbers: usize, seat: Seat, key: Key, wanted: Key) -> Peer
-    ensures { result ≡ peerFound (peerWanting seats numbers memory.now seat.0 key.0 wanted.0) }
+    ensures { result ≡ peer_found (peer_wanting seats numbers memory.now seat.0 key.0 wanted.0) }
 {
     match lookup::seat_of(memory, seats, numbers, wanted) {
         FoundSeat::At(other) => {

@@ -9,160 +9,160 @@ use native.Mathlib.Omega.{arith}
 use lib.Dec.{eqb, ltb}
 use lib.ListN.{length, take, drop, get_or}
 use borrow.Author.Tests.{ltb-true, ltb-false, lt-ltb}
-use Rattle.key.specs.Keys.{sameKey}
+use Rattle.key.specs.Keys.{same_key}
 use Rattle.table_laws.specs.Bytes.{member}
-use Rattle.table_laws.specs.Table.{listed, recordAt}
+use Rattle.table_laws.specs.Table.{listed, record_at}
 use Rattle.table_laws.proofs.KeyOrder.{both}
-use Rattle.table_laws.proofs.FitsLaws.{used-in}
-use Rattle.table_laws.proofs.TableLaws.{key-record}
-use Rattle.rules.specs.Room.{Key, Route, free, Ping, Held, vacant, holds, setKey, setPing, setRoutes, find, seatOf, isVacant, routeTo, isFree, routesOf, seatAt, Seat, Found, none, at, alone}
-use Rattle.rules.proofs.FindLaws.{vacant-no-key, find-hit}
-use Rattle.rules.specs.Outcome.{joinedBy, peer, peerIn, peerAt}
-use Rattle.room_laws.specs.Layout.{seatBytes, fitsRoom, seatTable, seatStart, routesTable}
-use Rattle.room_laws.specs.View.{routeIn, viewRoutes, heldIn, seatIn, viewRoom, seatPing, seatHeld}
-use Rattle.room_laws.specs.Whole.{roomWhole}
-use Rattle.room_laws.specs.Lookup.{seatHolding, lowestEmpty, taken, clockFound, pingTimeOf, outstandingOf, routeWanting, lowestRoute, routeAtPlace, routeOfPlace, hasSeat, peerInSeat, peerWanting}
-use Rattle.room_laws.proofs.LayoutLaws.{length-seats, length-routes}
-use Rattle.room_laws.proofs.TablesLaws.{seat-key-stands, seat-ping-stands, routes-in-record}
-use Rattle.room_laws.proofs.ViewLaws.{route-at, route-past, seat-at, seat-past, seat-holds}
-use Rattle.room_laws.proofs.WholeLaws.{whole-fits, whole-seats, whole-seat-table, whole-routes, whole-routes-table}
-use Rattle.room_laws.proofs.ViewFinds.{finds-by-key, finds-unlisted}
-use Rattle.room_laws.proofs.RouteFinds.{free-unlisted, finds-route}
+use Rattle.table_laws.proofs.FitsLaws.{used_in}
+use Rattle.table_laws.proofs.TableLaws.{key_record}
+use Rattle.rules.specs.Room.{Key, Route, free, Ping, Held, vacant, holds, set_key, set_ping, set_routes, find, seat_of, is_vacant, route_to, is_free, routes_of, seat_at, Seat, Found, none, at, alone}
+use Rattle.rules.proofs.FindLaws.{vacant_no_key, find_hit}
+use Rattle.rules.specs.Outcome.{joined_by, peer, peer_in, peer_at}
+use Rattle.room_laws.specs.Layout.{seat_bytes, fits_room, seat_table, seat_start, routes_table}
+use Rattle.room_laws.specs.View.{route_in, view_routes, held_in, seat_in, view_room, seat_ping, seat_held}
+use Rattle.room_laws.specs.Whole.{room_whole}
+use Rattle.room_laws.specs.Lookup.{seat_holding, lowest_empty, taken, clock_found, ping_time_of, outstanding_of, route_wanting, lowest_route, route_at_place, route_of_place, has_seat, peer_in_seat, peer_wanting}
+use Rattle.room_laws.proofs.LayoutLaws.{length_seats, length_routes}
+use Rattle.room_laws.proofs.TablesLaws.{seat_key_stands, seat_ping_stands, routes_in_record}
+use Rattle.room_laws.proofs.ViewLaws.{route_at, route_past, seat_at_lem, seat_past, seat_holds}
+use Rattle.room_laws.proofs.WholeLaws.{whole_fits, whole_seats, whole_seat_table, whole_routes, whole_routes_table}
+use Rattle.room_laws.proofs.ViewFinds.{finds_by_key, finds_unlisted}
+use Rattle.room_laws.proofs.RouteFinds.{free_unlisted, finds_route}
 
 -- ---- the tests, on what a place is
 
-vacant-unlisted : (n : ℕ) (u : Bool) (r : List ℕ) → isVacant (seatIn n u r) ≡ not u
-unfolding isVacant seatIn
-vacant-unlisted n true r = refl
-vacant-unlisted n false r = refl
+vacant_unlisted : (n : ℕ) (u : Bool) (r : List ℕ) → is_vacant (seat_in n u r) ≡ not u
+unfolding is_vacant seat_in
+vacant_unlisted n true r = refl
+vacant_unlisted n false r = refl
 
-seat-keyed : (n : ℕ) (key : Key) (r : List ℕ) → seatOf key (seatIn n true r) ≡ sameKey (take 32 r) key
-unfolding seatOf seatIn
-seat-keyed n key r = refl
+seat_keyed : (n : ℕ) (key : Key) (r : List ℕ) → seat_of key (seat_in n true r) ≡ same_key (take 32 r) key
+unfolding seat_of seat_in
+seat_keyed n key r = refl
 
 -- ---- THE LAWS, in a whole room
 
-module _ (s n : ℕ) (b : List ℕ) (whole : roomWhole s n b ≡ true) where
-  fits : fitsRoom s n b ≡ true
-  fits = whole-fits s n b whole
+module _ (s n : ℕ) (b : List ℕ) (whole : room_whole s n b ≡ true) where
+  fits : fits_room s n b ≡ true
+  fits = whole_fits s n b whole
 
-  long : s < length (seatTable s n b)
-  long = let q = length-seats s n b fits in omega arith
+  long : s < length (seat_table s n b)
+  long = let q = length_seats s n b fits in omega arith
 
   -- ---- seats
 
-  pub seat-holding-finds : (key : Key) → seatHolding s n b key ≡ find (seatOf key) (viewRoom s n b).seats
-  unfolding seatHolding viewRoom
-  seat-holding-finds key =
+  pub seat_holding_finds : (key : Key) → seat_holding s n b key ≡ find (seat_of key) (view_room s n b).seats
+  unfolding seat_holding view_room
+  seat_holding_finds key =
       rw fits
-      (sym (finds-by-key s (seatBytes n) (seatTable s n b) (whole-seat-table s n b whole) (whole-seats s n b whole) (seatIn n) vacant (seatOf key) key
-      (λ r. vacant-no-key key (seatIn n false r) (vacant-unlisted n false r))
+      (sym (finds_by_key s (seat_bytes n) (seat_table s n b) (whole_seat_table s n b whole) (whole_seats s n b whole) (seat_in n) vacant (seat_of key) key
+      (λ r. vacant_no_key key (seat_in n false r) (vacant_unlisted n false r))
       (λ m l.
-      seat-keyed n key (recordAt s (seatBytes n) (seatTable s n b) m)
-      ∙ ap (λ (k : Key). sameKey k key) (sym (key-record s (seatBytes n) (seatTable s n b) m (omega arith))))))
+      seat_keyed n key (record_at s (seat_bytes n) (seat_table s n b) m)
+      ∙ ap (λ (k : Key). same_key k key) (sym (key_record s (seat_bytes n) (seat_table s n b) m (omega arith))))))
 
-  pub lowest-empty-finds : lowestEmpty s n b ≡ find isVacant (viewRoom s n b).seats
-  unfolding lowestEmpty viewRoom
-  lowest-empty-finds =
+  pub lowest_empty_finds : lowest_empty s n b ≡ find is_vacant (view_room s n b).seats
+  unfolding lowest_empty view_room
+  lowest_empty_finds =
       rw fits
-      (sym (finds-unlisted s (seatBytes n) (seatTable s n b) (whole-seat-table s n b whole) (whole-seats s n b whole) (seatIn n) vacant isVacant (vacant-unlisted n)))
+      (sym (finds_unlisted s (seat_bytes n) (seat_table s n b) (whole_seat_table s n b whole) (whole_seats s n b whole) (seat_in n) vacant is_vacant (vacant_unlisted n)))
 
-  pub taken_is : (i : ℕ) → taken s n b i ≡ not (isVacant (seatAt (viewRoom s n b) i))
+  pub taken_is : (i : ℕ) → taken s n b i ≡ not (is_vacant (seat_at (view_room s n b) i))
   unfolding taken
-  taken_is i = rw (fits, used-in s (seatTable s n b) long i) (go (ltb i s) refl)
+  taken_is i = rw (fits, used_in s (seat_table s n b) long i) (go (ltb i s) refl)
     where
-      go : (u : Bool) → ltb i s ≡ u → (u && member i (listed s (seatTable s n b))) ≡ not (isVacant (seatAt (viewRoom s n b) i))
+      go : (u : Bool) → ltb i s ≡ u → (u && member i (listed s (seat_table s n b))) ≡ not (is_vacant (seat_at (view_room s n b) i))
       go true e =
-          rw (seat-at s n b i (ltb-true i s e), vacant-unlisted n (member i (listed s (seatTable s n b))) (recordAt s (seatBytes n) (seatTable s n b) i))
-          (sym (not-not (member i (listed s (seatTable s n b)))))
-      go false e = rw (seat-past s n b i (ltb-false i s e)) (unfold isVacant in refl)
+          rw (seat_at_lem s n b i (ltb-true i s e), vacant_unlisted n (member i (listed s (seat_table s n b))) (record_at s (seat_bytes n) (seat_table s n b) i))
+          (sym (not-not (member i (listed s (seat_table s n b)))))
+      go false e = rw (seat_past s n b i (ltb-false i s e)) (unfold is_vacant in refl)
 
   -- ---- the clock, and the ping of a seat that holds a key
 
-  pub clock-is : clockFound s n b ≡ (viewRoom s n b).clock
-  unfolding clockFound viewRoom
-  clock-is = rw fits
+  pub clock_is : clock_found s n b ≡ (view_room s n b).clock
+  unfolding clock_found view_room
+  clock_is = rw fits
 
-  module _ (i : ℕ) (held : Held) (sits : seatAt (viewRoom s n b) i ≡ holds held) where
-    ping-is : seatPing s n b i ≡ held.ping
-    ping-is =
-        let q = seat-holds s n b i held sits in
-        sym (seat-ping-stands s n b i q.0) ∙ ap (λ (h : Held). h.ping) q.2
+  module _ (i : ℕ) (held : Held) (sits : seat_at (view_room s n b) i ≡ holds held) where
+    ping_is : seat_ping s n b i ≡ held.ping
+    ping_is =
+        let q = seat_holds s n b i held sits in
+        sym (seat_ping_stands s n b i q.0) ∙ ap (λ (h : Held). h.ping) q.2
 
-    pub ping-time-is : pingTimeOf s n b i ≡ held.ping.time
-    unfolding pingTimeOf hasSeat
-    ping-time-is = rw (fits, lt-ltb i s (seat-holds s n b i held sits).0) (ap (λ (p : Ping). p.time) ping-is)
+    pub ping_time_is : ping_time_of s n b i ≡ held.ping.time
+    unfolding ping_time_of has_seat
+    ping_time_is = rw (fits, lt-ltb i s (seat_holds s n b i held sits).0) (ap (λ (p : Ping). p.time) ping_is)
 
-    pub outstanding-is : outstandingOf s n b i ≡ held.ping.number
-    unfolding outstandingOf hasSeat
-    outstanding-is = rw (fits, lt-ltb i s (seat-holds s n b i held sits).0) (ap (λ (p : Ping). p.number) ping-is)
+    pub outstanding_is : outstanding_of s n b i ≡ held.ping.number
+    unfolding outstanding_of has_seat
+    outstanding_is = rw (fits, lt-ltb i s (seat_holds s n b i held sits).0) (ap (λ (p : Ping). p.number) ping_is)
 
   -- ---- a seat that is taken
 
   module _ (i : ℕ) (sits : taken s n b i ≡ true) where
     within : i < s
     unfolding taken
-    within = ltb-true i s (both (fitsRoom s n b) _ (both (fitsRoom s n b && ltb i s) _ sits).0).1
+    within = ltb-true i s (both (fits_room s n b) _ (both (fits_room s n b && ltb i s) _ sits).0).1
 
-    lists : member i (listed s (seatTable s n b)) ≡ true
+    lists : member i (listed s (seat_table s n b)) ≡ true
     unfolding taken
-    lists = sym (used-in s (seatTable s n b) long i) ∙ (both (fitsRoom s n b && ltb i s) _ sits).1
+    lists = sym (used_in s (seat_table s n b) long i) ∙ (both (fits_room s n b && ltb i s) _ sits).1
 
-    pub taken-holds : seatAt (viewRoom s n b) i ≡ holds (seatHeld s n b i (take 32 (drop (seatStart s n i) b)))
-    unfolding seatIn
-    taken-holds =
-        rw (seat-at s n b i within, lists)
-        (ap₂ (λ (k : Key) (t : List Route). holds (setKey (setRoutes (heldIn n (recordAt s (seatBytes n) (seatTable s n b) i)) t) k))
-        (seat-key-stands s n b i within) (ap (viewRoutes n) (sym (routes-in-record s n b i within)))
-        ∙ ap (λ (p : Ping). holds (setPing (seatHeld s n b i (take 32 (drop (seatStart s n i) b))) p)) (seat-ping-stands s n b i within))
+    pub taken_holds : seat_at (view_room s n b) i ≡ holds (seat_held s n b i (take 32 (drop (seat_start s n i) b)))
+    unfolding seat_in
+    taken_holds =
+        rw (seat_at_lem s n b i within, lists)
+        (ap₂ (λ (k : Key) (t : List Route). holds (set_key (set_routes (held_in n (record_at s (seat_bytes n) (seat_table s n b) i)) t) k))
+        (seat_key_stands s n b i within) (ap (view_routes n) (sym (routes_in_record s n b i within)))
+        ∙ ap (λ (p : Ping). holds (set_ping (seat_held s n b i (take 32 (drop (seat_start s n i) b))) p)) (seat_ping_stands s n b i within))
 
-    routes-are : routesOf (seatAt (viewRoom s n b) i) ≡ viewRoutes n (routesTable s n b i)
-    unfolding routesOf
-    routes-are = ap routesOf taken-holds
+    routes_are : routes_of (seat_at (view_room s n b) i) ≡ view_routes n (routes_table s n b i)
+    unfolding routes_of
+    routes_are = ap routes_of taken_holds
 
-    pub route-wanting-finds : (key : Key) → routeWanting s n b i key ≡ find (routeTo key) (routesOf (seatAt (viewRoom s n b) i))
-    unfolding routeWanting
-    route-wanting-finds key =
-        rw (fits, lt-ltb i s within, routes-are)
-        (sym (finds-route n (routesTable s n b i) (whole-routes-table s n b whole i lists) (whole-routes s n b whole i lists) key))
+    pub route_wanting_finds : (key : Key) → route_wanting s n b i key ≡ find (route_to key) (routes_of (seat_at (view_room s n b) i))
+    unfolding route_wanting
+    route_wanting_finds key =
+        rw (fits, lt-ltb i s within, routes_are)
+        (sym (finds_route n (routes_table s n b i) (whole_routes_table s n b whole i lists) (whole_routes s n b whole i lists) key))
 
-    pub lowest-route-finds : lowestRoute s n b i ≡ find isFree (routesOf (seatAt (viewRoom s n b) i))
-    unfolding lowestRoute viewRoutes
-    lowest-route-finds =
-        rw (fits, lt-ltb i s within, routes-are)
-        (sym (finds-unlisted n 32 (routesTable s n b i) (whole-routes-table s n b whole i lists) (whole-routes s n b whole i lists) routeIn free isFree free-unlisted))
+    pub lowest_route_finds : lowest_route s n b i ≡ find is_free (routes_of (seat_at (view_room s n b) i))
+    unfolding lowest_route view_routes
+    lowest_route_finds =
+        rw (fits, lt-ltb i s within, routes_are)
+        (sym (finds_unlisted n 32 (routes_table s n b i) (whole_routes_table s n b whole i lists) (whole_routes s n b whole i lists) route_in free is_free free_unlisted))
 
-    pub route-at-place-is : (j : ℕ) → routeAtPlace s n b i j ≡ get_or (routesOf (seatAt (viewRoom s n b) i)) j free
-    unfolding routeAtPlace routeOfPlace hasSeat
-    route-at-place-is j =
-        let l : n < length (routesTable s n b i) = let q = length-routes s n b fits i within in omega arith in
-        rw (fits, lt-ltb i s within, routes-are, used-in n (routesTable s n b i) l j) (go (ltb j n) refl)
+    pub route_at_place_is : (j : ℕ) → route_at_place s n b i j ≡ get_or (routes_of (seat_at (view_room s n b) i)) j free
+    unfolding route_at_place route_of_place has_seat
+    route_at_place_is j =
+        let l : n < length (routes_table s n b i) = let q = length_routes s n b fits i within in omega arith in
+        rw (fits, lt-ltb i s within, routes_are, used_in n (routes_table s n b i) l j) (go (ltb j n) refl)
       where
         go : (u : Bool) → ltb j n ≡ u →
-            cond u (routeIn (member j (listed n (routesTable s n b i))) (recordAt n 32 (routesTable s n b i) j)) free
-            ≡ get_or (viewRoutes n (routesTable s n b i)) j free
-        go true e = sym (route-at n (routesTable s n b i) j (ltb-true j n e))
-        go false e = sym (route-past n (routesTable s n b i) j (ltb-false j n e))
+            cond u (route_in (member j (listed n (routes_table s n b i))) (record_at n 32 (routes_table s n b i) j)) free
+            ≡ get_or (view_routes n (routes_table s n b i)) j free
+        go true e = sym (route_at n (routes_table s n b i) j (ltb-true j n e))
+        go false e = sym (route_past n (routes_table s n b i) j (ltb-false j n e))
 
   -- ---- the peer
 
-  found-taken : (wanted : Key) (other : ℕ) → find (seatOf wanted) (viewRoom s n b).seats ≡ at other → taken s n b other ≡ true
-  unfolding seatAt
-  found-taken wanted other e = taken_is other ∙ held (seatAt (viewRoom s n b) other) (find-hit (seatOf wanted) vacant (viewRoom s n b).seats other e)
+  found_taken : (wanted : Key) (other : ℕ) → find (seat_of wanted) (view_room s n b).seats ≡ at other → taken s n b other ≡ true
+  unfolding seat_at
+  found_taken wanted other e = taken_is other ∙ held (seat_at (view_room s n b) other) (find_hit (seat_of wanted) vacant (view_room s n b).seats other e)
     where
-      held : (sits : Seat) → seatOf wanted sits ≡ true → not (isVacant sits) ≡ true
-      held vacant h = let z : ◌≡◌ {A = Bool} false true = unfold seatOf in h in cc
-      held (holds client) h = unfold isVacant in refl
+      held : (sits : Seat) → seat_of wanted sits ≡ true → not (is_vacant sits) ≡ true
+      held vacant h = let z : ◌≡◌ {A = Bool} false true = unfold seat_of in h in cc
+      held (holds client) h = unfold is_vacant in refl
 
-  pub peer-wanting-is : (i : ℕ) (key wanted : Key) → peerWanting s n b i key wanted ≡ peer (viewRoom s n b) i key wanted
-  unfolding peerWanting peerInSeat peer peerIn peerAt
-  peer-wanting-is i key wanted = ap (peerInSeat s n b i key) (seat-holding-finds wanted) ∙ go (find (seatOf wanted) (viewRoom s n b).seats) refl
+  pub peer_wanting_is : (i : ℕ) (key wanted : Key) → peer_wanting s n b i key wanted ≡ peer (view_room s n b) i key wanted
+  unfolding peer_wanting peer_in_seat peer peer_in peer_at
+  peer_wanting_is i key wanted = ap (peer_in_seat s n b i key) (seat_holding_finds wanted) ∙ go (find (seat_of wanted) (view_room s n b).seats) refl
     where
-      at-seat : (other : ℕ) → taken s n b other ≡ true → (own : Bool) →
-          cond own alone (joinedBy other (routeWanting s n b other key)) ≡ peerAt own (viewRoom s n b) key other
-      at-seat other sits true = refl
-      at-seat other sits false = ap (joinedBy other) (route-wanting-finds other sits key)
+      at_seat : (other : ℕ) → taken s n b other ≡ true → (own : Bool) →
+          cond own alone (joined_by other (route_wanting s n b other key)) ≡ peer_at own (view_room s n b) key other
+      at_seat other sits true = refl
+      at_seat other sits false = ap (joined_by other) (route_wanting_finds other sits key)
 
-      go : (f : Found) → find (seatOf wanted) (viewRoom s n b).seats ≡ f → peerInSeat s n b i key f ≡ peerIn f (viewRoom s n b) i key
+      go : (f : Found) → find (seat_of wanted) (view_room s n b).seats ≡ f → peer_in_seat s n b i key f ≡ peer_in f (view_room s n b) i key
       go none e = refl
-      go (at other) e = at-seat other (found-taken wanted other e) (eqb i other)
+      go (at other) e = at_seat other (found_taken wanted other e) (eqb i other)

@@ -15,11 +15,11 @@ drop_of_take (suc m) n (suc c) [] e = sym (take-nil n)
 drop_of_take (suc m) n (suc c) (x ∷ l) e = drop_of_take m n c l (omega arith)
 
 -- a part that ends within a list's beginning is that part of the list
-pub part-of-take : (a w c : ℕ) (l : List ℕ) → a + w ≤ c → take w (drop a (take c l)) ≡ take w (drop a l)
-part-of-take zero w c l h = take-take w c l (omega arith)
-part-of-take (suc a) w zero l h = absurd (omega arith)
-part-of-take (suc a) w (suc c) [] h = refl
-part-of-take (suc a) w (suc c) (x ∷ l) h = part-of-take a w c l (omega arith)
+pub part_of_take : (a w c : ℕ) (l : List ℕ) → a + w ≤ c → take w (drop a (take c l)) ≡ take w (drop a l)
+part_of_take zero w c l h = take-take w c l (omega arith)
+part_of_take (suc a) w zero l h = absurd (omega arith)
+part_of_take (suc a) w (suc c) [] h = refl
+part_of_take (suc a) w (suc c) (x ∷ l) h = part_of_take a w c l (omega arith)
 
 -- ---- the w bytes from `at` on replaced by `new`
 
@@ -28,17 +28,17 @@ module _ (l new : List ℕ) (at w : ℕ) (within : at ≤ length l) where
   front = length-take-le at l within
 
   -- a part that ends before them stays
-  pub splice-before : (a k : ℕ) → a + k ≤ at → take k (drop a (splice l at new w)) ≡ take k (drop a l)
-  splice-before a k h =
-      sym (part-of-take a k at (splice l at new w) h)
+  pub splice_before : (a k : ℕ) → a + k ≤ at → take k (drop a (splice l at new w)) ≡ take k (drop a l)
+  splice_before a k h =
+      sym (part_of_take a k at (splice l at new w) h)
       ∙ ap (λ (x : List ℕ). take k (drop a x)) (take_at (take at l) (new ++ drop w (drop at l)) at front)
-      ∙ part-of-take a k at l h
+      ∙ part_of_take a k at l h
 
-  pub splice-from : drop at (splice l at new w) ≡ new ++ drop w (drop at l)
-  splice-from = drop_at (take at l) (new ++ drop w (drop at l)) at front
+  pub splice_from : drop at (splice l at new w) ≡ new ++ drop w (drop at l)
+  splice_from = drop_at (take at l) (new ++ drop w (drop at l)) at front
 
   -- what stands behind them stays
-  pub splice-behind : length new ≡ w → (k : ℕ) → k ≡ at + w → drop k (splice l at new w) ≡ drop k l
-  splice-behind e k q =
+  pub splice_behind : length new ≡ w → (k : ℕ) → k ≡ at + w → drop k (splice l at new w) ≡ drop k l
+  splice_behind e k q =
       rw q
-      (sym (drop-drop w at (splice l at new w)) ∙ ap (drop w) splice-from ∙ drop_at new (drop w (drop at l)) w e ∙ drop-drop w at l)
+      (sym (drop-drop w at (splice l at new w)) ∙ ap (drop w) splice_from ∙ drop_at new (drop w (drop at l)) w e ∙ drop-drop w at l)

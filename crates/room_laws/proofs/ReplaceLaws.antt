@@ -12,200 +12,200 @@ use lib.Dec.{eqb, leb}
 use borrow.Author.Tests.{eqb-true, eqb-false, le-leb}
 use Rattle.wire.specs.Numbers.{number_of}
 use Rattle.table_laws.specs.Bytes.{splice, member}
-use Rattle.table_laws.specs.Table.{Table, listed, recordAt, tableWhole, tableWithout, view}
+use Rattle.table_laws.specs.Table.{Table, listed, record_at, table_whole, table_without, view}
 use Rattle.table_laws.proofs.Listed.{row_fits}
-use Rattle.table_laws.proofs.Stores.{length-splice}
-use Rattle.table_laws.proofs.Places.{splice-inner}
-use Rattle.table_laws.proofs.TableLaws.{length-record}
-use Rattle.table_laws.proofs.RecordLaws.{refilled, refilled-length, refilled-listed, refilled-other, refilled_same, view-refilled, refilled-whole}
-use Rattle.rules.specs.Room.{Key, Ping, Held, Seat, holds, setKey, setPing, setRoutes, setClock, setSeats, setSeat, seatAt}
-use Rattle.room_laws.specs.Layout.{roomHeader, clockStart, word_bytes, keyBytes, pingInSeat, outstandingInSeat, routesBytes, routesInSeat, seatBytes, seatsBytes, fitsRoom, seatTable, seatStart, routesStart}
-use Rattle.room_laws.specs.View.{clockIn, recordPing, heldIn, seatIn, viewRoutes, viewRoom}
-use Rattle.room_laws.specs.Whole.{headerRight, seatWhole, roomWhole}
-use Rattle.room_laws.specs.Store.{withSeats, withRoutes}
-use Rattle.room_laws.proofs.LayoutLaws.{room-long}
-use Rattle.room_laws.proofs.PartLaws.{splice-before, splice-from}
-use Rattle.room_laws.proofs.TablesLaws.{fits-same}
-use Rattle.room_laws.proofs.ViewLaws.{view-is, seat-holds}
-use Rattle.room_laws.proofs.WholeLaws.{seatRecordWhole, SeatRecordWhole, seat-by-record, make-whole, whole-fits, whole-header, whole-seats, whole-seat-table, listed_below, whole-record, held-ping}
+use Rattle.table_laws.proofs.Stores.{length_splice}
+use Rattle.table_laws.proofs.Places.{splice_inner}
+use Rattle.table_laws.proofs.TableLaws.{length_record}
+use Rattle.table_laws.proofs.RecordLaws.{refilled, refilled_length, refilled_listed, refilled_other, refilled_same, view_refilled, refilled_whole}
+use Rattle.rules.specs.Room.{Key, Ping, Held, Seat, holds, set_key, set_ping, set_routes, set_clock, set_seats, set_seat, seat_at}
+use Rattle.room_laws.specs.Layout.{room_header, clock_start, word_bytes, key_bytes, ping_in_seat, outstanding_in_seat, routes_bytes, routes_in_seat, seat_bytes, seats_bytes, fits_room, seat_table, seat_start, routes_start}
+use Rattle.room_laws.specs.View.{clock_in, record_ping, held_in, seat_in, view_routes, view_room}
+use Rattle.room_laws.specs.Whole.{header_right, seat_whole, room_whole}
+use Rattle.room_laws.specs.Store.{with_seats, with_routes}
+use Rattle.room_laws.proofs.LayoutLaws.{room_long}
+use Rattle.room_laws.proofs.PartLaws.{splice_before, splice_from}
+use Rattle.room_laws.proofs.TablesLaws.{fits_same}
+use Rattle.room_laws.proofs.ViewLaws.{view_is, seat_holds}
+use Rattle.room_laws.proofs.WholeLaws.{seat_record_whole, SeatRecordWhole, seat_by_record, make_whole, whole_fits, whole_header, whole_seats, whole_seat_table, listed_below, whole_record, held_ping}
 
 -- ---- the table of seats
 
-module _ (s n : ℕ) (b : List ℕ) (f : fitsRoom s n b ≡ true) (table : List ℕ) (l : length table ≡ seatsBytes s n) where
-  header-length : length (take roomHeader b) ≡ roomHeader
-  header-length = length-take-le roomHeader b (let q = room-long s n b f in omega arith)
+module _ (s n : ℕ) (b : List ℕ) (f : fits_room s n b ≡ true) (table : List ℕ) (l : length table ≡ seats_bytes s n) where
+  header_length : length (take room_header b) ≡ room_header
+  header_length = length-take-le room_header b (let q = room_long s n b f in omega arith)
 
-  pub seats-replaced : seatTable s n (withSeats s n b table) ≡ table
-  unfolding seatTable withSeats
-  seats-replaced =
-      ap (take (seatsBytes s n)) (drop_at (take roomHeader b) (table ++ drop (seatsBytes s n) (drop roomHeader b)) roomHeader header-length)
-      ∙ take_at table (drop (seatsBytes s n) (drop roomHeader b)) (seatsBytes s n) l
+  pub seats_replaced : seat_table s n (with_seats s n b table) ≡ table
+  unfolding seat_table with_seats
+  seats_replaced =
+      ap (take (seats_bytes s n)) (drop_at (take room_header b) (table ++ drop (seats_bytes s n) (drop room_header b)) room_header header_length)
+      ∙ take_at table (drop (seats_bytes s n) (drop room_header b)) (seats_bytes s n) l
 
-  pub seats-length : length (withSeats s n b table) ≡ length b
-  unfolding withSeats
-  seats-length = length-splice b roomHeader table (seatsBytes s n) (room-long s n b f) l
+  pub seats_length : length (with_seats s n b table) ≡ length b
+  unfolding with_seats
+  seats_length = length_splice b room_header table (seats_bytes s n) (room_long s n b f) l
 
-  pub seats-fits : fitsRoom s n (withSeats s n b table) ≡ true
-  seats-fits = fits-same s n (withSeats s n b table) b seats-length ∙ f
+  pub seats_fits : fits_room s n (with_seats s n b table) ≡ true
+  seats_fits = fits_same s n (with_seats s n b table) b seats_length ∙ f
 
-  header-byte : (i : ℕ) → i < roomHeader → get_or (withSeats s n b table) i 0 ≡ get_or b i 0
-  unfolding withSeats
-  header-byte i h =
-      get_or-append (take roomHeader b) (table ++ drop (seatsBytes s n) (drop roomHeader b)) 0 i (let q = header-length in omega arith)
-      ∙ get_or-take roomHeader b i 0 h
+  header_byte : (i : ℕ) → i < room_header → get_or (with_seats s n b table) i 0 ≡ get_or b i 0
+  unfolding with_seats
+  header_byte i h =
+      get_or-append (take room_header b) (table ++ drop (seats_bytes s n) (drop room_header b)) 0 i (let q = header_length in omega arith)
+      ∙ get_or-take room_header b i 0 h
 
-  pub seats-header : headerRight s n (withSeats s n b table) ≡ headerRight s n b
-  unfolding headerRight
-  seats-header = rw (header-byte 0 (omega arith), header-byte 1 (omega arith))
+  pub seats_header : header_right s n (with_seats s n b table) ≡ header_right s n b
+  unfolding header_right
+  seats_header = rw (header_byte 0 (omega arith), header_byte 1 (omega arith))
 
-  seats-clock : clockIn (withSeats s n b table) ≡ clockIn b
-  unfolding clockIn withSeats
-  seats-clock =
+  seats_clock : clock_in (with_seats s n b table) ≡ clock_in b
+  unfolding clock_in with_seats
+  seats_clock =
       ap number_of
-      (splice-before b table roomHeader (seatsBytes s n) (let q = room-long s n b f in omega arith) clockStart word_bytes (omega arith))
+      (splice_before b table room_header (seats_bytes s n) (let q = room_long s n b f in omega arith) clock_start word_bytes (omega arith))
 
-  pub seats-view : viewRoom s n (withSeats s n b table) ≡ setSeats (viewRoom s n b) (view s (seatBytes n) (seatIn n) table)
-  unfolding viewRoom
-  seats-view =
-      ap₂ (λ (x : List ℕ) (t : ℕ). setClock (setSeats (viewRoom s n b) (view s (seatBytes n) (seatIn n) x)) t) seats-replaced seats-clock
+  pub seats_view : view_room s n (with_seats s n b table) ≡ set_seats (view_room s n b) (view s (seat_bytes n) (seat_in n) table)
+  unfolding view_room
+  seats_view =
+      ap₂ (λ (x : List ℕ) (t : ℕ). set_clock (set_seats (view_room s n b) (view s (seat_bytes n) (seat_in n) x)) t) seats_replaced seats_clock
 
-  pub seats-whole : headerRight s n b ≡ true → tableWhole s (seatBytes n) table ≡ true
-      → ((i : ℕ) → member i (listed s table) ≡ true → (i < s) × SeatRecordWhole n (clockIn b) (recordAt s (seatBytes n) table i))
-      → roomWhole s n (withSeats s n b table) ≡ true
-  seats-whole h o r =
-      make-whole s n (withSeats s n b table) seats-fits (seats-header ∙ h) (ap (tableWhole s (seatBytes n)) seats-replaced ∙ o) each
+  pub seats_whole : header_right s n b ≡ true → table_whole s (seat_bytes n) table ≡ true
+      → ((i : ℕ) → member i (listed s table) ≡ true → (i < s) × SeatRecordWhole n (clock_in b) (record_at s (seat_bytes n) table i))
+      → room_whole s n (with_seats s n b table) ≡ true
+  seats_whole h o r =
+      make_whole s n (with_seats s n b table) seats_fits (seats_header ∙ h) (ap (table_whole s (seat_bytes n)) seats_replaced ∙ o) each
     where
-      each : (i : ℕ) → member i (listed s (seatTable s n (withSeats s n b table))) ≡ true → seatWhole s n (withSeats s n b table) i ≡ true
+      each : (i : ℕ) → member i (listed s (seat_table s n (with_seats s n b table))) ≡ true → seat_whole s n (with_seats s n b table) i ≡ true
       each i m =
-          let q = r i (ap (λ (x : List ℕ). member i (listed s x)) (sym seats-replaced) ∙ m) in
-          seat-by-record s n (withSeats s n b table) i q.0
-          ∙ ap₂ (λ (t : ℕ) (x : List ℕ). seatRecordWhole n t (recordAt s (seatBytes n) x i)) seats-clock seats-replaced ∙ q.1
+          let q = r i (ap (λ (x : List ℕ). member i (listed s x)) (sym seats_replaced) ∙ m) in
+          seat_by_record s n (with_seats s n b table) i q.0
+          ∙ ap₂ (λ (t : ℕ) (x : List ℕ). seat_record_whole n t (record_at s (seat_bytes n) x i)) seats_clock seats_replaced ∙ q.1
 
 -- ---- a part of one seat's record, behind its key
 
-module _ (s n : ℕ) (b : List ℕ) (o : roomWhole s n b ≡ true) (i : ℕ) (held : Held) (e : seatAt (viewRoom s n b) i ≡ holds held)
-    (at : ℕ) (behind : keyBytes ≤ at) (new : List ℕ) (most : at + length new ≤ seatBytes n) where
-  f : fitsRoom s n b ≡ true
-  f = whole-fits s n b o
+module _ (s n : ℕ) (b : List ℕ) (o : room_whole s n b ≡ true) (i : ℕ) (held : Held) (e : seat_at (view_room s n b) i ≡ holds held)
+    (at : ℕ) (behind : key_bytes ≤ at) (new : List ℕ) (most : at + length new ≤ seat_bytes n) where
+  f : fits_room s n b ≡ true
+  f = whole_fits s n b o
 
-  t : Table s (seatBytes n) (seatTable s n b)
-  t = whole-seat-table s n b o
+  t : Table s (seat_bytes n) (seat_table s n b)
+  t = whole_seat_table s n b o
 
   below : i < s
-  below = (seat-holds s n b i held e).0
+  below = (seat_holds s n b i held e).0
 
   -- it is the table of seats, with a part of a record replaced
-  part-as-seats : splice b (seatStart s n i + at) new (length new) ≡ withSeats s n b (refilled s (seatBytes n) (seatTable s n b) i at new)
-  unfolding withSeats refilled seatTable
-  part-as-seats =
-      let q = room-long s n b f in
-      let r = row_fits s (seatBytes n) i below in
-      ap (λ (x : ℕ). splice b x new (length new)) (let z : seatStart s n i + at ≡ roomHeader + (1 + s + i * seatBytes n + at) = omega arith in z)
-      ∙ splice-inner b roomHeader (seatsBytes s n) (1 + s + i * seatBytes n + at) new q (omega arith)
+  part_as_seats : splice b (seat_start s n i + at) new (length new) ≡ with_seats s n b (refilled s (seat_bytes n) (seat_table s n b) i at new)
+  unfolding with_seats refilled seat_table
+  part_as_seats =
+      let q = room_long s n b f in
+      let r = row_fits s (seat_bytes n) i below in
+      ap (λ (x : ℕ). splice b x new (length new)) (let z : seat_start s n i + at ≡ room_header + (1 + s + i * seat_bytes n + at) = omega arith in z)
+      ∙ splice_inner b room_header (seats_bytes s n) (1 + s + i * seat_bytes n + at) new q (omega arith)
 
-  long : length (refilled s (seatBytes n) (seatTable s n b) i at new) ≡ seatsBytes s n
-  long = refilled-length s (seatBytes n) (seatTable s n b) t i below at new most ∙ t.long
+  long : length (refilled s (seat_bytes n) (seat_table s n b) i at new) ≡ seats_bytes s n
+  long = refilled_length s (seat_bytes n) (seat_table s n b) t i below at new most ∙ t.long
 
   -- THE LAW: that seat is what its new record says
-  pub part-view : viewRoom s n (splice b (seatStart s n i + at) new (length new))
-      ≡ setSeat (viewRoom s n b) i (holds (heldIn n (splice (recordAt s (seatBytes n) (seatTable s n b) i) at new (length new))))
-  part-view =
-      ap (viewRoom s n) part-as-seats
-      ∙ seats-view s n b f (refilled s (seatBytes n) (seatTable s n b) i at new) long
-      ∙ ap (setSeats (viewRoom s n b))
-      (view-refilled s (seatBytes n) (seatTable s n b) t i below at new most (seatIn n)
-      ∙ ap₂ (λ (x : List Seat) (y : Seat). set x i y) (view-is s n b) here)
+  pub part_view : view_room s n (splice b (seat_start s n i + at) new (length new))
+      ≡ set_seat (view_room s n b) i (holds (held_in n (splice (record_at s (seat_bytes n) (seat_table s n b) i) at new (length new))))
+  part_view =
+      ap (view_room s n) part_as_seats
+      ∙ seats_view s n b f (refilled s (seat_bytes n) (seat_table s n b) i at new) long
+      ∙ ap (set_seats (view_room s n b))
+      (view_refilled s (seat_bytes n) (seat_table s n b) t i below at new most (seat_in n)
+      ∙ ap₂ (λ (x : List Seat) (y : Seat). set x i y) (view_is s n b) here)
     where
-      here : seatIn n (member i (listed s (seatTable s n b))) (splice (recordAt s (seatBytes n) (seatTable s n b) i) at new (length new))
-          ≡ holds (heldIn n (splice (recordAt s (seatBytes n) (seatTable s n b) i) at new (length new)))
-      here = rw (seat-holds s n b i held e).1 (unfold seatIn in refl)
+      here : seat_in n (member i (listed s (seat_table s n b))) (splice (record_at s (seat_bytes n) (seat_table s n b) i) at new (length new))
+          ≡ holds (held_in n (splice (record_at s (seat_bytes n) (seat_table s n b) i) at new (length new)))
+      here = rw (seat_holds s n b i held e).1 (unfold seat_in in refl)
 
-  pub part_length : length (splice b (seatStart s n i + at) new (length new)) ≡ length b
-  part_length = ap length part-as-seats ∙ seats-length s n b f (refilled s (seatBytes n) (seatTable s n b) i at new) long
+  pub part_length : length (splice b (seat_start s n i + at) new (length new)) ≡ length b
+  part_length = ap length part_as_seats ∙ seats_length s n b f (refilled s (seat_bytes n) (seat_table s n b) i at new) long
 
   -- and the room is whole, where that record is
-  pub part-whole : SeatRecordWhole n (clockIn b) (splice (recordAt s (seatBytes n) (seatTable s n b) i) at new (length new))
-      → roomWhole s n (splice b (seatStart s n i + at) new (length new)) ≡ true
-  part-whole w =
-      ap (roomWhole s n) part-as-seats
-      ∙ seats-whole s n b f (refilled s (seatBytes n) (seatTable s n b) i at new) long (whole-header s n b o)
-      (refilled-whole s (seatBytes n) (seatTable s n b) t i below at new most behind (whole-seats s n b o))
+  pub part_whole : SeatRecordWhole n (clock_in b) (splice (record_at s (seat_bytes n) (seat_table s n b) i) at new (length new))
+      → room_whole s n (splice b (seat_start s n i + at) new (length new)) ≡ true
+  part_whole w =
+      ap (room_whole s n) part_as_seats
+      ∙ seats_whole s n b f (refilled s (seat_bytes n) (seat_table s n b) i at new) long (whole_header s n b o)
+      (refilled_whole s (seat_bytes n) (seat_table s n b) t i below at new most behind (whole_seats s n b o))
       (λ j m.
-      let d = ap (member j) (sym (refilled-listed s (seatBytes n) (seatTable s n b) t i below at new most)) ∙ m in
+      let d = ap (member j) (sym (refilled_listed s (seat_bytes n) (seat_table s n b) t i below at new most)) ∙ m in
       (listed_below s n b o j d, each j (eqb j i) refl d))
     where
-      each : (j : ℕ) (u : Bool) → eqb j i ≡ u → member j (listed s (seatTable s n b)) ≡ true
-          → SeatRecordWhole n (clockIn b) (recordAt s (seatBytes n) (refilled s (seatBytes n) (seatTable s n b) i at new) j)
+      each : (j : ℕ) (u : Bool) → eqb j i ≡ u → member j (listed s (seat_table s n b)) ≡ true
+          → SeatRecordWhole n (clock_in b) (record_at s (seat_bytes n) (refilled s (seat_bytes n) (seat_table s n b) i at new) j)
       each j true q m =
-          rw (eqb-true j i q) (subst (SeatRecordWhole n (clockIn b)) (sym (refilled_same s (seatBytes n) (seatTable s n b) t i below at new most)) w)
+          rw (eqb-true j i q) (subst (SeatRecordWhole n (clock_in b)) (sym (refilled_same s (seat_bytes n) (seat_table s n b) t i below at new most)) w)
       each j false q m =
-          subst (SeatRecordWhole n (clockIn b))
-          (sym (refilled-other s (seatBytes n) (seatTable s n b) t i below at new most j (listed_below s n b o j m) (eqb-false j i q)))
-          (whole-record s n b o j m)
+          subst (SeatRecordWhole n (clock_in b))
+          (sym (refilled_other s (seat_bytes n) (seat_table s n b) t i below at new most j (listed_below s n b o j m) (eqb-false j i q)))
+          (whole_record s n b o j m)
 
   -- what stands before that part stays, so the key does
-  pub part-within : at ≤ length (recordAt s (seatBytes n) (seatTable s n b) i)
-  part-within = let q = length-record s (seatBytes n) (seatTable s n b) t i below in omega arith
+  pub part_within : at ≤ length (record_at s (seat_bytes n) (seat_table s n b) i)
+  part_within = let q = length_record s (seat_bytes n) (seat_table s n b) t i below in omega arith
 
-  pub part-key : take keyBytes (splice (recordAt s (seatBytes n) (seatTable s n b) i) at new (length new)) ≡ held.key
-  part-key =
-      splice-before (recordAt s (seatBytes n) (seatTable s n b) i) new at (length new) part-within 0 keyBytes behind
-      ∙ ap (λ (h : Held). h.key) (seat-holds s n b i held e).2
+  pub part_key : take key_bytes (splice (record_at s (seat_bytes n) (seat_table s n b) i) at new (length new)) ≡ held.key
+  part_key =
+      splice_before (record_at s (seat_bytes n) (seat_table s n b) i) new at (length new) part_within 0 key_bytes behind
+      ∙ ap (λ (h : Held). h.key) (seat_holds s n b i held e).2
 
 -- ---- the table of routes of one seat
 
 -- a record whose end is replaced
-end-replaced : (a w : ℕ) (r new : List ℕ) → length r ≡ w → a + length new ≡ w → drop a (splice r a new (length new)) ≡ new
-end-replaced a w r new l e =
-    splice-from r new a (length new) (omega arith)
+end_replaced : (a w : ℕ) (r new : List ℕ) → length r ≡ w → a + length new ≡ w → drop a (splice r a new (length new)) ≡ new
+end_replaced a w r new l e =
+    splice_from r new a (length new) (omega arith)
     ∙ ap (λ (x : List ℕ). new ++ x) (drop_of_length-le (drop a r) {i = length new} (rw length-drop (omega arith))) ∙ append-nil new
 
-module _ (s n : ℕ) (b : List ℕ) (o : roomWhole s n b ≡ true) (i : ℕ) (held : Held)
-    (e : seatAt (viewRoom s n b) i ≡ holds held) (new : List ℕ) (l : length new ≡ routesBytes n) where
-  fills : routesInSeat + length new ≤ seatBytes n
+module _ (s n : ℕ) (b : List ℕ) (o : room_whole s n b ≡ true) (i : ℕ) (held : Held)
+    (e : seat_at (view_room s n b) i ≡ holds held) (new : List ℕ) (l : length new ≡ routes_bytes n) where
+  fills : routes_in_seat + length new ≤ seat_bytes n
   fills = omega arith
 
-  routes-as-part : withRoutes s n b i new ≡ splice b (routesStart s n i) new (length new)
-  unfolding withRoutes
-  routes-as-part = ap (λ (x : ℕ). splice b (routesStart s n i) new x) (sym l)
+  routes_as_part : with_routes s n b i new ≡ splice b (routes_start s n i) new (length new)
+  unfolding with_routes
+  routes_as_part = ap (λ (x : ℕ). splice b (routes_start s n i) new x) (sym l)
 
   abbrev filled : List ℕ
-  filled = splice (recordAt s (seatBytes n) (seatTable s n b) i) routesInSeat new (length new)
+  filled = splice (record_at s (seat_bytes n) (seat_table s n b) i) routes_in_seat new (length new)
 
-  routes-behind : drop routesInSeat filled ≡ new
-  routes-behind =
-      let kept = recordAt s (seatBytes n) (seatTable s n b) i in
-      let k = length-record s (seatBytes n) (seatTable s n b) (whole-seat-table s n b o) i (seat-holds s n b i held e).0 in
-      end-replaced routesInSeat (seatBytes n) kept new k (omega arith)
+  routes_behind : drop routes_in_seat filled ≡ new
+  routes_behind =
+      let kept = record_at s (seat_bytes n) (seat_table s n b) i in
+      let k = length_record s (seat_bytes n) (seat_table s n b) (whole_seat_table s n b o) i (seat_holds s n b i held e).0 in
+      end_replaced routes_in_seat (seat_bytes n) kept new k (omega arith)
 
-  routes-key : take keyBytes filled ≡ held.key
-  routes-key = part-key s n b o i held e routesInSeat (omega arith) new fills
+  routes_key : take key_bytes filled ≡ held.key
+  routes_key = part_key s n b o i held e routes_in_seat (omega arith) new fills
 
-  routes-ping : recordPing filled ≡ held.ping
-  routes-ping =
-      let kept = recordAt s (seatBytes n) (seatTable s n b) i in
-      let within = part-within s n b o i held e routesInSeat (omega arith) new fills in
+  routes_ping : record_ping filled ≡ held.ping
+  routes_ping =
+      let kept = record_at s (seat_bytes n) (seat_table s n b) i in
+      let within = part_within s n b o i held e routes_in_seat (omega arith) new fills in
       ap₂ (λ (x y : List ℕ). record { time = number_of x; number = number_of y })
-      (splice-before kept new routesInSeat (length new) within pingInSeat word_bytes (omega arith))
-      (splice-before kept new routesInSeat (length new) within outstandingInSeat word_bytes (omega arith))
-      ∙ ap (λ (h : Held). h.ping) (seat-holds s n b i held e).2
+      (splice_before kept new routes_in_seat (length new) within ping_in_seat word_bytes (omega arith))
+      (splice_before kept new routes_in_seat (length new) within outstanding_in_seat word_bytes (omega arith))
+      ∙ ap (λ (h : Held). h.ping) (seat_holds s n b i held e).2
 
   -- THE LAW: that seat has the new routes
-  pub routes-view : viewRoom s n (withRoutes s n b i new) ≡ setSeat (viewRoom s n b) i (holds (setRoutes held (viewRoutes n new)))
-  routes-view =
-      ap (viewRoom s n) routes-as-part ∙ part-view s n b o i held e routesInSeat (omega arith) new fills
-      ∙ ap (λ (h : Held). setSeat (viewRoom s n b) i (holds h))
-      (ap₂ (λ (k : Key) (p : Ping). setKey (setPing (heldIn n filled) p) k) routes-key routes-ping
-      ∙ ap (λ (x : List ℕ). setRoutes held (viewRoutes n x)) routes-behind)
+  pub routes_view : view_room s n (with_routes s n b i new) ≡ set_seat (view_room s n b) i (holds (set_routes held (view_routes n new)))
+  routes_view =
+      ap (view_room s n) routes_as_part ∙ part_view s n b o i held e routes_in_seat (omega arith) new fills
+      ∙ ap (λ (h : Held). set_seat (view_room s n b) i (holds h))
+      (ap₂ (λ (k : Key) (p : Ping). set_key (set_ping (held_in n filled) p) k) routes_key routes_ping
+      ∙ ap (λ (x : List ℕ). set_routes held (view_routes n x)) routes_behind)
 
-  pub routes-length : length (withRoutes s n b i new) ≡ length b
-  routes-length = ap length routes-as-part ∙ part_length s n b o i held e routesInSeat (omega arith) new fills
+  pub routes_length : length (with_routes s n b i new) ≡ length b
+  routes_length = ap length routes_as_part ∙ part_length s n b o i held e routes_in_seat (omega arith) new fills
 
   -- and the room is whole, where they do not have its key
-  pub routes-whole : tableWithout n keyBytes new held.key ≡ true → roomWhole s n (withRoutes s n b i new) ≡ true
-  routes-whole w =
-      ap (roomWhole s n) routes-as-part
-      ∙ part-whole s n b o i held e routesInSeat (omega arith) new fills
+  pub routes_whole : table_without n key_bytes new held.key ≡ true → room_whole s n (with_routes s n b i new) ≡ true
+  routes_whole w =
+      ap (room_whole s n) routes_as_part
+      ∙ part_whole s n b o i held e routes_in_seat (omega arith) new fills
       (ap₂ (λ (x y : Bool). x && y)
-      (ap (λ (p : Ping). leb p.time (clockIn b)) routes-ping ∙ le-leb held.ping.time (clockIn b) (held-ping s n b o i held e))
-      (ap₂ (tableWithout n keyBytes) routes-behind routes-key ∙ w))
+      (ap (λ (p : Ping). leb p.time (clock_in b)) routes_ping ∙ le-leb held.ping.time (clock_in b) (held_ping s n b o i held e))
+      (ap₂ (table_without n key_bytes) routes_behind routes_key ∙ w))

@@ -7,112 +7,112 @@ use Prim.Native.Nat.{ℕ, ◌<◌}
 use lib.ListN.{length, get_or, set}
 use lib.Dec.{ltb}
 use borrow.Author.Tests.{lt-ltb}
-use Rattle.table_laws.specs.Table.{Table, tableWhole, put_in, freedIn}
-use Rattle.rules.specs.Room.{Route, free, wants, Held, Seat, holds, Room, setRoutes, setSeat, none, find, routeTo, seatAt, sizesOf}
-use Rattle.rules.proofs.FindLaws.{find-miss, set_all}
-use Rattle.rules.specs.Outcome.{Change, seatTaken, seatEmptied, routeGiven, routeFreed, clockSet, pingSent, pingAnswered, withRoute, withPing, withoutPing, apply, applyAll}
-use Rattle.room_laws.specs.Layout.{keyBytes, routesBytes, fitsRoom, routesTable}
-use Rattle.room_laws.specs.View.{viewRoutes, viewRoom}
-use Rattle.room_laws.specs.Whole.{roomWhole}
-use Rattle.room_laws.specs.Store.{withRoutes, store, storeAll}
-use Rattle.room_laws.proofs.LayoutLaws.{length-routes}
+use Rattle.table_laws.specs.Table.{Table, table_whole, put_in, freed_in}
+use Rattle.rules.specs.Room.{Route, free, wants, Held, Seat, holds, Room, set_routes, set_seat, none, find, route_to, seat_at, sizes_of}
+use Rattle.rules.proofs.FindLaws.{find_miss, set_all}
+use Rattle.rules.specs.Outcome.{Change, seat_taken, seat_emptied, route_given, route_freed, clock_set, ping_sent, ping_answered, with_route, with_ping, without_ping, apply, apply_all}
+use Rattle.room_laws.specs.Layout.{key_bytes, routes_bytes, fits_room, routes_table}
+use Rattle.room_laws.specs.View.{view_routes, view_room}
+use Rattle.room_laws.specs.Whole.{room_whole}
+use Rattle.room_laws.specs.Store.{with_routes, store, store_all}
+use Rattle.room_laws.proofs.LayoutLaws.{length_routes}
 use Rattle.room_laws.specs.Fits.{Fit, takes, empties, gives, frees, sets, pings, answers, FitAll}
-use Rattle.room_laws.proofs.ViewLaws.{seat-holds}
+use Rattle.room_laws.proofs.ViewLaws.{seat_holds}
 use Rattle.room_laws.proofs.ViewFinds.{none_found}
-use Rattle.room_laws.proofs.RouteFinds.{none-without}
-use Rattle.room_laws.proofs.WholeLaws.{whole-fits, whole-routes-table, held-routes, held-others}
-use Rattle.room_laws.proofs.ReplaceLaws.{routes-view, routes-whole, routes-length}
-use Rattle.room_laws.proofs.ClockLaws.{clock-view, clock-whole, clock-length}
-use Rattle.room_laws.proofs.PingLaws.{ping-sent, ping-answered}
-use Rattle.room_laws.proofs.RouteLaws.{route-put, route-out}
-use Rattle.room_laws.proofs.SeatLaws.{seat-taken, seat-emptied}
+use Rattle.room_laws.proofs.RouteFinds.{none_without}
+use Rattle.room_laws.proofs.WholeLaws.{whole_fits, whole_routes_table, held_routes, held_others}
+use Rattle.room_laws.proofs.ReplaceLaws.{routes_view, routes_whole, routes_length}
+use Rattle.room_laws.proofs.ClockLaws.{clock_view, clock_whole, clock_length}
+use Rattle.room_laws.proofs.PingLaws.{ping_sent_lem, ping_answered_lem}
+use Rattle.room_laws.proofs.RouteLaws.{route_put, route_out}
+use Rattle.room_laws.proofs.SeatLaws.{seat_taken_lem, seat_emptied_lem}
 
-module _ (s n : ℕ) (b : List ℕ) (o : roomWhole s n b ≡ true) where
+module _ (s n : ℕ) (b : List ℕ) (o : room_whole s n b ≡ true) where
   -- where the room fits and there is a seat i, a store is done
-  fits-at : (i : ℕ) → i < s → (fitsRoom s n b && ltb i s) ≡ true
-  fits-at i h = rw (whole-fits s n b o, lt-ltb i s h)
+  fits_at : (i : ℕ) → i < s → (fits_room s n b && ltb i s) ≡ true
+  fits_at i h = rw (whole_fits s n b o, lt-ltb i s h)
 
   -- a seat's routes replaced by a whole table that has one of them changed, to one that does not want the seat's own key
-  module _ (i : ℕ) (held : Held) (e : seatAt (viewRoom s n b) i ≡ holds held) (j : ℕ) (route : Route) (apart : routeTo held.key route ≡ false) (new : List ℕ)
-      (q : (viewRoutes n new ≡ set (viewRoutes n (routesTable s n b i)) j route) × (tableWhole n keyBytes new ≡ true) × (length new ≡ length (routesTable s n b i))) where
+  module _ (i : ℕ) (held : Held) (e : seat_at (view_room s n b) i ≡ holds held) (j : ℕ) (route : Route) (apart : route_to held.key route ≡ false) (new : List ℕ)
+      (q : (view_routes n new ≡ set (view_routes n (routes_table s n b i)) j route) × (table_whole n key_bytes new ≡ true) × (length new ≡ length (routes_table s n b i))) where
     below : i < s
-    below = (seat-holds s n b i held e).0
+    below = (seat_holds s n b i held e).0
 
-    long : length new ≡ routesBytes n
-    long = q.2 ∙ length-routes s n b (whole-fits s n b o) i below
+    long : length new ≡ routes_bytes n
+    long = q.2 ∙ length_routes s n b (whole_fits s n b o) i below
 
-    new-table : Table n keyBytes new
-    new-table =
-        let t = whole-routes-table s n b o i (seat-holds s n b i held e).1 in
+    new_table : Table n key_bytes new
+    new_table =
+        let t = whole_routes_table s n b o i (seat_holds s n b i held e).1 in
         record { small = t.small; key = t.key; narrow = t.narrow; long = long }
 
     -- none of the new routes wants the seat's own key
-    others : find (routeTo held.key) (viewRoutes n new) ≡ none
+    others : find (route_to held.key) (view_routes n new) ≡ none
     others =
         let k = held.key in
-        let old = viewRoutes n (routesTable s n b i) in
-        let unwanted = ap (find (routeTo k)) (held-routes s n b o i held e).1 ∙ held-others s n b o i held e in
-        ap (find (routeTo k)) q.0
-        ∙ none_found (routeTo k) free (set old j route)
-        (λ x l. set_all (λ (r : Route). routeTo k r ≡ false) free old j route apart (find-miss (routeTo k) free old (unfold routeTo in refl) unwanted) x)
+        let old = view_routes n (routes_table s n b i) in
+        let unwanted = ap (find (route_to k)) (held_routes s n b o i held e).1 ∙ held_others s n b o i held e in
+        ap (find (route_to k)) q.0
+        ∙ none_found (route_to k) free (set old j route)
+        (λ x l. set_all (λ (r : Route). route_to k r ≡ false) free old j route apart (find_miss (route_to k) free old (unfold route_to in refl) unwanted) x)
 
-    route-changed : (viewRoom s n (withRoutes s n b i new) ≡ setSeat (viewRoom s n b) i (withRoute (seatAt (viewRoom s n b) i) j route))
-        × (roomWhole s n (withRoutes s n b i new) ≡ true) × (length (withRoutes s n b i new) ≡ length b)
-    unfolding withRoute
-    route-changed = (
-      routes-view s n b o i held e new long
-          ∙ ap (λ (x : List Route). setSeat (viewRoom s n b) i (holds (setRoutes held x))) (q.0 ∙ ap (λ (x : List Route). set x j route) (held-routes s n b o i held e).1)
-          ∙ ap (λ (x : Seat). setSeat (viewRoom s n b) i (withRoute x j route)) (sym e),
-      routes-whole s n b o i held e new long (none-without n new new-table q.1 held.key others),
-      routes-length s n b o i held e new long,
+    route_changed : (view_room s n (with_routes s n b i new) ≡ set_seat (view_room s n b) i (with_route (seat_at (view_room s n b) i) j route))
+        × (room_whole s n (with_routes s n b i new) ≡ true) × (length (with_routes s n b i new) ≡ length b)
+    unfolding with_route
+    route_changed = (
+      routes_view s n b o i held e new long
+          ∙ ap (λ (x : List Route). set_seat (view_room s n b) i (holds (set_routes held x))) (q.0 ∙ ap (λ (x : List Route). set x j route) (held_routes s n b o i held e).1)
+          ∙ ap (λ (x : Seat). set_seat (view_room s n b) i (with_route x j route)) (sym e),
+      routes_whole s n b o i held e new long (none_without n new new_table q.1 held.key others),
+      routes_length s n b o i held e new long,
     )
 
   -- the table of routes of a seat that holds a key
-  module _ (i : ℕ) (held : Held) (e : seatAt (viewRoom s n b) i ≡ holds held) where
-    held-table : Table n keyBytes (routesTable s n b i)
-    held-table = whole-routes-table s n b o i (seat-holds s n b i held e).1
+  module _ (i : ℕ) (held : Held) (e : seat_at (view_room s n b) i ≡ holds held) where
+    held_table : Table n key_bytes (routes_table s n b i)
+    held_table = whole_routes_table s n b o i (seat_holds s n b i held e).1
 
-    held_whole : tableWhole n keyBytes (routesTable s n b i) ≡ true
-    held_whole = (held-routes s n b o i held e).0
+    held_whole : table_whole n key_bytes (routes_table s n b i) ≡ true
+    held_whole = (held_routes s n b o i held e).0
 
-    held-view : viewRoutes n (routesTable s n b i) ≡ held.routes
-    held-view = (held-routes s n b o i held e).1
+    held_view : view_routes n (routes_table s n b i) ≡ held.routes
+    held_view = (held_routes s n b o i held e).1
 
   -- THE LAW
-  pub store-is-apply : (change : Change) → Fit s n (viewRoom s n b) change
-      → (viewRoom s n (store s n b change) ≡ apply (sizesOf s n) (viewRoom s n b) change)
-      × (roomWhole s n (store s n b change) ≡ true) × (length (store s n b change) ≡ length b)
+  pub store_is_apply : (change : Change) → Fit s n (view_room s n b) change
+      → (view_room s n (store s n b change) ≡ apply (sizes_of s n) (view_room s n b) change)
+      × (room_whole s n (store s n b change) ≡ true) × (length (store s n b change) ≡ length b)
   unfolding store apply
-  store-is-apply (seatTaken i key) (takes h unused fresh long) =
-      rw (whole-fits s n b o) (seat-taken s n b o i h key long unused fresh)
-  store-is-apply (seatEmptied i) (empties {held = held} e) =
-      rw (whole-fits s n b o) (seat-emptied s n b o i held e)
-  store-is-apply (routeGiven i j key) (gives {held = held} e h unused apart fresh long) =
-      rw (fits-at i (seat-holds s n b i held e).0)
-      (route-changed i held e j (wants key) (unfold routeTo in apart) (put_in n keyBytes (routesTable s n b i) j key)
-      (route-put n (routesTable s n b i) (held-table i held e) (held_whole i held e) j h key long
-      (ap (λ (x : List Route). get_or x j free) (held-view i held e) ∙ unused)
-      (ap (find (routeTo key)) (held-view i held e) ∙ fresh)))
-  store-is-apply (routeFreed i j) (frees {w = w} {held = held} e h) =
-      rw (fits-at i (seat-holds s n b i held e).0)
-      (route-changed i held e j free (unfold routeTo in refl) (freedIn n (routesTable s n b i) j)
-      (route-out n (routesTable s n b i) (held-table i held e) (held_whole i held e) j w
-      (ap (λ (x : List Route). get_or x j free) (held-view i held e) ∙ h)))
-  store-is-apply (clockSet time) (sets h small) =
-      rw (whole-fits s n b o) (clock-view s n b o time small, clock-whole s n b o time small (unfold viewRoom in h), clock-length s n b o time small)
-  store-is-apply (pingSent i time number) (pings {held = held} e h small few) =
-      rw (fits-at i (seat-holds s n b i held e).0, e) (unfold withPing in ping-sent s n b o i held e time number small few (unfold viewRoom in h))
-  store-is-apply (pingAnswered i) (answers {held = held} e) =
-      rw (fits-at i (seat-holds s n b i held e).0, e) (unfold withoutPing in ping-answered s n b o i held e)
+  store_is_apply (seat_taken i key) (takes h unused fresh long) =
+      rw (whole_fits s n b o) (seat_taken_lem s n b o i h key long unused fresh)
+  store_is_apply (seat_emptied i) (empties {held = held} e) =
+      rw (whole_fits s n b o) (seat_emptied_lem s n b o i held e)
+  store_is_apply (route_given i j key) (gives {held = held} e h unused apart fresh long) =
+      rw (fits_at i (seat_holds s n b i held e).0)
+      (route_changed i held e j (wants key) (unfold route_to in apart) (put_in n key_bytes (routes_table s n b i) j key)
+      (route_put n (routes_table s n b i) (held_table i held e) (held_whole i held e) j h key long
+      (ap (λ (x : List Route). get_or x j free) (held_view i held e) ∙ unused)
+      (ap (find (route_to key)) (held_view i held e) ∙ fresh)))
+  store_is_apply (route_freed i j) (frees {w = w} {held = held} e h) =
+      rw (fits_at i (seat_holds s n b i held e).0)
+      (route_changed i held e j free (unfold route_to in refl) (freed_in n (routes_table s n b i) j)
+      (route_out n (routes_table s n b i) (held_table i held e) (held_whole i held e) j w
+      (ap (λ (x : List Route). get_or x j free) (held_view i held e) ∙ h)))
+  store_is_apply (clock_set time) (sets h small) =
+      rw (whole_fits s n b o) (clock_view s n b o time small, clock_whole s n b o time small (unfold view_room in h), clock_length s n b o time small)
+  store_is_apply (ping_sent i time number) (pings {held = held} e h small few) =
+      rw (fits_at i (seat_holds s n b i held e).0, e) (unfold with_ping in ping_sent_lem s n b o i held e time number small few (unfold view_room in h))
+  store_is_apply (ping_answered i) (answers {held = held} e) =
+      rw (fits_at i (seat_holds s n b i held e).0, e) (unfold without_ping in ping_answered_lem s n b o i held e)
 
 -- ---- several changes
 
-pub store-all-is-apply-all : (s n : ℕ) (b : List ℕ) → roomWhole s n b ≡ true → (changes : List Change) → FitAll s n (viewRoom s n b) changes
-    → (viewRoom s n (storeAll s n b changes) ≡ applyAll (sizesOf s n) (viewRoom s n b) changes)
-    × (roomWhole s n (storeAll s n b changes) ≡ true) × (length (storeAll s n b changes) ≡ length b)
-unfolding storeAll applyAll
-store-all-is-apply-all s n b o [] f = (refl, o, refl)
-store-all-is-apply-all s n b o (change ∷ changes) f =
-    let q = store-is-apply s n b o change f.0 in
-    let r = store-all-is-apply-all s n (store s n b change) q.1 changes (subst (λ (x : Room). FitAll s n x changes) (sym q.0) f.1) in
-    (r.0 ∙ ap (λ (x : Room). applyAll (sizesOf s n) x changes) q.0, r.1, r.2 ∙ q.2)
+pub store_all_is_apply_all : (s n : ℕ) (b : List ℕ) → room_whole s n b ≡ true → (changes : List Change) → FitAll s n (view_room s n b) changes
+    → (view_room s n (store_all s n b changes) ≡ apply_all (sizes_of s n) (view_room s n b) changes)
+    × (room_whole s n (store_all s n b changes) ≡ true) × (length (store_all s n b changes) ≡ length b)
+unfolding store_all apply_all
+store_all_is_apply_all s n b o [] f = (refl, o, refl)
+store_all_is_apply_all s n b o (change ∷ changes) f =
+    let q = store_is_apply s n b o change f.0 in
+    let r = store_all_is_apply_all s n (store s n b change) q.1 changes (subst (λ (x : Room). FitAll s n x changes) (sym q.0) f.1) in
+    (r.0 ∙ ap (λ (x : Room). apply_all (sizes_of s n) x changes) q.0, r.1, r.2 ∙ q.2)

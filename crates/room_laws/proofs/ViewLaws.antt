@@ -9,99 +9,99 @@ use lib.Dec.{ltb}
 use borrow.Author.Tests.{ltb-true, ltb-false}
 use Rattle.key.proofs.Same.{same_refl}
 use Rattle.table_laws.specs.Bytes.{member}
-use Rattle.table_laws.specs.Table.{listed, recordAt, view}
-use Rattle.table_laws.proofs.TableLaws.{view-at, length-view, view-past}
-use Rattle.rules.specs.Room.{Key, Route, free, wants, Held, vacant, holds, routeTo, seatAt}
+use Rattle.table_laws.specs.Table.{listed, record_at, view}
+use Rattle.table_laws.proofs.TableLaws.{view_at, length_view, view_past}
+use Rattle.rules.specs.Room.{Key, Route, free, wants, Held, vacant, holds, route_to, seat_at}
 use Rattle.rules.proofs.FindLaws.{clash}
-use Rattle.room_laws.specs.Layout.{keyBytes, seatBytes, seatTable}
-use Rattle.room_laws.specs.View.{routeIn, viewRoutes, heldIn, seatIn, viewRoom}
+use Rattle.room_laws.specs.Layout.{key_bytes, seat_bytes, seat_table}
+use Rattle.room_laws.specs.View.{route_in, view_routes, held_in, seat_in, view_room}
 
 -- ---- one route and one seat, by whether it is listed
 
 -- a route that wants a key passes the test for it
-pub wants-passes : (key : Key) (y : Route) → y ≡ wants key → routeTo key y ≡ true
-unfolding routeTo
-wants-passes key y e = rw e (same_refl key)
+pub wants_passes : (key : Key) (y : Route) → y ≡ wants key → route_to key y ≡ true
+unfolding route_to
+wants_passes key y e = rw e (same_refl key)
 
-route-listed : (t : Bool) (r : List ℕ) (k : Key) → routeIn t r ≡ wants k → (t ≡ true) × (r ≡ k)
-unfolding routeIn
-route-listed true r k e = (refl, cc)
-route-listed false r k e = clash (cc)
+route_listed : (t : Bool) (r : List ℕ) (k : Key) → route_in t r ≡ wants k → (t ≡ true) × (r ≡ k)
+unfolding route_in
+route_listed true r k e = (refl, cc)
+route_listed false r k e = clash (cc)
 
-route-unlisted : (t : Bool) (r : List ℕ) → routeIn t r ≡ free → t ≡ false
-unfolding routeIn
-route-unlisted true r e = clash (cc)
-route-unlisted false r e = refl
+route_unlisted : (t : Bool) (r : List ℕ) → route_in t r ≡ free → t ≡ false
+unfolding route_in
+route_unlisted true r e = clash (cc)
+route_unlisted false r e = refl
 
-seat-listed : (n : ℕ) (t : Bool) (r : List ℕ) (held : Held) → seatIn n t r ≡ holds held → (t ≡ true) × (heldIn n r ≡ held)
-unfolding seatIn
-seat-listed n true r held e = (refl, cc)
-seat-listed n false r held e = clash (cc)
+seat_listed : (n : ℕ) (t : Bool) (r : List ℕ) (held : Held) → seat_in n t r ≡ holds held → (t ≡ true) × (held_in n r ≡ held)
+unfolding seat_in
+seat_listed n true r held e = (refl, cc)
+seat_listed n false r held e = clash (cc)
 
-seat-unlisted : (n : ℕ) (t : Bool) (r : List ℕ) → seatIn n t r ≡ vacant → t ≡ false
-unfolding seatIn
-seat-unlisted n true r e = clash (cc)
-seat-unlisted n false r e = refl
+seat_unlisted : (n : ℕ) (t : Bool) (r : List ℕ) → seat_in n t r ≡ vacant → t ≡ false
+unfolding seat_in
+seat_unlisted n true r e = clash (cc)
+seat_unlisted n false r e = refl
 
 -- ---- the routes of a table
 
 module _ (n : ℕ) (r : List ℕ) where
-  pub view-routes-length : length (viewRoutes n r) ≡ n
-  unfolding viewRoutes
-  view-routes-length = length-view n keyBytes routeIn r
+  pub view_routes_length : length (view_routes n r) ≡ n
+  unfolding view_routes
+  view_routes_length = length_view n key_bytes route_in r
 
-  pub route-at : (j : ℕ) → j < n → get_or (viewRoutes n r) j free ≡ routeIn (member j (listed n r)) (recordAt n keyBytes r j)
-  unfolding viewRoutes
-  route-at j h = view-at n keyBytes routeIn r j free h
+  pub route_at : (j : ℕ) → j < n → get_or (view_routes n r) j free ≡ route_in (member j (listed n r)) (record_at n key_bytes r j)
+  unfolding view_routes
+  route_at j h = view_at n key_bytes route_in r j free h
 
-  pub route-past : (j : ℕ) → n ≤ j → get_or (viewRoutes n r) j free ≡ free
-  unfolding viewRoutes
-  route-past j h = view-past n keyBytes routeIn r j free h
+  pub route_past : (j : ℕ) → n ≤ j → get_or (view_routes n r) j free ≡ free
+  unfolding view_routes
+  route_past j h = view_past n key_bytes route_in r j free h
 
-  pub route-free : (j : ℕ) → j < n → get_or (viewRoutes n r) j free ≡ free → member j (listed n r) ≡ false
-  route-free j h e = route-unlisted (member j (listed n r)) (recordAt n keyBytes r j) (sym (route-at j h) ∙ e)
+  pub route_free : (j : ℕ) → j < n → get_or (view_routes n r) j free ≡ free → member j (listed n r) ≡ false
+  route_free j h e = route_unlisted (member j (listed n r)) (record_at n key_bytes r j) (sym (route_at j h) ∙ e)
 
-  pub route-wants : (j : ℕ) (k : Key) → get_or (viewRoutes n r) j free ≡ wants k → (j < n) × (member j (listed n r) ≡ true) × (recordAt n keyBytes r j ≡ k)
-  route-wants j k e = go (ltb j n) refl
+  pub route_wants : (j : ℕ) (k : Key) → get_or (view_routes n r) j free ≡ wants k → (j < n) × (member j (listed n r) ≡ true) × (record_at n key_bytes r j ≡ k)
+  route_wants j k e = go (ltb j n) refl
     where
-      go : (t : Bool) → ltb j n ≡ t → (j < n) × (member j (listed n r) ≡ true) × (recordAt n keyBytes r j ≡ k)
+      go : (t : Bool) → ltb j n ≡ t → (j < n) × (member j (listed n r) ≡ true) × (record_at n key_bytes r j ≡ k)
       go true h =
           let l = ltb-true j n h in
-          let q = route-listed (member j (listed n r)) (recordAt n keyBytes r j) k (sym (route-at j l) ∙ e) in
+          let q = route_listed (member j (listed n r)) (record_at n key_bytes r j) k (sym (route_at j l) ∙ e) in
           (l, q.0, q.1)
-      go false h = let q = route-past j (ltb-false j n h) in clash (cc)
+      go false h = let q = route_past j (ltb-false j n h) in clash (cc)
 
 -- ---- the seats of a room
 
 module _ (s n : ℕ) (b : List ℕ) where
   -- the room is what the table of seats says
-  pub view-is : view s (seatBytes n) (seatIn n) (seatTable s n b) ≡ (viewRoom s n b).seats
-  unfolding viewRoom
-  view-is = refl
+  pub view_is : view s (seat_bytes n) (seat_in n) (seat_table s n b) ≡ (view_room s n b).seats
+  unfolding view_room
+  view_is = refl
 
-  pub view-room-length : length (viewRoom s n b).seats ≡ s
-  unfolding viewRoom
-  view-room-length = length-view s (seatBytes n) (seatIn n) (seatTable s n b)
+  pub view_room_length : length (view_room s n b).seats ≡ s
+  unfolding view_room
+  view_room_length = length_view s (seat_bytes n) (seat_in n) (seat_table s n b)
 
-  pub seat-at : (i : ℕ) → i < s → seatAt (viewRoom s n b) i ≡ seatIn n (member i (listed s (seatTable s n b))) (recordAt s (seatBytes n) (seatTable s n b) i)
-  unfolding viewRoom seatAt
-  seat-at i h = view-at s (seatBytes n) (seatIn n) (seatTable s n b) i vacant h
+  pub seat_at_lem : (i : ℕ) → i < s → seat_at (view_room s n b) i ≡ seat_in n (member i (listed s (seat_table s n b))) (record_at s (seat_bytes n) (seat_table s n b) i)
+  unfolding view_room seat_at
+  seat_at_lem i h = view_at s (seat_bytes n) (seat_in n) (seat_table s n b) i vacant h
 
-  pub seat-past : (i : ℕ) → s ≤ i → seatAt (viewRoom s n b) i ≡ vacant
-  unfolding viewRoom seatAt
-  seat-past i h = view-past s (seatBytes n) (seatIn n) (seatTable s n b) i vacant h
+  pub seat_past : (i : ℕ) → s ≤ i → seat_at (view_room s n b) i ≡ vacant
+  unfolding view_room seat_at
+  seat_past i h = view_past s (seat_bytes n) (seat_in n) (seat_table s n b) i vacant h
 
-  pub seat-vacant : (i : ℕ) → i < s → seatAt (viewRoom s n b) i ≡ vacant → member i (listed s (seatTable s n b)) ≡ false
-  seat-vacant i h e = seat-unlisted n (member i (listed s (seatTable s n b))) (recordAt s (seatBytes n) (seatTable s n b) i) (sym (seat-at i h) ∙ e)
+  pub seat_vacant : (i : ℕ) → i < s → seat_at (view_room s n b) i ≡ vacant → member i (listed s (seat_table s n b)) ≡ false
+  seat_vacant i h e = seat_unlisted n (member i (listed s (seat_table s n b))) (record_at s (seat_bytes n) (seat_table s n b) i) (sym (seat_at_lem i h) ∙ e)
 
-  pub seat-holds : (i : ℕ) (held : Held) → seatAt (viewRoom s n b) i ≡ holds held
-      → (i < s) × (member i (listed s (seatTable s n b)) ≡ true) × (heldIn n (recordAt s (seatBytes n) (seatTable s n b) i) ≡ held)
-  seat-holds i held e = go (ltb i s) refl
+  pub seat_holds : (i : ℕ) (held : Held) → seat_at (view_room s n b) i ≡ holds held
+      → (i < s) × (member i (listed s (seat_table s n b)) ≡ true) × (held_in n (record_at s (seat_bytes n) (seat_table s n b) i) ≡ held)
+  seat_holds i held e = go (ltb i s) refl
     where
       go : (t : Bool) → ltb i s ≡ t
-          → (i < s) × (member i (listed s (seatTable s n b)) ≡ true) × (heldIn n (recordAt s (seatBytes n) (seatTable s n b) i) ≡ held)
+          → (i < s) × (member i (listed s (seat_table s n b)) ≡ true) × (held_in n (record_at s (seat_bytes n) (seat_table s n b) i) ≡ held)
       go true h =
           let l = ltb-true i s h in
-          let q = seat-listed n (member i (listed s (seatTable s n b))) (recordAt s (seatBytes n) (seatTable s n b) i) held (sym (seat-at i l) ∙ e) in
+          let q = seat_listed n (member i (listed s (seat_table s n b))) (record_at s (seat_bytes n) (seat_table s n b) i) held (sym (seat_at_lem i l) ∙ e) in
           (l, q.0, q.1)
-      go false h = let q = seat-past i (ltb-false i s h) in clash (cc)
+      go false h = let q = seat_past i (ltb-false i s h) in clash (cc)

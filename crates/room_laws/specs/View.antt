@@ -4,7 +4,7 @@ use Rattle.std.specs.Prelude.{Bool, true, false, List, ℕ, take, drop}
 use Rattle.wire.specs.Numbers.{number_of}
 use Rattle.table_laws.specs.Table.{view}
 use Rattle.rules.specs.Room.{Key, Route, free, wants, Ping, Held, Seat, vacant, holds, Room}
-use Rattle.room_laws.specs.Layout.{keyBytes, word_bytes, clockStart, pingInSeat, outstandingInSeat, routesInSeat, seatBytes, seatTable, seatStart, routesTable}
+use Rattle.room_laws.specs.Layout.{key_bytes, word_bytes, clock_start, ping_in_seat, outstanding_in_seat, routes_in_seat, seat_bytes, seat_table, seat_start, routes_table}
 
 -- the 8 bytes from `at` on, and the number that they make
 abbrev pub word_at : ℕ → List ℕ → List ℕ
@@ -14,35 +14,35 @@ abbrev pub number_at : ℕ → List ℕ → ℕ
 number_at at b = number_of (word_at at b)
 
 -- the room's clock
-unfoldable pub clockIn : List ℕ → ℕ
-clockIn b = number_at clockStart b
+unfoldable pub clock_in : List ℕ → ℕ
+clock_in b = number_at clock_start b
 
-unfoldable pub routeIn : Bool → List ℕ → Route
-routeIn false bytes = free
-routeIn true bytes = wants bytes
+unfoldable pub route_in : Bool → List ℕ → Route
+route_in false bytes = free
+route_in true bytes = wants bytes
 
-unfoldable pub viewRoutes : ℕ → List ℕ → List Route
-viewRoutes n table = view n keyBytes routeIn table
+unfoldable pub view_routes : ℕ → List ℕ → List Route
+view_routes n table = view n key_bytes route_in table
 
 -- the ping of a seat, by bytes that begin with its record
-abbrev pub recordPing : List ℕ → Ping
-recordPing bytes = record { time = number_at pingInSeat bytes; number = number_at outstandingInSeat bytes }
+abbrev pub record_ping : List ℕ → Ping
+record_ping bytes = record { time = number_at ping_in_seat bytes; number = number_at outstanding_in_seat bytes }
 
 -- what the record of a seat holds
-abbrev pub heldIn : ℕ → List ℕ → Held
-heldIn n bytes = record { key = take keyBytes bytes; routes = viewRoutes n (drop routesInSeat bytes); ping = recordPing bytes }
+abbrev pub held_in : ℕ → List ℕ → Held
+held_in n bytes = record { key = take key_bytes bytes; routes = view_routes n (drop routes_in_seat bytes); ping = record_ping bytes }
 
-unfoldable pub seatIn : ℕ → Bool → List ℕ → Seat
-seatIn n false bytes = vacant
-seatIn n true bytes = holds (heldIn n bytes)
+unfoldable pub seat_in : ℕ → Bool → List ℕ → Seat
+seat_in n false bytes = vacant
+seat_in n true bytes = holds (held_in n bytes)
 
-unfoldable pub viewRoom : ℕ → ℕ → List ℕ → Room
-viewRoom s n b = record { seats = view s (seatBytes n) (seatIn n) (seatTable s n b); clock = clockIn b }
+unfoldable pub view_room : ℕ → ℕ → List ℕ → Room
+view_room s n b = record { seats = view s (seat_bytes n) (seat_in n) (seat_table s n b); clock = clock_in b }
 
 -- the ping of seat i
-unfoldable pub seatPing : ℕ → ℕ → List ℕ → ℕ → Ping
-seatPing s n b i = recordPing (drop (seatStart s n i) b)
+unfoldable pub seat_ping : ℕ → ℕ → List ℕ → ℕ → Ping
+seat_ping s n b i = record_ping (drop (seat_start s n i) b)
 
 -- what seat i holds, by its key and its table of routes
-abbrev pub seatHeld : ℕ → ℕ → List ℕ → ℕ → Key → Held
-seatHeld s n b i key = record { key = key; routes = viewRoutes n (routesTable s n b i); ping = seatPing s n b i }
+abbrev pub seat_held : ℕ → ℕ → List ℕ → ℕ → Key → Held
+seat_held s n b i key = record { key = key; routes = view_routes n (routes_table s n b i); ping = seat_ping s n b i }

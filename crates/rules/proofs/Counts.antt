@@ -9,29 +9,29 @@ use borrow.Author.Tests.{eq-eqb, eqb-true}
 use Rattle.refusal.specs.declared.Refusal.{Refusal}
 use Rattle.rules.specs.Room.{Sizes, Room}
 use Rattle.rules.specs.Call.{Call, refused}
-use Rattle.rules.specs.Outcome.{Outcome, refuse, sentBytes, accept, roomAfter, outcome}
+use Rattle.rules.specs.Outcome.{Outcome, refuse, sent_bytes, accept, room_after, outcome}
 use Rattle.rules.specs.History.{event, transcript}
-use Rattle.rules.specs.Accepted.{countIs, allCounted, RefusedOrAccepted, refusal, acceptance}
-use Rattle.rules.proofs.RefusedOrAccepted.{outcome-made}
+use Rattle.rules.specs.Accepted.{count_is, all_counted, RefusedOrAccepted, refusal, acceptance}
+use Rattle.rules.proofs.RefusedOrAccepted.{outcome_made}
 
 -- a refusal counts no byte
-pub refusal-counts-none : (why : Refusal) (written : ℕ) → countIs (refused why) written ≡ true → written ≡ 0
-unfolding countIs
-refusal-counts-none why written e = sym (eqb-true 0 written e)
+pub refusal_counts_none : (why : Refusal) (written : ℕ) → count_is (refused why) written ≡ true → written ≡ 0
+unfolding count_is
+refusal_counts_none why written e = sym (eqb-true 0 written e)
 
 module _ (room : Room) where
   abbrev Counted : Outcome → Type 0
-  Counted o = countIs o.answer (length (sentBytes o.sent)) ≡ true
+  Counted o = count_is o.answer (length (sent_bytes o.sent)) ≡ true
 
   made_counted : (o : Outcome) → RefusedOrAccepted o → Counted o
-  unfolding countIs refuse accept sentBytes
+  unfolding count_is refuse accept sent_bytes
   made_counted o (refusal why given e) = rw e
-  made_counted o (acceptance seat changes sent e) = rw e (eq-eqb (length (sentBytes sent)) (length (sentBytes sent)) refl)
+  made_counted o (acceptance seat changes sent e) = rw e (eq-eqb (length (sent_bytes sent)) (length (sent_bytes sent)) refl)
 
-  pub outcome-counted : (call : Call) → countIs (outcome room call).answer (length (sentBytes (outcome room call).sent)) ≡ true
-  outcome-counted call = made_counted (outcome room call) (outcome-made room call)
+  pub outcome_counted : (call : Call) → count_is (outcome room call).answer (length (sent_bytes (outcome room call).sent)) ≡ true
+  outcome_counted call = made_counted (outcome room call) (outcome_made room call)
 
-pub history-counted : (sizes : Sizes) (room : Room) (calls : List Call) → allCounted (transcript sizes room calls) ≡ true
-unfolding transcript event allCounted
-history-counted sizes room [] = refl
-history-counted sizes room (call ∷ calls) = rw (outcome-counted room call) (history-counted sizes (roomAfter sizes room (outcome room call)) calls)
+pub history_counted : (sizes : Sizes) (room : Room) (calls : List Call) → all_counted (transcript sizes room calls) ≡ true
+unfolding transcript event all_counted
+history_counted sizes room [] = refl
+history_counted sizes room (call ∷ calls) = rw (outcome_counted room call) (history_counted sizes (room_after sizes room (outcome room call)) calls)

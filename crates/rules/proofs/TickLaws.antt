@@ -11,11 +11,11 @@ use lib.Seq.{set-get_or}
 use borrow.Author.Tests.{eqb-true, ne_eqb}
 use Rattle.packet_laws.specs.Table.{kind_of}
 use Rattle.packet_laws.specs.FromRelay as relay
-use Rattle.rules.specs.Room.{Sizes, Key, Route, free, wants, Held, Seat, vacant, holds, Room, setClock, setSeats, setSeat, pingIn, seatAt, placeWhen, placesFrom, Peer, alone, joined, noneSince}
+use Rattle.rules.specs.Room.{Sizes, Key, Route, free, wants, Held, Seat, vacant, holds, Room, set_clock, set_seats, set_seat, ping_in, seat_at, place_when, places_from, Peer, alone, joined, none_since}
 use Rattle.rules.specs.Call.{Sent}
-use Rattle.rules.specs.Outcome.{withPing, apply, applyAll, refuse, accept, to, roomAfter, peer, toPeer, tellPeer, tellPeers, leaveFrom, pingSent, overdue, isOverdue, isDue, leaveEach, pingEach, leavers, dueSeats, tickFrom, Outcome, and_then, joinOutcomes}
-use Rattle.rules.specs.Transcript.{pingSentTo}
-use Rattle.rules.proofs.OutcomeLaws.{changes-append}
+use Rattle.rules.specs.Outcome.{with_ping, apply, apply_all, refuse, accept, to, room_after, peer, to_peer, tell_peer, tell_peers, leave_from, ping_sent, overdue, is_overdue, is_due, leave_each, ping_each, leavers, due_seats, tick_from, Outcome, and_then, join_outcomes}
+use Rattle.rules.specs.Transcript.{ping_sent_to}
+use Rattle.rules.proofs.OutcomeLaws.{changes_append}
 
 -- ---- a list in two parts
 
@@ -26,102 +26,102 @@ module _ {A : Type 0} where
   length_more : (pre : List A) (x : A) → suc (length pre) ≡ length (pre ++ (x ∷ []))
   length_more pre x = omega (arith, length-append pre (x ∷ []))
 
-  getD-behind : (pre : List A) (x : A) (rest : List A) (d : A) → get_or (pre ++ (x ∷ rest)) (length pre) d ≡ x
-  getD-behind [] x rest d = refl
-  getD-behind (y ∷ pre) x rest d = getD-behind pre x rest d
+  get_d_behind : (pre : List A) (x : A) (rest : List A) (d : A) → get_or (pre ++ (x ∷ rest)) (length pre) d ≡ x
+  get_d_behind [] x rest d = refl
+  get_d_behind (y ∷ pre) x rest d = get_d_behind pre x rest d
 
-  set-behind : (pre : List A) (x y : A) (rest : List A) → set (pre ++ (x ∷ rest)) (length pre) y ≡ pre ++ (y ∷ rest)
-  set-behind [] x y rest = refl
-  set-behind (z ∷ pre) x y rest = ap (λ (l : List A). z ∷ l) (set-behind pre x y rest)
+  set_behind : (pre : List A) (x y : A) (rest : List A) → set (pre ++ (x ∷ rest)) (length pre) y ≡ pre ++ (y ∷ rest)
+  set_behind [] x y rest = refl
+  set_behind (z ∷ pre) x y rest = ap (λ (l : List A). z ∷ l) (set_behind pre x y rest)
 
-  map-self : (l : List A) → map (λ x. x) l ≡ l
-  map-self [] = refl
-  map-self (x ∷ l) = ap (λ (t : List A). x ∷ t) (map-self l)
+  map_self : (l : List A) → map (λ x. x) l ≡ l
+  map_self [] = refl
+  map_self (x ∷ l) = ap (λ (t : List A). x ∷ t) (map_self l)
 
   -- an element of a list that is made of another's, one by one, where the missing one is made of the missing one
-  pub getD-each : (f : A → A) (d : A) → f d ≡ d → (l : List A) (i : ℕ) → get_or (map f l) i d ≡ f (get_or l i d)
-  getD-each f d e [] i = sym e
-  getD-each f d e (x ∷ l) zero = refl
-  getD-each f d e (x ∷ l) (suc i) = getD-each f d e l i
+  pub get_d_each : (f : A → A) (d : A) → f d ≡ d → (l : List A) (i : ℕ) → get_or (map f l) i d ≡ f (get_or l i d)
+  get_d_each f d e [] i = sym e
+  get_d_each f d e (x ∷ l) zero = refl
+  get_d_each f d e (x ∷ l) (suc i) = get_d_each f d e l i
 
 -- ---- seats replaced one after the other
 
-unfoldable pub setEach : (Seat → Seat) → Room → List ℕ → Room
-setEach f room [] = room
-setEach f room (seat ∷ seats) = setEach f (setSeat room seat (f (seatAt room seat))) seats
+unfoldable pub set_each : (Seat → Seat) → Room → List ℕ → Room
+set_each f room [] = room
+set_each f room (seat ∷ seats) = set_each f (set_seat room seat (f (seat_at room seat))) seats
 
 -- those that pass a test: each seat for itself. The test is made of the seats that the room's were made of
-set-each : (f g : Seat → Seat) (test : Seat → Bool) (room : Room) (pre rest : List Seat)
-    → setEach f (setSeats room (pre ++ map g rest)) (placesFrom test (length pre) rest)
-    ≡ setSeats room (pre ++ map (λ (x : Seat). cond (test x) (f (g x)) (g x)) rest)
-unfolding setEach placesFrom placeWhen seatAt
-set-each f g test room pre [] = refl
-set-each f g test room pre (x ∷ rest) = go (λ (y : Seat). set-each f g test room (pre ++ (y ∷ [])) rest) (test x)
+set_each_lem : (f g : Seat → Seat) (test : Seat → Bool) (room : Room) (pre rest : List Seat)
+    → set_each f (set_seats room (pre ++ map g rest)) (places_from test (length pre) rest)
+    ≡ set_seats room (pre ++ map (λ (x : Seat). cond (test x) (f (g x)) (g x)) rest)
+unfolding set_each places_from place_when seat_at
+set_each_lem f g test room pre [] = refl
+set_each_lem f g test room pre (x ∷ rest) = go (λ (y : Seat). set_each_lem f g test room (pre ++ (y ∷ [])) rest) (test x)
   where
     made : Seat → Seat
     made s = cond (test s) (f (g s)) (g s)
 
     -- the rest, behind what became of this seat
     Behind : Seat → List ℕ → List Seat → Type 0
-    Behind y seats l = setEach f (setSeats room ((pre ++ (y ∷ [])) ++ map g rest)) seats ≡ setSeats room ((pre ++ (y ∷ [])) ++ l)
+    Behind y seats l = set_each f (set_seats room ((pre ++ (y ∷ [])) ++ map g rest)) seats ≡ set_seats room ((pre ++ (y ∷ [])) ++ l)
 
-    onward : (y : Seat) → Behind y (placesFrom test (length (pre ++ (y ∷ []))) rest) (map made rest)
-        → setEach f (setSeats room (pre ++ (y ∷ map g rest))) (placesFrom test (suc (length pre)) rest) ≡ setSeats room (pre ++ (y ∷ map made rest))
+    onward : (y : Seat) → Behind y (places_from test (length (pre ++ (y ∷ []))) rest) (map made rest)
+        → set_each f (set_seats room (pre ++ (y ∷ map g rest))) (places_from test (suc (length pre)) rest) ≡ set_seats room (pre ++ (y ∷ map made rest))
     onward y later =
-        ap₂ (λ (l : List Seat) (k : ℕ). setEach f (setSeats room l) (placesFrom test k rest)) (sym (one_more pre y (map g rest))) (length_more pre y)
+        ap₂ (λ (l : List Seat) (k : ℕ). set_each f (set_seats room l) (places_from test k rest)) (sym (one_more pre y (map g rest))) (length_more pre y)
         ∙ later
-        ∙ ap (setSeats room) (one_more pre y (map made rest))
+        ∙ ap (set_seats room) (one_more pre y (map made rest))
 
-    go : ((y : Seat) → Behind y (placesFrom test (length (pre ++ (y ∷ []))) rest) (map made rest)) → (t : Bool)
-        → setEach f (setSeats room (pre ++ (g x ∷ map g rest))) (placeWhen t (length pre) (placesFrom test (suc (length pre)) rest))
-        ≡ setSeats room (pre ++ (cond t (f (g x)) (g x) ∷ map made rest))
+    go : ((y : Seat) → Behind y (places_from test (length (pre ++ (y ∷ []))) rest) (map made rest)) → (t : Bool)
+        → set_each f (set_seats room (pre ++ (g x ∷ map g rest))) (place_when t (length pre) (places_from test (suc (length pre)) rest))
+        ≡ set_seats room (pre ++ (cond t (f (g x)) (g x) ∷ map made rest))
     go later true =
-        ap (λ (l : List Seat). setEach f (setSeats room l) (placesFrom test (suc (length pre)) rest))
-        (ap (λ (s : Seat). set (pre ++ (g x ∷ map g rest)) (length pre) (f s)) (getD-behind pre (g x) (map g rest) vacant)
-        ∙ set-behind pre (g x) (f (g x)) (map g rest))
+        ap (λ (l : List Seat). set_each f (set_seats room l) (places_from test (suc (length pre)) rest))
+        (ap (λ (s : Seat). set (pre ++ (g x ∷ map g rest)) (length pre) (f s)) (get_d_behind pre (g x) (map g rest) vacant)
+        ∙ set_behind pre (g x) (f (g x)) (map g rest))
         ∙ onward (f (g x)) (later (f (g x)))
     go later false = onward (g x) (later (g x))
 
 -- ---- the changes of a tick
 
-pub leave_room : (sizes : Sizes) (room : Room) (seat : ℕ) (s : Seat) → seatAt room seat ≡ s → applyAll sizes room (leaveFrom s room seat).changes ≡ setSeat room seat vacant
-unfolding leaveFrom refuse accept applyAll apply seatAt
-leave_room sizes room seat vacant e = ap (setSeats room) (sym (set-get_or room.seats seat vacant) ∙ ap (set room.seats seat) e)
+pub leave_room : (sizes : Sizes) (room : Room) (seat : ℕ) (s : Seat) → seat_at room seat ≡ s → apply_all sizes room (leave_from s room seat).changes ≡ set_seat room seat vacant
+unfolding leave_from refuse accept apply_all apply seat_at
+leave_room sizes room seat vacant e = ap (set_seats room) (sym (set-get_or room.seats seat vacant) ∙ ap (set room.seats seat) e)
 leave_room sizes room seat (holds held) e = refl
 
-pub leaves-room : (sizes : Sizes) (room : Room) (seats : List ℕ) → applyAll sizes room (leaveEach room seats).changes ≡ setEach (λ s. vacant) room seats
-unfolding leaveEach accept applyAll setEach
-leaves-room sizes room [] = refl
-leaves-room sizes room (seat ∷ seats) =
-    changes-append sizes room (leaveFrom (seatAt room seat) room seat).changes (leaveEach (setSeat room seat vacant) seats).changes
-    ∙ ap (λ (r : Room). applyAll sizes r (leaveEach (setSeat room seat vacant) seats).changes) (leave_room sizes room seat (seatAt room seat) refl)
-    ∙ leaves-room sizes (setSeat room seat vacant) seats
+pub leaves_room : (sizes : Sizes) (room : Room) (seats : List ℕ) → apply_all sizes room (leave_each room seats).changes ≡ set_each (λ s. vacant) room seats
+unfolding leave_each accept apply_all set_each
+leaves_room sizes room [] = refl
+leaves_room sizes room (seat ∷ seats) =
+    changes_append sizes room (leave_from (seat_at room seat) room seat).changes (leave_each (set_seat room seat vacant) seats).changes
+    ∙ ap (λ (r : Room). apply_all sizes r (leave_each (set_seat room seat vacant) seats).changes) (leave_room sizes room seat (seat_at room seat) refl)
+    ∙ leaves_room sizes (set_seat room seat vacant) seats
 
-pings-room : (sizes : Sizes) (time number : ℕ) (room : Room) (seats : List ℕ)
-    → applyAll sizes room (map (λ seat. pingSent seat time number) seats) ≡ setEach (λ (s : Seat). withPing s time number) room seats
-unfolding applyAll apply setEach
-pings-room sizes time number room [] = refl
-pings-room sizes time number room (seat ∷ seats) = pings-room sizes time number (setSeat room seat (withPing (seatAt room seat) time number)) seats
+pings_room : (sizes : Sizes) (time number : ℕ) (room : Room) (seats : List ℕ)
+    → apply_all sizes room (map (λ seat. ping_sent seat time number) seats) ≡ set_each (λ (s : Seat). with_ping s time number) room seats
+unfolding apply_all apply set_each
+pings_room sizes time number room [] = refl
+pings_room sizes time number room (seat ∷ seats) = pings_room sizes time number (set_seat room seat (with_ping (seat_at room seat) time number)) seats
 
 -- ---- a seat after a tick
 
 -- emptied where it is overdue
 abbrev pub remaining : ℕ → Seat → Seat
-remaining time s = cond (isOverdue time s) vacant s
+remaining time s = cond (is_overdue time s) vacant s
 
 -- and pinged where it is due
-abbrev pub seatAfterTick : ℕ → ℕ → Seat → Seat
-seatAfterTick time number s = cond (isDue time s) (withPing (remaining time s) time number) (remaining time s)
+abbrev pub seat_after_tick : ℕ → ℕ → Seat → Seat
+seat_after_tick time number s = cond (is_due time s) (with_ping (remaining time s) time number) (remaining time s)
 
 -- an empty seat stays empty
-pub no_ping : (time number : ℕ) → seatAfterTick time number vacant ≡ vacant
-unfolding isDue isOverdue overdue pingIn
+pub no_ping : (time number : ℕ) → seat_after_tick time number vacant ≡ vacant
+unfolding is_due is_overdue overdue ping_in
 no_ping time number = refl
 
-pub due-not-overdue : (time : ℕ) (s : Seat) → isDue time s ≡ true → isOverdue time s ≡ false
-unfolding isDue isOverdue overdue pingIn
-due-not-overdue time vacant h = refl
-due-not-overdue time (holds held) h = go (eqb held.ping.number 0) (leb 30 (time - held.ping.time)) h
+pub due_not_overdue : (time : ℕ) (s : Seat) → is_due time s ≡ true → is_overdue time s ≡ false
+unfolding is_due is_overdue overdue ping_in
+due_not_overdue time vacant h = refl
+due_not_overdue time (holds held) h = go (eqb held.ping.number 0) (leb 30 (time - held.ping.time)) h
   where
     go : (t u : Bool) → (t && u) ≡ true → (not t && leb 10 (time - held.ping.time)) ≡ false
     go true u h = refl
@@ -129,21 +129,21 @@ due-not-overdue time (holds held) h = go (eqb held.ping.number 0) (leb 30 (time 
 
 -- THE LAW
 module _ (sizes : Sizes) (room : Room) (time number : ℕ) where
-  pub room-after-departures : setEach (λ s. vacant) (setClock room time) (leavers time room) ≡ setSeats (setClock room time) (map (remaining time) room.seats)
+  pub room_after_departures : set_each (λ s. vacant) (set_clock room time) (leavers time room) ≡ set_seats (set_clock room time) (map (remaining time) room.seats)
   unfolding leavers
-  room-after-departures =
-      ap (λ (l : List Seat). setEach (λ s. vacant) (setSeats (setClock room time) l) (placesFrom (isOverdue time) 0 room.seats)) (sym (map-self room.seats))
-      ∙ set-each (λ s. vacant) (λ s. s) (isOverdue time) (setClock room time) [] room.seats
+  room_after_departures =
+      ap (λ (l : List Seat). set_each (λ s. vacant) (set_seats (set_clock room time) l) (places_from (is_overdue time) 0 room.seats)) (sym (map_self room.seats))
+      ∙ set_each_lem (λ s. vacant) (λ s. s) (is_overdue time) (set_clock room time) [] room.seats
 
-  pub room-after-tick : roomAfter sizes room (tickFrom room time number) ≡ setSeats (setClock room time) (map (seatAfterTick time number) room.seats)
-  unfolding roomAfter tickFrom accept pingEach dueSeats applyAll apply
-  room-after-tick =
-      changes-append sizes (setClock room time) (leaveEach (setClock room time) (leavers time room)).changes (map (λ seat. pingSent seat time number) (dueSeats time room))
-      ∙ ap (λ (r : Room). applyAll sizes r (map (λ seat. pingSent seat time number) (dueSeats time room)))
-      (leaves-room sizes (setClock room time) (leavers time room) ∙ room-after-departures)
-      ∙ pings-room sizes time number (setSeats (setClock room time) (map (remaining time) room.seats)) (dueSeats time room)
-      ∙ set-each (λ (s : Seat). withPing s time number) (remaining time) (isDue time) (setClock room time) [] room.seats
+  pub room_after_tick : room_after sizes room (tick_from room time number) ≡ set_seats (set_clock room time) (map (seat_after_tick time number) room.seats)
+  unfolding room_after tick_from accept ping_each due_seats apply_all apply
+  room_after_tick =
+      changes_append sizes (set_clock room time) (leave_each (set_clock room time) (leavers time room)).changes (map (λ seat. ping_sent seat time number) (due_seats time room))
+      ∙ ap (λ (r : Room). apply_all sizes r (map (λ seat. ping_sent seat time number) (due_seats time room)))
+      (leaves_room sizes (set_clock room time) (leavers time room) ∙ room_after_departures)
+      ∙ pings_room sizes time number (set_seats (set_clock room time) (map (remaining time) room.seats)) (due_seats time room)
+      ∙ set_each_lem (λ (s : Seat). with_ping s time number) (remaining time) (is_due time) (set_clock room time) [] room.seats
 
-  pub seat-after-tick : (here : ℕ) → seatAt (roomAfter sizes room (tickFrom room time number)) here ≡ seatAfterTick time number (seatAt room here)
-  unfolding seatAt
-  seat-after-tick here = ap (λ (r : Room). get_or r.seats here vacant) room-after-tick ∙ getD-each (seatAfterTick time number) vacant (no_ping time number) room.seats here
+  pub seat_after_tick_lem : (here : ℕ) → seat_at (room_after sizes room (tick_from room time number)) here ≡ seat_after_tick time number (seat_at room here)
+  unfolding seat_at
+  seat_after_tick_lem here = ap (λ (r : Room). get_or r.seats here vacant) room_after_tick ∙ get_d_each (seat_after_tick time number) vacant (no_ping time number) room.seats here

@@ -10,180 +10,180 @@ use Prim.Native.Nat.{ℕ, ◌*◌, ◌≤◌}
 use native.Mathlib.Omega.{arith}
 use lib.Dec.{eqb, ltb}
 use lib.ListN.{length, length-append}
-use Rattle.wire.proofs.Numbers.{length-bytesOf}
-use Rattle.key.specs.Keys.{sameKey}
+use Rattle.wire.proofs.Numbers.{length_bytes_of}
+use Rattle.key.specs.Keys.{same_key}
 use Rattle.packet_laws.specs.Read.{Read}
 use Rattle.packet_laws.specs.Read as read
 use Rattle.packet_laws.specs.FromClient as client
 use Rattle.packet_laws.specs.FromClient.{Within}
 use Rattle.packet_laws.specs.FromRelay as relay
-use Rattle.packet_laws.proofs.ReadBounds.{read-within}
-use Rattle.rules.specs.Room.{Sizes, Key, Route, free, wants, Ping, Seat, vacant, holds, Room, Found, none, at, find, seatOf, routeTo, isFree, pingIn, seatAt, routeAt, numberOfPlace, Peer, alone, joined, Held}
+use Rattle.packet_laws.proofs.ReadBounds.{read_within}
+use Rattle.rules.specs.Room.{Sizes, Key, Route, free, wants, Ping, Seat, vacant, holds, Room, Found, none, at, find, seat_of, route_to, is_free, ping_in, seat_at, route_at, number_of_place, Peer, alone, joined, Held}
 use Rattle.rules.specs.Whole.{Whole, ShortKeys}
-use Rattle.rules.specs.Call.{Call, arrive, leave, packetCall, tick, needed, mostNeeded, Answer, accepted, refused, Sent}
-use Rattle.rules.specs.Outcome.{refuse, accept, sentBytes, roomAfter, peer, toPeer, to, tellPeer, tellPeers, leaveFrom, tellBoth, requestAt, drop_at, oobTo, carryTo, dataAt, pongAt, act, actOn, packetFrom, overdue, outcome}
+use Rattle.rules.specs.Call.{Call, arrive, leave, packet_call, tick, needed, most_needed, Answer, accepted, refused, Sent}
+use Rattle.rules.specs.Outcome.{refuse, accept, sent_bytes, room_after, peer, to_peer, to, tell_peer, tell_peers, leave_from, tell_both, request_at, drop_at, oob_to, carry_to, data_at, pong_at, act, act_on, packet_from, overdue, outcome}
 use Rattle.rules.specs.History.{event}
-use Rattle.rules.specs.Transcript.{Maker, nobody, clientOf, isClient, isAccepted, pingOf, sitsAfter, sitsAfterArrival, sitter}
-use Rattle.rules.specs.After.{clientIn, start_of}
-use Rattle.rules.proofs.SentLaws.{count-more, count-one, count-append}
-use Rattle.rules.proofs.TickWithin.{tick-at-within}
-use Rattle.rules.proofs.ComesBack.{held, sits-there, some-empty, comes-back-to, new-sends-nothing}
-use Rattle.rules.proofs.Tied.{tied-start, tied-after}
+use Rattle.rules.specs.Transcript.{Maker, nobody, client_of, is_client, is_accepted, ping_of, sits_after, sits_after_arrival, sitter}
+use Rattle.rules.specs.After.{client_in, start_of}
+use Rattle.rules.proofs.SentLaws.{count_more, count_one, count_append}
+use Rattle.rules.proofs.TickWithin.{tick_at_within}
+use Rattle.rules.proofs.ComesBack.{held, sits_there, some_empty, comes_back_to, new_sends_nothing}
+use Rattle.rules.proofs.Tied.{tied_start, tied_after}
 
 -- ---- records
 
 -- how many bytes records take
 abbrev size : List Sent → ℕ
-size sent = length (sentBytes sent)
+size sent = length (sent_bytes sent)
 
 none_within : (most : ℕ) → size [] ≤ most
-unfolding sentBytes
+unfolding sent_bytes
 none_within most = omega arith
 
-notice-within : (p : Peer) → size (toPeer relay.disconnectNotice p) ≤ 5
-unfolding toPeer to relay.relayBytes
-notice-within alone = none_within _
-notice-within (joined seat place) = omega (arith, count-one (to seat (relay.disconnectNotice (numberOfPlace place))))
+notice_within : (p : Peer) → size (to_peer relay.disconnect_notice p) ≤ 5
+unfolding to_peer to relay.relay_bytes
+notice_within alone = none_within _
+notice_within (joined seat place) = omega (arith, count_one (to seat (relay.disconnect_notice (number_of_place place))))
 
-both-within : (seat number : ℕ) (p : Peer) → size (tellBoth seat number p) ≤ 10
-unfolding tellBoth to relay.relayBytes
-both-within seat number alone = none_within _
-both-within seat number (joined other place) =
-    let theirs = to other (relay.connectNotice (numberOfPlace place)) in
-    omega (arith, count-more (to seat (relay.connectNotice number)) (theirs ∷ []), count-one theirs)
+both_within : (seat number : ℕ) (p : Peer) → size (tell_both seat number p) ≤ 10
+unfolding tell_both to relay.relay_bytes
+both_within seat number alone = none_within _
+both_within seat number (joined other place) =
+    let theirs = to other (relay.connect_notice (number_of_place place)) in
+    omega (arith, count_more (to seat (relay.connect_notice number)) (theirs ∷ []), count_one theirs)
 
 -- ---- each call
 
 module _ (room : Room) where
   -- for one number of a client that leaves
-  pub tell-within : (seat : ℕ) (key : Key) (route : Route) → length (sentBytes (tellPeer room seat key route)) ≤ 5
-  unfolding tellPeer
-  tell-within seat key free = none_within 5
-  tell-within seat key (wants wanted) = notice-within (peer room seat key wanted)
+  pub tell_within : (seat : ℕ) (key : Key) (route : Route) → length (sent_bytes (tell_peer room seat key route)) ≤ 5
+  unfolding tell_peer
+  tell_within seat key free = none_within 5
+  tell_within seat key (wants wanted) = notice_within (peer room seat key wanted)
 
-  tells-within : (seat : ℕ) (key : Key) (routes : List Route) → size (tellPeers room seat key routes) ≤ 5 * length routes
-  unfolding tellPeers
-  tells-within seat key [] = none_within 0
-  tells-within seat key (route ∷ routes) =
-      let h = tells-within seat key routes in
-      let g = tell-within seat key route in
-      omega (arith, count-append (tellPeer room seat key route) (tellPeers room seat key routes))
+  tells_within : (seat : ℕ) (key : Key) (routes : List Route) → size (tell_peers room seat key routes) ≤ 5 * length routes
+  unfolding tell_peers
+  tells_within seat key [] = none_within 0
+  tells_within seat key (route ∷ routes) =
+      let h = tells_within seat key routes in
+      let g = tell_within seat key route in
+      omega (arith, count_append (tell_peer room seat key route) (tell_peers room seat key routes))
 
-  request-within : (own : Bool) (old lowest : Found) (seat : ℕ) (key wanted : Key) → length wanted ≡ 32 → size (requestAt own old lowest room seat key wanted).sent ≤ 47
-  unfolding requestAt accept to relay.relayBytes
-  request-within true old lowest seat key wanted l = omega (arith, count-one (to seat (relay.routingResponse 0 wanted)))
-  request-within false (at place) lowest seat key wanted l = omega (arith, count-one (to seat (relay.routingResponse (numberOfPlace place) wanted)))
-  request-within false none none seat key wanted l = omega (arith, count-one (to seat (relay.routingResponse 0 wanted)))
-  request-within false none (at place) seat key wanted l =
-      let told = tellBoth seat (numberOfPlace place) (peer room seat key wanted) in
-      let h = both-within seat (numberOfPlace place) (peer room seat key wanted) in
-      omega (arith, count-more (to seat (relay.routingResponse (numberOfPlace place) wanted)) told)
+  request_within : (own : Bool) (old lowest : Found) (seat : ℕ) (key wanted : Key) → length wanted ≡ 32 → size (request_at own old lowest room seat key wanted).sent ≤ 47
+  unfolding request_at accept to relay.relay_bytes
+  request_within true old lowest seat key wanted l = omega (arith, count_one (to seat (relay.routing_response 0 wanted)))
+  request_within false (at place) lowest seat key wanted l = omega (arith, count_one (to seat (relay.routing_response (number_of_place place) wanted)))
+  request_within false none none seat key wanted l = omega (arith, count_one (to seat (relay.routing_response 0 wanted)))
+  request_within false none (at place) seat key wanted l =
+      let told = tell_both seat (number_of_place place) (peer room seat key wanted) in
+      let h = both_within seat (number_of_place place) (peer room seat key wanted) in
+      omega (arith, count_more (to seat (relay.routing_response (number_of_place place) wanted)) told)
 
-  drop-within : (route : Route) (seat : ℕ) (key : Key) (number : ℕ) → size (drop_at route room seat key number).sent ≤ 5
+  drop_within : (route : Route) (seat : ℕ) (key : Key) (number : ℕ) → size (drop_at route room seat key number).sent ≤ 5
   unfolding drop_at refuse accept
-  drop-within free seat key number = none_within _
-  drop-within (wants wanted) seat key number = notice-within (peer room seat key wanted)
+  drop_within free seat key number = none_within _
+  drop_within (wants wanted) seat key number = notice_within (peer room seat key wanted)
 
-  oob-within : (other : Found) (seat : ℕ) (key : Key) (bytes : List ℕ) → length key ≤ 32 → length bytes ≤ 1024 → size (oobTo other seat key bytes).sent ≤ 1060
-  unfolding oobTo accept to relay.relayBytes
-  oob-within none seat key bytes k l = none_within _
-  oob-within (at other) seat key bytes k l = omega (arith, count-one (to other (relay.oobReceived key bytes)), length-append key bytes)
+  oob_within : (other : Found) (seat : ℕ) (key : Key) (bytes : List ℕ) → length key ≤ 32 → length bytes ≤ 1024 → size (oob_to other seat key bytes).sent ≤ 1060
+  unfolding oob_to accept to relay.relay_bytes
+  oob_within none seat key bytes k l = none_within _
+  oob_within (at other) seat key bytes k l = omega (arith, count_one (to other (relay.oob_received key bytes)), length-append key bytes)
 
-  carry-within : (p : Peer) (seat : ℕ) (bytes : List ℕ) → length bytes ≤ 2031 → size (carryTo p seat bytes).sent ≤ 2035
-  unfolding carryTo refuse accept to relay.relayBytes
-  carry-within alone seat bytes l = none_within _
-  carry-within (joined other place) seat bytes l = omega (arith, count-one (to other (relay.routedData (numberOfPlace place) bytes)))
+  carry_within : (p : Peer) (seat : ℕ) (bytes : List ℕ) → length bytes ≤ 2031 → size (carry_to p seat bytes).sent ≤ 2035
+  unfolding carry_to refuse accept to relay.relay_bytes
+  carry_within alone seat bytes l = none_within _
+  carry_within (joined other place) seat bytes l = omega (arith, count_one (to other (relay.routed_data (number_of_place place) bytes)))
 
-  data-within : (route : Route) (seat : ℕ) (key : Key) (bytes : List ℕ) → length bytes ≤ 2031 → size (dataAt route room seat key bytes).sent ≤ 2035
-  unfolding dataAt refuse
-  data-within free seat key bytes l = none_within _
-  data-within (wants wanted) seat key bytes l = carry-within (peer room seat key wanted) seat bytes l
+  data_within : (route : Route) (seat : ℕ) (key : Key) (bytes : List ℕ) → length bytes ≤ 2031 → size (data_at route room seat key bytes).sent ≤ 2035
+  unfolding data_at refuse
+  data_within free seat key bytes l = none_within _
+  data_within (wants wanted) seat key bytes l = carry_within (peer room seat key wanted) seat bytes l
 
-  pong-within : (t : Bool) (seat : ℕ) → size (pongAt t seat).sent ≤ 0
-  unfolding pongAt accept
-  pong-within true seat = none_within _
-  pong-within false seat = none_within _
+  pong_within : (t : Bool) (seat : ℕ) → size (pong_at t seat).sent ≤ 0
+  unfolding pong_at accept
+  pong_within true seat = none_within _
+  pong_within false seat = none_within _
 
-  act-within : (p : client.FromClient) → Within p → (seat : ℕ) (held : Held) → length held.key ≤ 32 → size (act p room seat held).sent ≤ 2035
-  unfolding act accept to relay.relayBytes Within
-  act-within (client.routingRequest wanted) w seat held k =
-      let h = request-within (sameKey wanted held.key) (find (routeTo wanted) held.routes) (find isFree held.routes) seat held.key wanted w in omega arith
-  act-within (client.dropRoute number) w seat held k = let h = drop-within (routeAt held.routes number) seat held.key number in omega arith
-  act-within (client.ping n) w seat held k = omega (arith, count-one (to seat (relay.pong n)), length-bytesOf 8 n)
-  act-within (client.pong n) w seat held k = let h = pong-within (eqb n held.ping.number) seat in omega arith
-  act-within (client.oobSend wanted bytes) w seat held k = let h = oob-within (find (seatOf wanted) room.seats) seat held.key bytes k w.1 in omega arith
-  act-within (client.routedData number bytes) w seat held k = let h = data-within (routeAt held.routes number) seat held.key bytes w.1 in omega arith
+  act_within : (p : client.FromClient) → Within p → (seat : ℕ) (held : Held) → length held.key ≤ 32 → size (act p room seat held).sent ≤ 2035
+  unfolding act accept to relay.relay_bytes Within
+  act_within (client.routing_request wanted) w seat held k =
+      let h = request_within (same_key wanted held.key) (find (route_to wanted) held.routes) (find is_free held.routes) seat held.key wanted w in omega arith
+  act_within (client.drop_route number) w seat held k = let h = drop_within (route_at held.routes number) seat held.key number in omega arith
+  act_within (client.ping n) w seat held k = omega (arith, count_one (to seat (relay.pong n)), length_bytes_of 8 n)
+  act_within (client.pong n) w seat held k = let h = pong_within (eqb n held.ping.number) seat in omega arith
+  act_within (client.oob_send wanted bytes) w seat held k = let h = oob_within (find (seat_of wanted) room.seats) seat held.key bytes k w.1 in omega arith
+  act_within (client.routed_data number bytes) w seat held k = let h = data_within (route_at held.routes number) seat held.key bytes w.1 in omega arith
 
-  acted-within : (bytes : List ℕ) (r : Read client.FromClient) → client.relayRead bytes ≡ r → (seat : ℕ) (held : Held) → length held.key ≤ 32
-      → size (actOn r room seat held).sent ≤ 2035
-  unfolding actOn refuse
-  acted-within bytes (read.packet p) e seat held k = act-within p (read-within bytes p e) seat held k
-  acted-within bytes (read.refused why) e seat held k = none_within _
+  acted_within : (bytes : List ℕ) (r : Read client.FromClient) → client.relay_read bytes ≡ r → (seat : ℕ) (held : Held) → length held.key ≤ 32
+      → size (act_on r room seat held).sent ≤ 2035
+  unfolding act_on refuse
+  acted_within bytes (read.packet p) e seat held k = act_within p (read_within bytes p e) seat held k
+  acted_within bytes (read.refused why) e seat held k = none_within _
 
 module _ (sizes : Sizes) (few : sizes.numbers ≤ 240) (room : Room) (whole : Whole sizes room) where
-  pub leave-within : (seat : ℕ) (x : Seat) → seatAt room seat ≡ x → size (leaveFrom x room seat).sent ≤ 1200
-  unfolding leaveFrom refuse accept
-  leave-within seat vacant e = none_within _
-  leave-within seat (holds held) e = omega (arith, tells-within room seat held.key held.routes, whole.numbers seat held e)
+  pub leave_within : (seat : ℕ) (x : Seat) → seat_at room seat ≡ x → size (leave_from x room seat).sent ≤ 1200
+  unfolding leave_from refuse accept
+  leave_within seat vacant e = none_within _
+  leave_within seat (holds held) e = omega (arith, tells_within room seat held.key held.routes, whole.numbers seat held e)
 
 module _ (sizes : Sizes) (seats : sizes.seats ≤ 40) (few : sizes.numbers ≤ 240) (room : Room) (whole : Whole sizes room) (keys : ShortKeys room) where
-  packet-within : (seat : ℕ) (bytes : List ℕ) (x : Seat) → seatAt room seat ≡ x → size (packetFrom x room seat bytes).sent ≤ 2035
-  unfolding packetFrom refuse
-  packet-within seat bytes vacant e = none_within _
-  packet-within seat bytes (holds held) e = acted-within room bytes (client.relayRead bytes) refl seat held (keys seat held e)
+  packet_within : (seat : ℕ) (bytes : List ℕ) (x : Seat) → seat_at room seat ≡ x → size (packet_from x room seat bytes).sent ≤ 2035
+  unfolding packet_from refuse
+  packet_within seat bytes vacant e = none_within _
+  packet_within seat bytes (holds held) e = acted_within room bytes (client.relay_read bytes) refl seat held (keys seat held e)
 
   -- an arrival: of a key that is not seated nothing, of a seated one what its leave writes
-  back-within : (key : Key) (seat : ℕ) → find (seatOf key) room.seats ≡ at seat → size (outcome room (arrive key)).sent ≤ 1200
-  unfolding leaveFrom accept
-  back-within key seat e =
-      let low = some-empty room key seat e in
-      rw (comes-back-to room key seat e low.place low.lowest) (leave-within sizes few room whole seat (holds (held room key seat e)) (sits-there room key seat e))
+  back_within : (key : Key) (seat : ℕ) → find (seat_of key) room.seats ≡ at seat → size (outcome room (arrive key)).sent ≤ 1200
+  unfolding leave_from accept
+  back_within key seat e =
+      let low = some_empty room key seat e in
+      rw (comes_back_to room key seat e low.place low.lowest) (leave_within sizes few room whole seat (holds (held room key seat e)) (sits_there room key seat e))
 
-  arrive-within : (key : Key) (f : Found) → find (seatOf key) room.seats ≡ f → size (outcome room (arrive key)).sent ≤ 1200
-  arrive-within key none e = omega (arith, ap size (new-sends-nothing room key e), none_within 0)
-  arrive-within key (at seat) e = back-within key seat e
+  arrive_within : (key : Key) (f : Found) → find (seat_of key) room.seats ≡ f → size (outcome room (arrive key)).sent ≤ 1200
+  arrive_within key none e = omega (arith, ap size (new_sends_nothing room key e), none_within 0)
+  arrive_within key (at seat) e = back_within key seat e
 
   -- THE LAW
-  pub sent-within : (call : Call) → length (sentBytes (outcome room call).sent) ≤ needed call
+  pub sent_within : (call : Call) → length (sent_bytes (outcome room call).sent) ≤ needed call
   unfolding outcome
-  sent-within (arrive key) = omega (arith, arrive-within key (find (seatOf key) room.seats) refl)
-  sent-within (leave seat) = omega (arith, leave-within sizes few room whole seat (seatAt room seat) refl)
-  sent-within (packetCall seat bytes) = omega (arith, packet-within seat bytes (seatAt room seat) refl)
-  sent-within (tick time number) = tick-at-within sizes seats room whole (eqb number 0) (ltb time room.clock) time number
+  sent_within (arrive key) = omega (arith, arrive_within key (find (seat_of key) room.seats) refl)
+  sent_within (leave seat) = omega (arith, leave_within sizes few room whole seat (seat_at room seat) refl)
+  sent_within (packet_call seat bytes) = omega (arith, packet_within seat bytes (seat_at room seat) refl)
+  sent_within (tick time number) = tick_at_within sizes seats room whole (eqb number 0) (ltb time room.clock) time number
 
-pub needs-within : (call : Call) → needed call ≤ mostNeeded
-needs-within (arrive key) = omega arith
-needs-within (leave seat) = omega arith
-needs-within (packetCall seat bytes) = omega arith
-needs-within (tick time number) = omega arith
+pub needs_within : (call : Call) → needed call ≤ most_needed
+needs_within (arrive key) = omega arith
+needs_within (leave seat) = omega arith
+needs_within (packet_call seat bytes) = omega arith
+needs_within (tick time number) = omega arith
 
 -- ---- the keys stay short
 
 abbrev ShortOf : Maker → Type 0
 ShortOf nobody = Unit {0}
-ShortOf (clientOf key) = length key ≤ 32
+ShortOf (client_of key) = length key ≤ 32
 
 one_of : (t : Bool) (a b : Maker) → ShortOf a → ShortOf b → ShortOf (cond t a b)
 one_of true a b h g = h
 one_of false a b h g = g
 
 -- who sits in a seat after a call sat there before, or arrived
-sits-short : (call : Call) (answer : Answer) (here : ℕ) (ping : Ping) (before : Maker) → ((key : Key) → call ≡ arrive key → length key ≤ 32) → ShortOf before
-    → ShortOf (sitsAfter call answer here ping before)
-unfolding sitsAfter sitsAfterArrival
-sits-short (arrive key) (accepted seat count) here ping before k h = one_of (eqb seat here) (clientOf key) (cond (isClient key before) nobody before) (k key refl) (one_of (isClient key before) nobody before tt h)
-sits-short (arrive key) (refused why) here ping before k h = h
-sits-short (leave seat) answer here ping before k h = one_of (isAccepted answer && eqb seat here) nobody before tt h
-sits-short (packetCall seat bytes) answer here ping before k h = h
-sits-short (tick time number) answer here ping before k h = one_of (isAccepted answer && overdue time ping) nobody before tt h
+sits_short : (call : Call) (answer : Answer) (here : ℕ) (ping : Ping) (before : Maker) → ((key : Key) → call ≡ arrive key → length key ≤ 32) → ShortOf before
+    → ShortOf (sits_after call answer here ping before)
+unfolding sits_after sits_after_arrival
+sits_short (arrive key) (accepted seat count) here ping before k h = one_of (eqb seat here) (client_of key) (cond (is_client key before) nobody before) (k key refl) (one_of (is_client key before) nobody before tt h)
+sits_short (arrive key) (refused why) here ping before k h = h
+sits_short (leave seat) answer here ping before k h = one_of (is_accepted answer && eqb seat here) nobody before tt h
+sits_short (packet_call seat bytes) answer here ping before k h = h
+sits_short (tick time number) answer here ping before k h = one_of (is_accepted answer && overdue time ping) nobody before tt h
 
-pub keys-stay-short : (sizes : Sizes) (room : Room) → Whole sizes room → ShortKeys room → (call : Call) → ((key : Key) → call ≡ arrive key → length key ≤ 32)
-    → ShortKeys (roomAfter sizes room (outcome room call))
-unfolding clientIn start_of sitter pingOf event
-keys-stay-short sizes room whole keys call k seat held e =
-    let t = (tied-after sizes (start_of room) [] room whole (tied-start room) call).sits seat in
-    subst ShortOf (t ∙ ap clientIn e) (sits-short call (outcome room call).answer seat (pingIn (seatAt room seat)) (clientIn (seatAt room seat)) k (before (seatAt room seat) refl))
+pub keys_stay_short : (sizes : Sizes) (room : Room) → Whole sizes room → ShortKeys room → (call : Call) → ((key : Key) → call ≡ arrive key → length key ≤ 32)
+    → ShortKeys (room_after sizes room (outcome room call))
+unfolding client_in start_of sitter ping_of event
+keys_stay_short sizes room whole keys call k seat held e =
+    let t = (tied_after sizes (start_of room) [] room whole (tied_start room) call).sits seat in
+    subst ShortOf (t ∙ ap client_in e) (sits_short call (outcome room call).answer seat (ping_in (seat_at room seat)) (client_in (seat_at room seat)) k (before (seat_at room seat) refl))
   where
-    before : (x : Seat) → seatAt room seat ≡ x → ShortOf (clientIn x)
+    before : (x : Seat) → seat_at room seat ≡ x → ShortOf (client_in x)
     before vacant q = tt
     before (holds held') q = keys seat held' q

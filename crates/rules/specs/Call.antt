@@ -6,7 +6,7 @@ use Rattle.rules.specs.Room.{Key}
 pub data Call : Type 0 where
   arrive : Key → Call
   leave : ℕ → Call
-  packetCall : ℕ → List ℕ → Call
+  packet_call : ℕ → List ℕ → Call
   -- document 02: "A tick brings the time and a nonzero ping number."
   tick : ℕ → ℕ → Call
 
@@ -15,19 +15,19 @@ pub data Call : Type 0 where
 abbrev pub FieldsFit : Call → Type 0
 FieldsFit (arrive key) = length key ≡ 32
 FieldsFit (leave seat) = Unit {0}
-FieldsFit (packetCall seat bytes) = Unit {0}
+FieldsFit (packet_call seat bytes) = Unit {0}
 FieldsFit (tick time number) = (time < 2 ^ 64) × (number < 2 ^ 64)
 
 -- the output that a call needs: "lent output too short: under 2,048 for packet and leave"; document 02: "arrival checks 10 (2,048)", "10 (tick output under 5,120)"
 abbrev pub needed : Call → ℕ
 needed (arrive key) = 2048
 needed (leave seat) = 2048
-needed (packetCall seat bytes) = 2048
+needed (packet_call seat bytes) = 2048
 needed (tick time number) = 5120
 
 -- no call needs more
-abbrev pub mostNeeded : ℕ
-mostNeeded = 5120
+abbrev pub most_needed : ℕ
+most_needed = 5120
 
 -- an accepted call answers a seat and how many bytes it wrote. An Arrive's seat is the one it takes: document 02, "Arrive now has output and answers its byte count
 -- too." Document 01 has no seat in the answer of a Leave or a packet: there it is the call's own. A tick has no seat: it answers 0 there

@@ -2,20 +2,20 @@
 -- wanted key." The sizes are parameters. Seats, numbers and places are numbers here: a seat counts from 0, a route's number from 16, and its place in the
 -- seat's list is its number less 16.
 use Rattle.std.specs.Prelude.{Bool, true, false, cond, List, [], ◌∷◌, ℕ, suc, ◌+◌, ◌-◌, ltb, get_or, set, replicate}
-use Rattle.key.specs.Keys.{sameKey}
-pub use Rattle.packet_laws.specs.Table.{firstNumber}
+use Rattle.key.specs.Keys.{same_key}
+pub use Rattle.packet_laws.specs.Table.{first_number}
 
 pub record Sizes : Type 0 where
   pub seats : ℕ
   pub numbers : ℕ
 
 -- document 01's own: "40 seats", "32 routes"
-abbrev pub baseSizes : Sizes
-baseSizes = record { seats = 40; numbers = 32 }
+abbrev pub base_sizes : Sizes
+base_sizes = record { seats = 40; numbers = 32 }
 
 -- the sizes of a room of s seats with n numbers each
-abbrev pub sizesOf : ℕ → ℕ → Sizes
-sizesOf s n = record { seats = s; numbers = n }
+abbrev pub sizes_of : ℕ → ℕ → Sizes
+sizes_of s n = record { seats = s; numbers = n }
 
 -- a key is its bytes: any list here, so what holds of all lists holds of document 01's 32 bytes
 abbrev pub Key : Type 0
@@ -49,38 +49,38 @@ pub record Room : Type 0 where
 -- definitions go through the fields and through these functions, so that a field more changes nothing where it is not read.
 
 -- none outstanding since a time
-abbrev pub noneSince : ℕ → Ping
-noneSince time = record { time = time; number = 0 }
+abbrev pub none_since : ℕ → Ping
+none_since time = record { time = time; number = 0 }
 
 -- a key that has just arrived: every route is free, and document 02: "An arrival starts with the last clock as its ping time."
 abbrev pub newcomer : Sizes → ℕ → Key → Held
-newcomer sizes clock key = record { key = key; routes = replicate sizes.numbers free; ping = noneSince clock }
+newcomer sizes clock key = record { key = key; routes = replicate sizes.numbers free; ping = none_since clock }
 
 -- with its key replaced; with its ping; with its routes, and with one of them
-abbrev pub setKey : Held → Key → Held
-setKey held key = record { key = key; routes = held.routes; ping = held.ping }
+abbrev pub set_key : Held → Key → Held
+set_key held key = record { key = key; routes = held.routes; ping = held.ping }
 
-abbrev pub setPing : Held → Ping → Held
-setPing held ping = record { key = held.key; routes = held.routes; ping = ping }
+abbrev pub set_ping : Held → Ping → Held
+set_ping held ping = record { key = held.key; routes = held.routes; ping = ping }
 
-abbrev pub setRoutes : Held → List Route → Held
-setRoutes held routes = record { key = held.key; routes = routes; ping = held.ping }
+abbrev pub set_routes : Held → List Route → Held
+set_routes held routes = record { key = held.key; routes = routes; ping = held.ping }
 
-abbrev pub setRoute : Held → ℕ → Route → Held
-setRoute held place route = setRoutes held (set held.routes place route)
+abbrev pub set_route : Held → ℕ → Route → Held
+set_route held place route = set_routes held (set held.routes place route)
 
 -- a room with its clock replaced; with its seats, and with one of them
-abbrev pub setClock : Room → ℕ → Room
-setClock room time = record { seats = room.seats; clock = time }
+abbrev pub set_clock : Room → ℕ → Room
+set_clock room time = record { seats = room.seats; clock = time }
 
-abbrev pub setSeats : Room → List Seat → Room
-setSeats room seats = record { seats = seats; clock = room.clock }
+abbrev pub set_seats : Room → List Seat → Room
+set_seats room seats = record { seats = seats; clock = room.clock }
 
-abbrev pub setSeat : Room → ℕ → Seat → Room
-setSeat room seat s = setSeats room (set room.seats seat s)
+abbrev pub set_seat : Room → ℕ → Seat → Room
+set_seat room seat s = set_seats room (set room.seats seat s)
 
-unfoldable pub emptyRoom : Sizes → Room
-emptyRoom sizes = record { seats = replicate sizes.seats vacant; clock = 0 }
+unfoldable pub empty_room : Sizes → Room
+empty_room sizes = record { seats = replicate sizes.seats vacant; clock = 0 }
 
 -- ---- looking things up
 
@@ -89,62 +89,62 @@ pub data Found : Type 0 where
   none : Found
   at : ℕ → Found
 
-unfoldable pub orLater : Bool → Found → Found
-orLater true later = at 0
-orLater false none = none
-orLater false (at i) = at (suc i)
+unfoldable pub or_later : Bool → Found → Found
+or_later true later = at 0
+or_later false none = none
+or_later false (at i) = at (suc i)
 
 -- the lowest place that passes a test
 unfoldable pub find : {A : Type 0} → (A → Bool) → List A → Found
 find test [] = none
-find test (x ∷ xs) = orLater (test x) (find test xs)
+find test (x ∷ xs) = or_later (test x) (find test xs)
 
-unfoldable pub seatOf : Key → Seat → Bool
-seatOf key vacant = false
-seatOf key (holds held) = sameKey held.key key
+unfoldable pub seat_of : Key → Seat → Bool
+seat_of key vacant = false
+seat_of key (holds held) = same_key held.key key
 
-unfoldable pub isVacant : Seat → Bool
-isVacant vacant = true
-isVacant (holds held) = false
+unfoldable pub is_vacant : Seat → Bool
+is_vacant vacant = true
+is_vacant (holds held) = false
 
-unfoldable pub routeTo : Key → Route → Bool
-routeTo key free = false
-routeTo key (wants k) = sameKey k key
+unfoldable pub route_to : Key → Route → Bool
+route_to key free = false
+route_to key (wants k) = same_key k key
 
-unfoldable pub isFree : Route → Bool
-isFree free = true
-isFree (wants k) = false
+unfoldable pub is_free : Route → Bool
+is_free free = true
+is_free (wants k) = false
 
-unfoldable pub routesOf : Seat → List Route
-routesOf vacant = []
-routesOf (holds held) = held.routes
+unfoldable pub routes_of : Seat → List Route
+routes_of vacant = []
+routes_of (holds held) = held.routes
 
 -- the ping of a seat: in an empty one none is outstanding
-unfoldable pub pingIn : Seat → Ping
-pingIn vacant = noneSince 0
-pingIn (holds held) = held.ping
+unfoldable pub ping_in : Seat → Ping
+ping_in vacant = none_since 0
+ping_in (holds held) = held.ping
 
 -- a seat by its number; "seat above 39, or empty" is vacant
-unfoldable pub seatAt : Room → ℕ → Seat
-seatAt room seat = get_or room.seats seat vacant
+unfoldable pub seat_at : Room → ℕ → Seat
+seat_at room seat = get_or room.seats seat vacant
 
-abbrev pub numberOfPlace : ℕ → ℕ
-numberOfPlace place = firstNumber + place
+abbrev pub number_of_place : ℕ → ℕ
+number_of_place place = first_number + place
 
 -- a route by its number; a number below 16, or past the last, names none
-unfoldable pub routeAt : List Route → ℕ → Route
-routeAt routes number = cond (ltb number firstNumber) free (get_or routes (number - firstNumber) free)
+unfoldable pub route_at : List Route → ℕ → Route
+route_at routes number = cond (ltb number first_number) free (get_or routes (number - first_number) free)
 
 -- ---- several seats
 
 -- the places of a list that pass a test, in rising order, where the first of the list has the place `from`
-unfoldable pub placeWhen : Bool → ℕ → List ℕ → List ℕ
-placeWhen true place later = place ∷ later
-placeWhen false place later = later
+unfoldable pub place_when : Bool → ℕ → List ℕ → List ℕ
+place_when true place later = place ∷ later
+place_when false place later = later
 
-unfoldable pub placesFrom : {A : Type 0} → (A → Bool) → ℕ → List A → List ℕ
-placesFrom test from [] = []
-placesFrom test from (x ∷ xs) = placeWhen (test x) from (placesFrom test (suc from) xs)
+unfoldable pub places_from : {A : Type 0} → (A → Bool) → ℕ → List A → List ℕ
+places_from test from [] = []
+places_from test from (x ∷ xs) = place_when (test x) from (places_from test (suc from) xs)
 
 -- ---- connected
 

@@ -3,7 +3,7 @@
 //
 // Whether there is such a seat, and whether the bytes are a packet, is for the relay to judge.
 ghost use Rattle.std.specs.Prelude.{◌≡◌};
-ghost use Rattle.stored.specs.Stored.{firstCall, formed, shownFirst};
+ghost use Rattle.stored.specs.Stored.{first_call, formed, shown_first};
 
 use key::Key;
 use seat::Seat;
@@ -34,7 +34,7 @@ pub enum StoredRead {
 
 // The call with these parts, where they are the form of one.
 fn formed(code: u8, seat: Seat, given: &[u8]) -> StoredRead
-    ensures { result ≡ shownFirst (formed code seat.0 given.now) }
+    ensures { result ≡ shown_first (formed code seat.0 given.now) }
 {
     let end = HEAD + given.len();
     match code {
@@ -60,7 +60,7 @@ fn formed(code: u8, seat: Seat, given: &[u8]) -> StoredRead
 
 // The stored call at the front of bytes, which more may follow.
 pub fn read(bytes: &[u8]) -> StoredRead
-    ensures { result ≡ shownFirst (firstCall bytes.now) }
+    ensures { result ≡ shown_first (first_call bytes.now) }
 {
     if bytes.len() < HEAD {
         return StoredRead::None;

@@ -6,7 +6,7 @@
 // that, and there is no mark that could disagree with it. A room is a table of seats, and each seat has a table of routes; each
 // of the k-buckets is a table of nodes.
 ghost use Rattle.std.specs.Prelude.{◌≡◌};
-ghost use Rattle.table_laws.specs.Table.{fitsTable, isTable, isTableWithout, found, keyOfPlace, isUsed, usedPlaces, lowestFree, mayPut, put_in, freedIn, mayOverwrite, overwrittenIn};
+ghost use Rattle.table_laws.specs.Table.{fits_table, is_table, is_table_without, found, key_of_place, is_used, used_places, lowest_free, may_put, put_in, freed_in, may_overwrite, overwritten_in};
 
 mod order;
 mod records;
@@ -20,7 +20,7 @@ pub const WIDEST_RECORD: usize = 65535;
 
 // Whether the bytes are as long as a table of so many places, with records of such a width.
 pub fn fits(table: &[u8], places: usize, width: usize) -> bool
-    ensures { result ≡ fitsTable places width table.now }
+    ensures { result ≡ fits_table places width table.now }
 {
     if MOST_PLACES < places {
         return false;
@@ -36,7 +36,7 @@ pub fn fits(table: &[u8], places: usize, width: usize) -> bool
 
 // Whether the bytes are a table that keeps its rules: each place listed is a place, and the keys listed strictly rise.
 pub fn is_whole(table: &[u8], places: usize, width: usize) -> bool
-    ensures { result ≡ isTable places width table.now }
+    ensures { result ≡ is_table places width table.now }
 {
     if !fits(table, places, width) {
         return false;
@@ -46,7 +46,7 @@ pub fn is_whole(table: &[u8], places: usize, width: usize) -> bool
 
 // Whether the bytes are such a table, and no place listed has the key.
 pub fn is_whole_without(table: &[u8], places: usize, width: usize, key: Key) -> bool
-    ensures { result ≡ isTableWithout places width table.now key.0 }
+    ensures { result ≡ is_table_without places width table.now key.0 }
 {
     if !fits(table, places, width) {
         return false;
@@ -68,7 +68,7 @@ pub fn find(table: &[u8], places: usize, width: usize, key: Key) -> usize
 
 // The key of a place, used or not; the key of zeros where there is no such place.
 pub fn key_at(table: &[u8], places: usize, width: usize, place: usize) -> Key
-    ensures { result.0 ≡ keyOfPlace places width table.now place }
+    ensures { result.0 ≡ key_of_place places width table.now place }
 {
     if !fits(table, places, width) {
         return Key([0u8; 32]);
@@ -81,7 +81,7 @@ pub fn key_at(table: &[u8], places: usize, width: usize, place: usize) -> Key
 
 // Whether a place is used.
 pub fn is_used(table: &[u8], places: usize, place: usize) -> bool
-    ensures { result ≡ isUsed places table.now place }
+    ensures { result ≡ is_used places table.now place }
 {
     if table.len() <= places {
         return false;
@@ -91,7 +91,7 @@ pub fn is_used(table: &[u8], places: usize, place: usize) -> bool
 
 // The places that are used, a byte each, in the rising order of their keys; none in bytes that are too short.
 pub fn used(table: &[u8], places: usize) -> &[u8]
-    ensures { result.now ≡ usedPlaces places table.now }
+    ensures { result.now ≡ used_places places table.now }
 {
     if table.len() <= places {
         return &table[0..0];
@@ -102,7 +102,7 @@ pub fn used(table: &[u8], places: usize) -> &[u8]
 
 // The lowest place that is not used, or `places` where all are.
 pub fn lowest_free(table: &[u8], places: usize) -> usize
-    ensures { result ≡ lowestFree places table.now }
+    ensures { result ≡ lowest_free places table.now }
 {
     if MOST_PLACES < places {
         return places;
@@ -116,7 +116,7 @@ pub fn lowest_free(table: &[u8], places: usize) -> usize
 // Whether a place may be put in use: there is such a place, the order has room, and the record is no shorter than a key and no longer than the
 // table's.
 fn may_put(table: &[u8], places: usize, width: usize, place: usize, record: &[u8]) -> bool
-    ensures { result ≡ mayPut places width table.now place «record».now }
+    ensures { result ≡ may_put places width table.now place «record».now }
 {
     if !fits(table, places, width) {
         return false;
@@ -145,7 +145,7 @@ pub fn put(table: &mut [u8], places: usize, width: usize, place: usize, record: 
 
 // A place is no longer used. Its record stays as it is, and is not read again.
 pub fn free(table: &mut [u8], places: usize, place: usize)
-    ensures { table.new ≡ freedIn places table.old place }
+    ensures { table.new ≡ freed_in places table.old place }
 {
     if table.len() <= places {
         return;
@@ -165,7 +165,7 @@ fn may_overwrite(
     at: usize,
     part: &[u8],
 ) -> bool
-    ensures { result ≡ mayOverwrite places width table.now place at part.now }
+    ensures { result ≡ may_overwrite places width table.now place at part.now }
 {
     if !fits(table, places, width) {
         return false;
@@ -194,7 +194,7 @@ pub fn overwrite(
     at: usize,
     part: &[u8],
 )
-    ensures { table.new ≡ overwrittenIn places width table.old place at part.now }
+    ensures { table.new ≡ overwritten_in places width table.old place at part.now }
 {
     if !may_overwrite(table, places, width, place, at, part) {
         return;

@@ -1,8 +1,8 @@
 // The records of a table: where each stands, how their keys compare, and the passes over those that are listed.
 ghost use Rattle.std.specs.Prelude.{◌≡◌, ◌+◌, ◌<◌, ◌≤◌, eqb, length, get_or};
-ghost use Rattle.key.specs.Keys.{sameKey};
-ghost use Rattle.table_laws.specs.Bytes.{keyBefore};
-ghost use Rattle.table_laws.specs.Table.{Table, Spot, count, listed, key_at, tableWhole, tableWithout, findKey, position, put, refilled};
+ghost use Rattle.key.specs.Keys.{same_key};
+ghost use Rattle.table_laws.specs.Bytes.{key_before};
+ghost use Rattle.table_laws.specs.Table.{Table, Spot, count, listed, key_at, table_whole, table_without, find_key, position, put, refilled};
 
 use crate::order;
 use key::Key;
@@ -10,7 +10,7 @@ use key::Key;
 // Whether key `a` comes before key `b`: the first byte that differs decides.
 fn key_before(a: &[u8], b: &[u8]) -> bool
     requires { length a.now ≡ length b.now }
-    ensures { result ≡ keyBefore a.now b.now }
+    ensures { result ≡ key_before a.now b.now }
 {
     let mut i = 0;
     while i < a.len() {
@@ -25,7 +25,7 @@ fn key_before(a: &[u8], b: &[u8]) -> bool
 // Whether two keys are the same. Every byte is compared, with no way out before the last, so that the compiler can compare many at a time.
 fn same_key(a: &[u8], b: &[u8]) -> bool
     requires { length a.now ≡ length b.now }
-    ensures { result ≡ sameKey a.now b.now }
+    ensures { result ≡ same_key a.now b.now }
 {
     let mut same = true;
     let mut i = 0;
@@ -49,7 +49,7 @@ fn spot(table: &[u8], places: usize, width: usize, place: usize) -> usize
 // Whether the key of a place comes before `key`, byte by byte.
 fn place_before(table: &[u8], places: usize, width: usize, place: usize, key: &[u8]) -> bool
     requires { Table places width table.now × (place < places) × (length key.now ≡ 32) }
-    ensures { result ≡ keyBefore (key_at places width table.now place) key.now }
+    ensures { result ≡ key_before (key_at places width table.now place) key.now }
 {
     let at = spot(table, places, width, place);
     let end = at + Key::BYTES;
@@ -59,7 +59,7 @@ fn place_before(table: &[u8], places: usize, width: usize, place: usize, key: &[
 // Whether the key of a place comes before `key`; one that is no place has no key. Mostly the first byte tells, and then no call is made.
 fn comes_before(table: &[u8], places: usize, width: usize, place: usize, key: &[u8]) -> bool
     requires { Table places width table.now × (length key.now ≡ 32) }
-    ensures { result ≡ keyBefore (key_at places width table.now place) key.now }
+    ensures { result ≡ key_before (key_at places width table.now place) key.now }
 {
     if places <= place {
         return false;
@@ -74,7 +74,7 @@ fn comes_before(table: &[u8], places: usize, width: usize, place: usize, key: &[
 // Whether the key of one place comes before that of another.
 fn rises(table: &[u8], places: usize, width: usize, place: usize, next: usize) -> bool
     requires { Table places width table.now × (place < places) × (next < places) }
-    ensures { result ≡ keyBefore (key_at places width table.now place) (key_at places width table.now next) }
+    ensures { result ≡ key_before (key_at places width table.now place) (key_at places width table.now next) }
 {
     let was = spot(table, places, width, place);
     let at = spot(table, places, width, next);
@@ -88,7 +88,7 @@ fn rises(table: &[u8], places: usize, width: usize, place: usize, next: usize) -
 // Whether the places listed are places, and their keys strictly rise: neighbours decide.
 pub(crate) fn all_rise(table: &[u8], places: usize, width: usize) -> bool
     requires { Table places width table.now }
-    ensures { result ≡ tableWhole places width table.now }
+    ensures { result ≡ table_whole places width table.now }
 {
     let count = table[0] as usize;
     if places < count {
@@ -119,7 +119,7 @@ pub(crate) fn all_rise(table: &[u8], places: usize, width: usize) -> bool
 // Whether a place has the key; one that is no place has none.
 fn has_key(table: &[u8], places: usize, width: usize, place: usize, key: &[u8]) -> bool
     requires { Table places width table.now × (length key.now ≡ 32) }
-    ensures { result ≡ sameKey (key_at places width table.now place) key.now }
+    ensures { result ≡ same_key (key_at places width table.now place) key.now }
 {
     if places <= place {
         return false;
@@ -145,7 +145,7 @@ pub(crate) fn key_of(table: &[u8], places: usize, width: usize, place: usize) ->
 // The first place listed that has the key, or `places`.
 pub(crate) fn place_of(table: &[u8], places: usize, width: usize, key: &[u8]) -> usize
     requires { Table places width table.now × (length key.now ≡ 32) }
-    ensures { result ≡ findKey places (key_at places width table.now) key.now (listed places table.now) }
+    ensures { result ≡ find_key places (key_at places width table.now) key.now (listed places table.now) }
 {
     let count = order::length(table, places);
     let mut i = 0;
@@ -173,7 +173,7 @@ fn begins_alike(table: &[u8], places: usize, width: usize, place: usize, key: &[
 // that tested in lent memory?"
 pub(crate) fn all_rise_without(table: &[u8], places: usize, width: usize, key: &[u8]) -> bool
     requires { Table places width table.now × (length key.now ≡ 32) }
-    ensures { result ≡ tableWithout places width table.now key.now }
+    ensures { result ≡ table_without places width table.now key.now }
 {
     let count = table[0] as usize;
     if places < count {

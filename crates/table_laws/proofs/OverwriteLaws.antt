@@ -6,87 +6,87 @@ use mathlib.Core.List.{List}
 use Prim.Native.Nat.{ℕ, ◌<◌}
 use lib.ListN.{length, set}
 use Rattle.table_laws.specs.Bytes.{splice}
-use Rattle.table_laws.specs.Table.{fitsTable, listed, recordAt, key_at, tableWhole, isTable, found, keyOfPlace, isUsed, lowestFree, view}
-use Rattle.table_laws.specs.Table.{refilled, mayOverwrite, overwrittenIn}
-use Rattle.table_laws.proofs.FitsLaws.{overwrite-may, overwrite-facts}
-use Rattle.table_laws.proofs.RecordLaws.{refilled-length, refilled-listed, refilled-other, refilled_same, view-refilled, refilled-keys, refilled-whole-same}
+use Rattle.table_laws.specs.Table.{fits_table, listed, record_at, key_at, table_whole, is_table, found, key_of_place, is_used, lowest_free, view}
+use Rattle.table_laws.specs.Table.{refilled, may_overwrite, overwritten_in}
+use Rattle.table_laws.proofs.FitsLaws.{overwrite_may, overwrite_facts}
+use Rattle.table_laws.proofs.RecordLaws.{refilled_length, refilled_listed, refilled_other, refilled_same, view_refilled, refilled_keys, refilled_whole_same}
 
 module _ (p w : ℕ) (b : List ℕ) (n at : ℕ) (new : List ℕ) where
   -- what holds of b and of the record refilled
-  either : (P : List ℕ → Type 0) → P b → (mayOverwrite p w b n at new ≡ true → P (refilled p w b n at new)) → P (overwrittenIn p w b n at new)
-  unfolding overwrittenIn
-  either P h k = go (mayOverwrite p w b n at new) refl
+  either : (P : List ℕ → Type 0) → P b → (may_overwrite p w b n at new ≡ true → P (refilled p w b n at new)) → P (overwritten_in p w b n at new)
+  unfolding overwritten_in
+  either P h k = go (may_overwrite p w b n at new) refl
     where
-      go : (u : Bool) → mayOverwrite p w b n at new ≡ u → P (cond u (refilled p w b n at new) b)
+      go : (u : Bool) → may_overwrite p w b n at new ≡ u → P (cond u (refilled p w b n at new) b)
       go true e = k e
       go false e = h
 
-  pub overwritten-length : length (overwrittenIn p w b n at new) ≡ length b
-  overwritten-length =
+  pub overwritten_length : length (overwritten_in p w b n at new) ≡ length b
+  overwritten_length =
       either (λ (x : List ℕ). length x ≡ length b) refl
-      (λ e. let q = overwrite-facts p w b n at new e in refilled-length p w b q.0 n q.1 at new q.3)
+      (λ e. let q = overwrite_facts p w b n at new e in refilled_length p w b q.0 n q.1 at new q.3)
 
-  pub overwritten-listed : listed p (overwrittenIn p w b n at new) ≡ listed p b
-  overwritten-listed =
+  pub overwritten_listed : listed p (overwritten_in p w b n at new) ≡ listed p b
+  overwritten_listed =
       either (λ (x : List ℕ). listed p x ≡ listed p b) refl
-      (λ e. let q = overwrite-facts p w b n at new e in refilled-listed p w b q.0 n q.1 at new q.3)
+      (λ e. let q = overwrite_facts p w b n at new e in refilled_listed p w b q.0 n q.1 at new q.3)
 
   -- the key at each place
-  pub overwritten-keys : key_at p w (overwrittenIn p w b n at new) ≡ key_at p w b
-  overwritten-keys =
+  pub overwritten_keys : key_at p w (overwritten_in p w b n at new) ≡ key_at p w b
+  overwritten_keys =
       either (λ (x : List ℕ). key_at p w x ≡ key_at p w b) refl
-      (λ e. let q = overwrite-facts p w b n at new e in refilled-keys p w b q.0 n q.1 at new q.3 q.2)
+      (λ e. let q = overwrite_facts p w b n at new e in refilled_keys p w b q.0 n q.1 at new q.3 q.2)
 
   -- THE LAW: what is whole stays whole, and what is not does not become so
-  pub overwritten-whole : tableWhole p w (overwrittenIn p w b n at new) ≡ tableWhole p w b
-  overwritten-whole =
-      either (λ (x : List ℕ). tableWhole p w x ≡ tableWhole p w b) refl
-      (λ e. let q = overwrite-facts p w b n at new e in refilled-whole-same p w b q.0 n q.1 at new q.3 q.2)
+  pub overwritten_whole : table_whole p w (overwritten_in p w b n at new) ≡ table_whole p w b
+  overwritten_whole =
+      either (λ (x : List ℕ). table_whole p w x ≡ table_whole p w b) refl
+      (λ e. let q = overwrite_facts p w b n at new e in refilled_whole_same p w b q.0 n q.1 at new q.3 q.2)
 
-  pub overwritten-fits : fitsTable p w (overwrittenIn p w b n at new) ≡ fitsTable p w b
-  unfolding fitsTable
-  overwritten-fits = rw overwritten-length
+  pub overwritten_fits : fits_table p w (overwritten_in p w b n at new) ≡ fits_table p w b
+  unfolding fits_table
+  overwritten_fits = rw overwritten_length
 
-  pub overwritten-table : isTable p w (overwrittenIn p w b n at new) ≡ isTable p w b
-  unfolding isTable
-  overwritten-table = rw (overwritten-fits, overwritten-whole)
+  pub overwritten_table : is_table p w (overwritten_in p w b n at new) ≡ is_table p w b
+  unfolding is_table
+  overwritten_table = rw (overwritten_fits, overwritten_whole)
 
   -- each lookup answers as before
 
-  pub overwritten-found : (k : List ℕ) → found p w (overwrittenIn p w b n at new) k ≡ found p w b k
+  pub overwritten_found : (k : List ℕ) → found p w (overwritten_in p w b n at new) k ≡ found p w b k
   unfolding found
-  overwritten-found k = rw (overwritten-fits, overwritten-keys, overwritten-listed)
+  overwritten_found k = rw (overwritten_fits, overwritten_keys, overwritten_listed)
 
-  pub overwritten-key : (m : ℕ) → keyOfPlace p w (overwrittenIn p w b n at new) m ≡ keyOfPlace p w b m
-  unfolding keyOfPlace
-  overwritten-key m = rw (overwritten-fits, overwritten-keys)
+  pub overwritten_key : (m : ℕ) → key_of_place p w (overwritten_in p w b n at new) m ≡ key_of_place p w b m
+  unfolding key_of_place
+  overwritten_key m = rw (overwritten_fits, overwritten_keys)
 
-  pub overwritten-used : (m : ℕ) → isUsed p (overwrittenIn p w b n at new) m ≡ isUsed p b m
-  unfolding isUsed
-  overwritten-used m = rw (overwritten-length, overwritten-listed)
+  pub overwritten_used : (m : ℕ) → is_used p (overwritten_in p w b n at new) m ≡ is_used p b m
+  unfolding is_used
+  overwritten_used m = rw (overwritten_length, overwritten_listed)
 
-  pub overwritten-lowest : lowestFree p (overwrittenIn p w b n at new) ≡ lowestFree p b
-  unfolding lowestFree
-  overwritten-lowest = rw (overwritten-length, overwritten-listed)
+  pub overwritten_lowest : lowest_free p (overwritten_in p w b n at new) ≡ lowest_free p b
+  unfolding lowest_free
+  overwritten_lowest = rw (overwritten_length, overwritten_listed)
 
   -- the records, and so the view
 
-  pub overwritten-other : (m : ℕ) → m < p → (m ≡ n → ⊥) → recordAt p w (overwrittenIn p w b n at new) m ≡ recordAt p w b m
-  overwritten-other m h d =
-      either (λ (x : List ℕ). recordAt p w x m ≡ recordAt p w b m) refl
-      (λ e. let q = overwrite-facts p w b n at new e in refilled-other p w b q.0 n q.1 at new q.3 m h d)
+  pub overwritten_other : (m : ℕ) → m < p → (m ≡ n → ⊥) → record_at p w (overwritten_in p w b n at new) m ≡ record_at p w b m
+  overwritten_other m h d =
+      either (λ (x : List ℕ). record_at p w x m ≡ record_at p w b m) refl
+      (λ e. let q = overwrite_facts p w b n at new e in refilled_other p w b q.0 n q.1 at new q.3 m h d)
 
-  module _ (may : mayOverwrite p w b n at new ≡ true) where
-    pub overwritten-same : recordAt p w (overwrittenIn p w b n at new) n ≡ splice (recordAt p w b n) at new (length new)
-    overwritten-same =
-        let q = overwrite-facts p w b n at new may in
-        ap (λ (x : List ℕ). recordAt p w x n) (overwrite-may p w b n at new may) ∙ refilled_same p w b q.0 n q.1 at new q.3
+  module _ (may : may_overwrite p w b n at new ≡ true) where
+    pub overwritten_same : record_at p w (overwritten_in p w b n at new) n ≡ splice (record_at p w b n) at new (length new)
+    overwritten_same =
+        let q = overwrite_facts p w b n at new may in
+        ap (λ (x : List ℕ). record_at p w x n) (overwrite_may p w b n at new may) ∙ refilled_same p w b q.0 n q.1 at new q.3
 
     -- THE LAW: the view changes at that place alone, by the part
-    pub view-overwritten : {A : Type 0} (h : Bool → List ℕ → A) →
-        view p w h (overwrittenIn p w b n at new) ≡ set (view p w h b) n (h true (splice (recordAt p w b n) at new (length new)))
-    view-overwritten {A} h =
-        let q = overwrite-facts p w b n at new may in
-        ap (view p w h) (overwrite-may p w b n at new may)
-        ∙ view-refilled p w b q.0 n q.1 at new q.3 h
-        ∙ ap (λ (u : Bool). set (view p w h b) n (h u (splice (recordAt p w b n) at new (length new)))) q.4
+    pub view_overwritten : {A : Type 0} (h : Bool → List ℕ → A) →
+        view p w h (overwritten_in p w b n at new) ≡ set (view p w h b) n (h true (splice (record_at p w b n) at new (length new)))
+    view_overwritten {A} h =
+        let q = overwrite_facts p w b n at new may in
+        ap (view p w h) (overwrite_may p w b n at new may)
+        ∙ view_refilled p w b q.0 n q.1 at new q.3 h
+        ∙ ap (λ (u : Bool). set (view p w h b) n (h u (splice (record_at p w b n) at new (length new)))) q.4

@@ -8,7 +8,7 @@ abbrev pub splice : List ℕ → ℕ → List ℕ → ℕ → List ℕ
 splice l at new w = take at l ++ (new ++ drop w (drop at l))
 
 -- key a comes before key b: the first byte that differs decides
-unfoldable pub keyBefore : List ℕ → List ℕ → Bool
-keyBefore [] ys = false
-keyBefore (x ∷ xs) [] = false
-keyBefore (x ∷ xs) (y ∷ ys) = cond (eqb x y) (keyBefore xs ys) (ltb x y)
+unfoldable pub key_before : List ℕ → List ℕ → Bool
+key_before [] ys = false
+key_before (x ∷ xs) [] = false
+key_before (x ∷ xs) (y ∷ ys) = cond (eqb x y) (key_before xs ys) (ltb x y)

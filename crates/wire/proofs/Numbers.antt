@@ -13,9 +13,9 @@ use Rattle.wire.specs.Numbers.{Bytes, number_of, bytes_of}
 
 -- ---- bytes
 
-pub bytes-append : (a b : List ℕ) → Bytes a → Bytes b → Bytes (a ++ b)
-bytes-append [] b p q = q
-bytes-append (x ∷ a) b p q = (p.0, bytes-append a b p.1 q)
+pub bytes_append : (a b : List ℕ) → Bytes a → Bytes b → Bytes (a ++ b)
+bytes_append [] b p q = q
+bytes_append (x ∷ a) b p q = (p.0, bytes_append a b p.1 q)
 
 pub bytes_take : (n : ℕ) (a : List ℕ) → Bytes a → Bytes (take n a)
 bytes_take zero a p = tt
@@ -27,15 +27,15 @@ bytes_drop zero a p = p
 bytes_drop (suc n) [] p = tt
 bytes_drop (suc n) (x ∷ a) p = bytes_drop n a p.1
 
-pub bytes-getD : (i : ℕ) (a : List ℕ) → Bytes a → get_or a i 0 < 256
-bytes-getD i [] p = omega arith
-bytes-getD zero (x ∷ a) p = p.0
-bytes-getD (suc i) (x ∷ a) p = bytes-getD i a p.1
+pub bytes_get_d : (i : ℕ) (a : List ℕ) → Bytes a → get_or a i 0 < 256
+bytes_get_d i [] p = omega arith
+bytes_get_d zero (x ∷ a) p = p.0
+bytes_get_d (suc i) (x ∷ a) p = bytes_get_d i a p.1
 
 -- what a lent slice tells of its elements, one by one
-pub bytes-each : (a : List ℕ) → ((i : ℕ) → get_or a i 0 < 256) → Bytes a
-bytes-each [] h = tt
-bytes-each (x ∷ a) h = (h 0, bytes-each a (λ i. h (suc i)))
+pub bytes_each : (a : List ℕ) → ((i : ℕ) → get_or a i 0 < 256) → Bytes a
+bytes_each [] h = tt
+bytes_each (x ∷ a) h = (h 0, bytes_each a (λ i. h (suc i)))
 
 -- ---- the number that bytes make
 
@@ -51,80 +51,80 @@ shifted : (x P m b n : ℕ) → n ≡ m * 256 + b → x * (P * 256) + n ≡ (x *
 shifted x P m b n e = omega arith
 
 -- one byte more behind: what stood before counts 256 times as much
-pub number-snoc : (bs : List ℕ) (b : ℕ) → number_of (bs ++ (b ∷ [])) ≡ number_of bs * 256 + b
+pub number_snoc : (bs : List ℕ) (b : ℕ) → number_of (bs ++ (b ∷ [])) ≡ number_of bs * 256 + b
 unfolding number_of
-number-snoc [] b = omega arith
-number-snoc (x ∷ bs) b =
+number_snoc [] b = omega arith
+number_snoc (x ∷ bs) b =
     ap (λ (n : ℕ). x * 256 ^ n + number_of (bs ++ (b ∷ []))) (length-append bs (b ∷ []) ∙ add-one (length bs))
-    ∙ rw (pow-suc 256 (length bs)) (shifted x (256 ^ length bs) (number_of bs) b (number_of (bs ++ (b ∷ []))) (number-snoc bs b))
+    ∙ rw (pow-suc 256 (length bs)) (shifted x (256 ^ length bs) (number_of bs) b (number_of (bs ++ (b ∷ []))) (number_snoc bs b))
 
 -- bytes of one length that make the same number are the same
-pub number-injective : (xs ys : List ℕ) → length xs ≡ length ys → Bytes xs → Bytes ys → number_of xs ≡ number_of ys → xs ≡ ys
+pub number_injective : (xs ys : List ℕ) → length xs ≡ length ys → Bytes xs → Bytes ys → number_of xs ≡ number_of ys → xs ≡ ys
 unfolding number_of
-number-injective [] [] e s t p = refl
-number-injective [] (y ∷ ys) e s t p = absurd (omega arith)
-number-injective (x ∷ xs) [] e s t p = absurd (omega arith)
-number-injective (x ∷ xs) (y ∷ ys) e s t p =
+number_injective [] [] e s t p = refl
+number_injective [] (y ∷ ys) e s t p = absurd (omega arith)
+number_injective (x ∷ xs) [] e s t p = absurd (omega arith)
+number_injective (x ∷ xs) (y ∷ ys) e s t p =
     let l : length xs ≡ length ys = omega arith in
     let hx : number_of xs < 256 ^ length xs = number_lt xs s.1 in
     let hy : number_of ys < 256 ^ length xs = rw l (number_lt ys t.1) in
     let q : x * 256 ^ length xs + number_of xs ≡ y * 256 ^ length xs + number_of ys = p ∙ ap (λ (n : ℕ). y * 256 ^ n + number_of ys) (sym l) in
     let a : x ≡ y = sym (digits_div x hx) ∙ ap (λ (n : ℕ). n / 256 ^ length xs) q ∙ digits_div y hy in
     let b : number_of xs ≡ number_of ys = sym (digits_mod x hx) ∙ ap (λ (n : ℕ). n % 256 ^ length xs) q ∙ digits_mod y hy in
-    ap₂ (λ (h : ℕ) (r : List ℕ). h ∷ r) a (number-injective xs ys l s.1 t.1 b)
+    ap₂ (λ (h : ℕ) (r : List ℕ). h ∷ r) a (number_injective xs ys l s.1 t.1 b)
 
 -- ---- the bytes of a number
 
-pub length-bytesOf : (k n : ℕ) → length (bytes_of k n) ≡ k
+pub length_bytes_of : (k n : ℕ) → length (bytes_of k n) ≡ k
 unfolding bytes_of
-length-bytesOf zero n = refl
-length-bytesOf (suc k) n = length-append (bytes_of k (n / 256)) (n % 256 ∷ []) ∙ ap (λ (m : ℕ). m + 1) (length-bytesOf k (n / 256)) ∙ add-one k
+length_bytes_of zero n = refl
+length_bytes_of (suc k) n = length-append (bytes_of k (n / 256)) (n % 256 ∷ []) ∙ ap (λ (m : ℕ). m + 1) (length_bytes_of k (n / 256)) ∙ add-one k
 
-pub bytes-bytesOf : (k n : ℕ) → Bytes (bytes_of k n)
+pub bytes_bytes_of : (k n : ℕ) → Bytes (bytes_of k n)
 unfolding bytes_of
-bytes-bytesOf zero n = tt
-bytes-bytesOf (suc k) n = bytes-append (bytes_of k (n / 256)) (n % 256 ∷ []) (bytes-bytesOf k (n / 256)) (omega arith, tt)
+bytes_bytes_of zero n = tt
+bytes_bytes_of (suc k) n = bytes_append (bytes_of k (n / 256)) (n % 256 ∷ []) (bytes_bytes_of k (n / 256)) (omega arith, tt)
 
-pow-positive : (k : ℕ) → 0 < 256 ^ k
-pow-positive k = pow-le-pow_right (omega arith) {i = 0} {j = k} (omega arith)
+pow_positive : (k : ℕ) → 0 < 256 ^ k
+pow_positive k = pow-le-pow_right (omega arith) {i = 0} {j = k} (omega arith)
 
 -- k bytes hold a number's remainder by 256 ^ k
-pub number-bytesOf-mod : (k n : ℕ) → number_of (bytes_of k n) ≡ n % 256 ^ k
+pub number_bytes_of_mod : (k n : ℕ) → number_of (bytes_of k n) ≡ n % 256 ^ k
 unfolding number_of bytes_of
-number-bytesOf-mod zero n = sym (mod-one n)
-number-bytesOf-mod (suc k) n =
-    number-snoc (bytes_of k (n / 256)) (n % 256)
-    ∙ ap (λ (m : ℕ). m * 256 + n % 256) (number-bytesOf-mod k (n / 256))
-    ∙ sym (ap (λ (m : ℕ). n % m) (pow-suc 256 k) ∙ mod-mul n (pow-positive k) (omega arith))
+number_bytes_of_mod zero n = sym (mod-one n)
+number_bytes_of_mod (suc k) n =
+    number_snoc (bytes_of k (n / 256)) (n % 256)
+    ∙ ap (λ (m : ℕ). m * 256 + n % 256) (number_bytes_of_mod k (n / 256))
+    ∙ sym (ap (λ (m : ℕ). n % m) (pow-suc 256 k) ∙ mod-mul n (pow_positive k) (omega arith))
 
 -- so a number below 256 ^ k is that of its k bytes
-pub number-bytesOf : (k n : ℕ) → n < 256 ^ k → number_of (bytes_of k n) ≡ n
-number-bytesOf k n h = number-bytesOf-mod k n ∙ mod-eq_of_lt h
+pub number_bytes_of : (k n : ℕ) → n < 256 ^ k → number_of (bytes_of k n) ≡ n
+number_bytes_of k n h = number_bytes_of_mod k n ∙ mod-eq_of_lt h
 
 -- bytes are those of their number
-pub bytesOf-number : (bs : List ℕ) → Bytes bs → bytes_of (length bs) (number_of bs) ≡ bs
-bytesOf-number bs s =
-    number-injective (bytes_of (length bs) (number_of bs)) bs (length-bytesOf (length bs) (number_of bs)) (bytes-bytesOf (length bs) (number_of bs)) s
-    (number-bytesOf (length bs) (number_of bs) (number_lt bs s))
+pub bytes_of_number : (bs : List ℕ) → Bytes bs → bytes_of (length bs) (number_of bs) ≡ bs
+bytes_of_number bs s =
+    number_injective (bytes_of (length bs) (number_of bs)) bs (length_bytes_of (length bs) (number_of bs)) (bytes_bytes_of (length bs) (number_of bs)) s
+    (number_bytes_of (length bs) (number_of bs) (number_lt bs s))
 
 -- ---- one byte at a time
 
 -- up to seven bytes leave room for one more in 64 bits
-pub seven-leave-room : (n i : ℕ) → n < 256 ^ i → i < 8 → n < 2 ^ 56
-seven-leave-room n i h k = let p : 256 ^ i ≤ 256 ^ 7 = pow-le-pow_right (omega arith) (le_of_suc-le-suc k) in omega arith
+pub seven_leave_room : (n i : ℕ) → n < 256 ^ i → i < 8 → n < 2 ^ 56
+seven_leave_room n i h k = let p : 256 ^ i ≤ 256 ^ 7 = pow-le-pow_right (omega arith) (le_of_suc-le-suc k) in omega arith
 
 -- the number of one byte more
 pub number_more : (s : List ℕ) (i n b : ℕ) → i < length s → n ≡ number_of (take i s) → b ≡ get_or s i 0 → n * 256 + b ≡ number_of (take (i + 1) s)
 number_more s i n b h p q =
-    ap₂ (λ (x y : ℕ). x * 256 + y) p q ∙ sym (rw (add-one, take-suc s i 0 h) (number-snoc (take i s) (get_or s i 0)))
+    ap₂ (λ (x y : ℕ). x * 256 + y) p q ∙ sym (rw (add-one, take-suc s i 0 h) (number_snoc (take i s) (get_or s i 0)))
 
 pub more_lt : (n i b : ℕ) → n < 256 ^ i → b < 256 → n * 256 + b < 256 ^ (i + 1)
 more_lt n i b h k = rw (add-one, pow-suc 256 i) (omega arith)
 
 -- the last byte but j of a number goes to its place, and the higher ones are left to write
-pub bytesOf-store : (j n : ℕ) (out : List ℕ) → j < length out → bytes_of (suc j) n ++ drop (suc j) out ≡ bytes_of j (n / 256) ++ drop j (set out j (n % 256))
+pub bytes_of_store : (j n : ℕ) (out : List ℕ) → j < length out → bytes_of (suc j) n ++ drop (suc j) out ≡ bytes_of j (n / 256) ++ drop j (set out j (n % 256))
 unfolding bytes_of
-bytesOf-store j n out h =
+bytes_of_store j n out h =
     append_assoc (bytes_of j (n / 256)) (n % 256 ∷ []) (drop (suc j) out)
     ∙ ap (λ (l : List ℕ). bytes_of j (n / 256) ++ l)
     (sym (ap (drop j) (set_split out j (n % 256) h) ∙ drop_at (take j out) (n % 256 ∷ drop (suc j) out) j (length-take-le j out (omega arith))))

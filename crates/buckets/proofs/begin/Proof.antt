@@ -5,15 +5,15 @@ use mathlib.Core.List.{List}
 use Prim.Native.Nat.{ℕ, ◌-◌, ◌≤◌}
 use native.Mathlib.Omega.{arith}
 use lib.ListN.{length, set, length-set}
-use Rattle.wire.proofs.Numbers.{bytes-each}
+use Rattle.wire.proofs.Numbers.{bytes_each}
 use Rattle.key.specs.Keys.{IsKey}
 use Rattle.key.proofs.Owned.{is_key}
-use Rattle.buckets.proofs.BeginSteps.{zeroedTo, zeroed-none, zeroed-more, begun-done, begun-short}
+use Rattle.buckets.proofs.BeginSteps.{zeroed_to, zeroed_none, zeroed_more, begun_done, begun_short}
 use Rattle.buckets.proofs.begin.Statement.{statement}
 use Rattle.buckets.proofs.begin.Tie as tie
 
 abbrev invariant-loop : tie.invariant-loop
-invariant-loop memory₀ base i₀ memory i = (32 ≤ i) × (i ≤ 106784) × (length memory ≡ length memory₀) × (memory ≡ zeroedTo memory₀ i)
+invariant-loop memory₀ base i₀ memory i = (32 ≤ i) × (i ≤ 106784) × (length memory ≡ length memory₀) × (memory ≡ zeroed_to memory₀ i)
 
 abbrev decreases-loop : tie.decreases-loop
 decreases-loop memory₀ base i₀ memory i = 106784 - i
@@ -24,12 +24,12 @@ key s = is_key s.args.base s.well-formed.1.0.0 s.well-formed.1.0.1.1
 returns : tie.Need-returns invariant-loop decreases-loop
 returns c =
     let s = c.before.before in
-    begun-short s.args.base s.args.memory.now (bytes-each s.args.memory.now (λ i. (c.before.slice-known.given i).fits)) (key s) c.if1.true
+    begun_short s.args.base s.args.memory.now (bytes_each s.args.memory.now (λ i. (c.before.slice-known.given i).fits)) (key s) c.if1.true
 
 loop-holds : tie.Need-loop-init invariant-loop decreases-loop
 loop-holds c =
     let s = c.before.before in
-    (omega arith, omega arith, refl, zeroed-none s.args.memory.now (omega arith))
+    (omega arith, omega arith, refl, zeroed_none s.args.memory.now (omega arith))
 
 slice-write-memory : tie.Need-slice-write-memory invariant-loop decreases-loop
 slice-write-memory c = search rules
@@ -48,7 +48,7 @@ loop-again c =
       omega arith,
       omega arith,
       length-set l.memory l.i 0 ∙ l.invariant.2,
-      ap (λ (x : List ℕ). set x l.i 0) l.invariant.3 ∙ zeroed-more m (omega arith) l.i l.invariant.0 (omega arith),
+      ap (λ (x : List ℕ). set x l.i 0) l.invariant.3 ∙ zeroed_more m (omega arith) l.i l.invariant.0 (omega arith),
     )
 
 sub-write : tie.Need-overflow-sub-write invariant-loop decreases-loop
@@ -72,7 +72,7 @@ returns-2 c =
     let s = c.before.before.before.before.before.before.before.before in
     let m = s.args.memory.now in
     rw l.invariant.3
-    (begun-done m c.before.before.before.before.before.before.if1.false s.args.base (bytes-each m (λ i. (c.before.before.before.before.before.before.before.slice-known.given i).fits)) (key s) _ _ l.i l.invariant.0 (omega arith) l.invariant.1 (omega arith)
+    (begun_done m c.before.before.before.before.before.before.if1.false s.args.base (bytes_each m (λ i. (c.before.before.before.before.before.before.before.slice-known.given i).fits)) (key s) _ _ l.i l.invariant.0 (omega arith) l.invariant.1 (omega arith)
     c.before.before.write.ensures)
 
 pub begin-spec : {M : Type 1} → statement M

@@ -3,10 +3,10 @@ use borrow.Author.Rules.{rules}
 use borrow.Author.Tests.{not-true, not-false}
 use mathlib.Core.Path.{◌∙◌, sym}
 use native.Mathlib.Omega.{arith}
-use Rattle.wire.proofs.Numbers.{bytes-each}
+use Rattle.wire.proofs.Numbers.{bytes_each}
 use Rattle.key.specs.Keys.{IsKey}
 use Rattle.key.proofs.Owned.{is_key}
-use Rattle.buckets.proofs.CallSteps.{asks-broken, kept-known, asks-short, asks-answered}
+use Rattle.buckets.proofs.CallSteps.{asks_broken, kept_known, asks_short, asks_answered}
 use Rattle.buckets.proofs.nearest.Statement.{statement}
 use Rattle.buckets.proofs.nearest.Tie as tie
 
@@ -19,7 +19,7 @@ is-whole-requires c κs = search rules
 returns : tie.Need-returns
 returns c =
     let s = c.before.before.before.before in
-    asks-broken s.args.target s.args.memory.now s.args.out.now (bytes-each s.args.memory.now (λ i. (c.before.before.before.shared-slice-known.given i).fits)) (key s)
+    asks_broken s.args.target s.args.memory.now s.args.out.now (bytes_each s.args.memory.now (λ i. (c.before.before.before.shared-slice-known.given i).fits)) (key s)
     (sym c.before.is_whole.ensures ∙ not-true _ c.if1.true)
 
 slice-aggregate-nearest : tie.Need-slice-aggregate-nearest
@@ -34,7 +34,7 @@ length-requires c κs = search rules
 returns-2 : tie.Need-returns-2
 returns-2 c =
     let s = c.before.before.before.before.before.before.before.before.before in
-    asks-short s.args.target s.args.memory.now s.args.out.now (bytes-each s.args.memory.now (λ i. (c.before.before.before.before.before.before.before.before.shared-slice-known.given i).fits)) (key s)
+    asks_short s.args.target s.args.memory.now s.args.out.now (bytes_each s.args.memory.now (λ i. (c.before.before.before.before.before.before.before.before.shared-slice-known.given i).fits)) (key s)
     (sym c.before.before.before.before.before.before.is_whole.ensures ∙ not-false _ c.before.before.before.before.before.if1.false) c.before.before.nearest.result c.before.before.nearest.ensures.nodes _ c.before.length.ensures c.if2.true
 
 write-requires : tie.Need-write-requires
@@ -43,7 +43,7 @@ write-requires c κs =
     let e = c.before.before.length.ensures in
     let h = c.before.if2.false in (
       c.before.before.before.nearest.ensures.well.starts,
-      kept-known s.args.target s.args.memory.now s.args.out.now (bytes-each s.args.memory.now (λ i. (c.before.before.before.before.before.before.before.before.before.shared-slice-known.given i).fits)) (key s)
+      kept_known s.args.target s.args.memory.now s.args.out.now (bytes_each s.args.memory.now (λ i. (c.before.before.before.before.before.before.before.before.before.shared-slice-known.given i).fits)) (key s)
           (sym c.before.before.before.before.before.before.before.is_whole.ensures ∙ not-false _ c.before.before.before.before.before.before.if1.false) c.before.before.before.nearest.result c.before.before.before.nearest.ensures.nodes,
       omega arith,
     )
@@ -54,7 +54,7 @@ same_length c = search rules
 returns-3 : tie.Need-returns-3
 returns-3 c =
     let s = c.before.before.before.before.before.before.before.before.before.before.before.before.before in
-    asks-answered s.args.target s.args.memory.now s.args.out.now (bytes-each s.args.memory.now (λ i. (c.before.before.before.before.before.before.before.before.before.before.before.before.shared-slice-known.given i).fits)) (key s)
+    asks_answered s.args.target s.args.memory.now s.args.out.now (bytes_each s.args.memory.now (λ i. (c.before.before.before.before.before.before.before.before.before.before.before.before.shared-slice-known.given i).fits)) (key s)
     (sym c.before.before.before.before.before.before.before.before.before.before.is_whole.ensures ∙ not-false _ c.before.before.before.before.before.before.before.before.before.if1.false) c.before.before.before.before.before.before.nearest.result c.before.before.before.before.before.before.nearest.ensures.nodes _ c.before.before.before.before.before.length.ensures c.before.before.before.before.if2.false
     _ c.before.before.write.ensures
 

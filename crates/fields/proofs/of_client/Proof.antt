@@ -1,7 +1,7 @@
 -- `fields::of_client` meets its contract: each arm is a row of the definition. Assumes nothing.
 use borrow.Author.Rules.{rules}
 use mathlib.Core.Path.{◌∙◌, sym, ap}
-use Rattle.fields.specs.Fields.{clientShown}
+use Rattle.fields.specs.Fields.{client_shown}
 use Rattle.fields.proofs.of_client.Statement.{statement}
 use Rattle.fields.proofs.of_client.Tie as tie
 
@@ -42,28 +42,28 @@ carrying-requires-2 : tie.Need-carrying-requires-2
 carrying-requires-2 c κs = search rules
 
 returns : tie.Need-returns
-unfolding clientShown
-returns c = c.numbered.ensures ∙ sym (ap clientShown c.before.enum_told.given.1)
+unfolding client_shown
+returns c = c.numbered.ensures ∙ sym (ap client_shown c.before.enum_told.given.1)
 
 returns-2 : tie.Need-returns-2
-unfolding clientShown
-returns-2 c = c.numbered2.ensures ∙ sym (ap clientShown c.before.before.packet.given.1)
+unfolding client_shown
+returns-2 c = c.numbered2.ensures ∙ sym (ap client_shown c.before.before.packet.given.1)
 
 returns-3 : tie.Need-returns-3
-unfolding clientShown
-returns-3 c = c.pinging.ensures ∙ sym (ap clientShown c.before.before.packet2.given.1)
+unfolding client_shown
+returns-3 c = c.pinging.ensures ∙ sym (ap client_shown c.before.before.packet2.given.1)
 
 returns-4 : tie.Need-returns-4
-unfolding clientShown
-returns-4 c = c.pinging2.ensures ∙ sym (ap clientShown c.before.before.packet3.given.1)
+unfolding client_shown
+returns-4 c = c.pinging2.ensures ∙ sym (ap client_shown c.before.before.packet3.given.1)
 
 returns-5 : tie.Need-returns-5
-unfolding clientShown
-returns-5 c = c.carrying.ensures ∙ sym (ap clientShown c.before.before.packet4.given.1)
+unfolding client_shown
+returns-5 c = c.carrying.ensures ∙ sym (ap client_shown c.before.before.packet4.given.1)
 
 returns-6 : tie.Need-returns-6
-unfolding clientShown
-returns-6 c = c.carrying2.ensures ∙ sym (ap clientShown c.before.before.packet5.given.1)
+unfolding client_shown
+returns-6 c = c.carrying2.ensures ∙ sym (ap client_shown c.before.before.packet5.given.1)
 
 pub of-client-spec : {M : Type 1} → statement M
 of-client-spec =

@@ -1,7 +1,7 @@
 -- `fields::of_relay` meets its contract: each arm is a row of the definition. Assumes nothing.
 use borrow.Author.Rules.{rules}
 use mathlib.Core.Path.{◌∙◌, sym, ap}
-use Rattle.fields.specs.Fields.{relayShown}
+use Rattle.fields.specs.Fields.{relay_shown}
 use Rattle.fields.proofs.of_relay.Statement.{statement}
 use Rattle.fields.proofs.of_relay.Tie as tie
 
@@ -48,32 +48,32 @@ carrying-requires-2 : tie.Need-carrying-requires-2
 carrying-requires-2 c κs = search rules
 
 returns : tie.Need-returns
-unfolding relayShown
-returns c = c.numbered.ensures ∙ sym (ap relayShown c.before.before.packet.given.1)
+unfolding relay_shown
+returns c = c.numbered.ensures ∙ sym (ap relay_shown c.before.before.packet.given.1)
 
 returns-2 : tie.Need-returns-2
-unfolding relayShown
-returns-2 c = c.numbered2.ensures ∙ sym (ap relayShown c.before.before.packet2.given.1)
+unfolding relay_shown
+returns-2 c = c.numbered2.ensures ∙ sym (ap relay_shown c.before.before.packet2.given.1)
 
 returns-3 : tie.Need-returns-3
-unfolding relayShown
-returns-3 c = c.numbered3.ensures ∙ sym (ap relayShown c.before.before.packet3.given.1)
+unfolding relay_shown
+returns-3 c = c.numbered3.ensures ∙ sym (ap relay_shown c.before.before.packet3.given.1)
 
 returns-4 : tie.Need-returns-4
-unfolding relayShown
-returns-4 c = c.pinging.ensures ∙ sym (ap relayShown c.before.before.packet4.given.1)
+unfolding relay_shown
+returns-4 c = c.pinging.ensures ∙ sym (ap relay_shown c.before.before.packet4.given.1)
 
 returns-5 : tie.Need-returns-5
-unfolding relayShown
-returns-5 c = c.pinging2.ensures ∙ sym (ap relayShown c.before.before.packet5.given.1)
+unfolding relay_shown
+returns-5 c = c.pinging2.ensures ∙ sym (ap relay_shown c.before.before.packet5.given.1)
 
 returns-6 : tie.Need-returns-6
-unfolding relayShown
-returns-6 c = c.carrying.ensures ∙ sym (ap relayShown c.before.before.packet6.given.1)
+unfolding relay_shown
+returns-6 c = c.carrying.ensures ∙ sym (ap relay_shown c.before.before.packet6.given.1)
 
 returns-7 : tie.Need-returns-7
-unfolding relayShown
-returns-7 c = c.carrying2.ensures ∙ sym (ap relayShown c.before.before.packet7.given.1)
+unfolding relay_shown
+returns-7 c = c.carrying2.ensures ∙ sym (ap relay_shown c.before.before.packet7.given.1)
 
 pub of-relay-spec : {M : Type 1} → statement M
 of-relay-spec =

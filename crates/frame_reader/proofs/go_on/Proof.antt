@@ -1,4 +1,4 @@
--- `frame_reader::go_on` meets its contract: what stands at the front decides, as in `readFront`. Assumes nothing.
+-- `frame_reader::go_on` meets its contract: what stands at the front decides, as in `read_front`. Assumes nothing.
 use borrow.Author.Rules.{rules}
 use mathlib.Core.Path.{◌≡◌, ◌∙◌, refl, sym, ap}
 use mathlib.Core.List.{List, ◌++◌}
@@ -9,20 +9,20 @@ use lib.Seq.{length-take-le}
 use Rattle.frame.specs.declared.Front.{Front}
 use Rattle.frame.specs.declared.Read.{Read}
 use Rattle.frame.specs.Frames.{front}
-use Rattle.frame.specs.Reader.{readFront}
-use Rattle.frame.proofs.FrontLaws.{long_of, long-bounds, unfinished-bound, grown}
-use Rattle.frame_reader.proofs.JoinedLaws.{there-length}
+use Rattle.frame.specs.Reader.{read_front}
+use Rattle.frame.proofs.FrontLaws.{long_of, long_bounds, unfinished_bound, grown}
+use Rattle.frame_reader.proofs.JoinedLaws.{there_length}
 use Rattle.frame_reader.proofs.go_on.Statement.{statement}
 use Rattle.frame_reader.proofs.go_on.Tie as tie
 
 module _ (held : ℕ) (keep piece : List ℕ) where
   -- with what stands at the front known
-  decided : {f : Front} {r : Read} {left : List ℕ} → front (take held keep ++ piece) ≡ f → r ≡ (readFront f (take held keep) piece keep).read
-      → left ≡ (readFront f (take held keep) piece keep).keep
-      → (r ≡ (readFront (front (take held keep ++ piece)) (take held keep) piece keep).read) × (left ≡ (readFront (front (take held keep ++ piece)) (take held keep) piece keep).keep)
+  decided : {f : Front} {r : Read} {left : List ℕ} → front (take held keep ++ piece) ≡ f → r ≡ (read_front f (take held keep) piece keep).read
+      → left ≡ (read_front f (take held keep) piece keep).keep
+      → (r ≡ (read_front (front (take held keep ++ piece)) (take held keep) piece keep).read) × (left ≡ (read_front (front (take held keep ++ piece)) (take held keep) piece keep).keep)
   decided e p q = (
-    p ∙ ap (λ (x : Front). (readFront x (take held keep) piece keep).read) (sym e),
-    q ∙ ap (λ (x : Front). (readFront x (take held keep) piece keep).keep) (sym e),
+    p ∙ ap (λ (x : Front). (read_front x (take held keep) piece keep).read) (sym e),
+    q ∙ ap (λ (x : Front). (read_front x (take held keep) piece keep).keep) (sym e),
   )
 
 front-of-requires : tie.Need-front-of-requires
@@ -34,7 +34,7 @@ enum_told c = search rules
 hold-requires : tie.Need-hold-requires
 hold-requires c κs = let a = c.before.before.before.before.before.before.before.args in
     let e = sym c.before.before.before.front_of.ensures ∙ c.before.enum_told.given.1 in
-    omega (arith, there-length a.held a.keep.now a.piece.now (omega arith), unfinished-bound (take a.held a.keep.now ++ a.piece.now) e)
+    omega (arith, there_length a.held a.keep.now a.piece.now (omega arith), unfinished_bound (take a.held a.keep.now ++ a.piece.now) e)
 
 enum-told-2 : tie.Need-enum-told-2
 enum-told-2 c = search rules
@@ -50,9 +50,9 @@ finish-requires c κs = let a = c.before.before.before.before.before.before.befo
     let there = take a.held a.keep.now ++ a.piece.now in
     let e = sym c.before.before.before.before.front_of.ensures ∙ c.before.before.next.given.1 in
     let whole = long_of there _ e in
-    let l = there-length a.held a.keep.now a.piece.now (omega arith) in
+    let l = there_length a.held a.keep.now a.piece.now (omega arith) in
     let some = grown (take a.held a.keep.now) a.piece.now _ (search rules) e in (
-      omega (arith, (long-bounds there _ whole).1),
+      omega (arith, (long_bounds there _ whole).1),
       (omega (arith, whole.there, l), omega (arith, some, length-take-le a.held a.keep.now (omega arith))),
     )
 

@@ -5,7 +5,7 @@ use Prim.Native.Nat.{ℕ, ◌+◌, ◌-◌}
 use native.Mathlib.Omega.{arith}
 use lib.ListN.{length}
 use Rattle.frame.specs.declared.Shown.TheVariants.{More}
-use Rattle.frame_reader.proofs.JoinedLaws.{there-length}
+use Rattle.frame_reader.proofs.JoinedLaws.{there_length}
 use Rattle.frame_reader.proofs.CopyLaws.{copied}
 use Rattle.frame_reader.proofs.hold.Statement.{statement}
 use Rattle.frame_reader.proofs.hold.Tie as tie
@@ -31,7 +31,7 @@ same_length c = search rules
 returns : tie.Need-returns
 returns c = let a = c.before.before.before.before.before.before.args in (
   ap (λ (n : ℕ). record { shown = More; reader = record { held = n }; used = length a.piece.now })
-      (sym (there-length a.held a.keep.now a.piece.now (omega arith))),
+      (sym (there_length a.held a.keep.now a.piece.now (omega arith))),
   copied a.held (a.held + length a.piece.now - a.held) a.keep.now a.piece.now c.before.before.copy.new.1.0 (omega arith) (omega arith) c.before.before.copy.ensures.1,
 )
 

@@ -8,8 +8,8 @@ use lib.ListN.{take}
 use Rattle.frame.specs.declared.Read.{Read}
 use Rattle.frame.specs.declared.Reader.{Reader}
 use Rattle.frame.specs.Frames.{front}
-use Rattle.frame.specs.Reader.{Outcome, readFrame}
-use Rattle.frame.proofs.ReaderLaws.{too_short, bad-state, all_held, holds-bad, holds-whole, by_front}
+use Rattle.frame.specs.Reader.{Outcome, read_frame}
+use Rattle.frame.proofs.ReaderLaws.{too_short, bad_state, all_held, holds_bad, holds_whole, by_front}
 use Rattle.frame_reader.proofs.read.Statement.{statement}
 use Rattle.frame_reader.proofs.read.Tie as tie
 
@@ -18,8 +18,8 @@ alone : (held : List ℕ) → front held ≡ front (held ++ [])
 alone held = ap front (sym (append-nil held))
 
 -- with the outcome known
-settled : (reader : Reader) (keep piece : List ℕ) {o : Outcome} {r : Read} {left : List ℕ} → readFrame reader keep piece ≡ o → r ≡ o.read → left ≡ o.keep
-    → (r ≡ (readFrame reader keep piece).read) × (left ≡ (readFrame reader keep piece).keep)
+settled : (reader : Reader) (keep piece : List ℕ) {o : Outcome} {r : Read} {left : List ℕ} → read_frame reader keep piece ≡ o → r ≡ o.read → left ≡ o.keep
+    → (r ≡ (read_frame reader keep piece).read) × (left ≡ (read_frame reader keep piece).keep)
 settled reader keep piece e p q = (p ∙ ap (λ (x : Outcome). x.read) (sym e), q ∙ ap (λ (x : Outcome). x.keep) (sym e))
 
 refused-requires : tie.Need-refused-requires
@@ -35,7 +35,7 @@ refused-requires-2 c κs = search rules
 returns-2 : tie.Need-returns-2
 returns-2 c =
     let a = c.before.before.before.before.before.args in
-    settled a.reader a.keep.now a.piece.now (bad-state a.reader a.keep.now a.piece.now (omega arith) (all_held a.reader a.keep.now (omega arith) (omega arith))) c.refused2.ensures refl
+    settled a.reader a.keep.now a.piece.now (bad_state a.reader a.keep.now a.piece.now (omega arith) (all_held a.reader a.keep.now (omega arith) (omega arith))) c.refused2.ensures refl
 
 slice-aggregate-front-of : tie.Need-slice-aggregate-front-of
 slice-aggregate-front-of c = search rules
@@ -78,7 +78,7 @@ returns-4 : tie.Need-returns-4
 returns-4 c =
     let a = c.before.before.before.before.before.before.before.before.before.before.args in
     let held = alone (take a.reader.held a.keep.now) ∙ sym c.before.before.before.front_of.ensures ∙ c.before.enum-told2.given.1 in
-    settled a.reader a.keep.now a.piece.now (holds-bad a.reader a.keep.now a.piece.now (omega arith) held) c.refused3.ensures refl
+    settled a.reader a.keep.now a.piece.now (holds_bad a.reader a.keep.now a.piece.now (omega arith) held) c.refused3.ensures refl
 
 same-length-3 : tie.Need-same-length-3
 same-length-3 c = search rules
@@ -87,7 +87,7 @@ returns-5 : tie.Need-returns-5
 returns-5 c =
     let a = c.before.before.before.before.before.before.before.before.before.before.args in
     let held = alone (take a.reader.held a.keep.now) ∙ sym c.before.before.before.front_of.ensures ∙ c.before.enum-told3.given.1 in
-    settled a.reader a.keep.now a.piece.now (holds-whole a.reader a.keep.now a.piece.now (omega arith) _ held) c.refused4.ensures refl
+    settled a.reader a.keep.now a.piece.now (holds_whole a.reader a.keep.now a.piece.now (omega arith) _ held) c.refused4.ensures refl
 
 pub read_spec : {M : Type 1} → statement M
 read_spec =

@@ -3,7 +3,7 @@ use borrow.Author.Rules.{rules}
 use native.Mathlib.Omega.{arith}
 use Rattle.key.specs.Keys.{IsKey}
 use Rattle.key.proofs.Owned.{is_key}
-use Rattle.lent_list_laws.proofs.CallLaws.{begins-refused, begins-short, begins-done}
+use Rattle.lent_list_laws.proofs.CallLaws.{begins_refused, begins_short, begins_done}
 use Rattle.lent_list.proofs.begin.Statement.{statement}
 use Rattle.lent_list.proofs.begin.Tie as tie
 
@@ -27,7 +27,7 @@ returns : tie.Need-returns
 returns c =
     let s = c.before.before.before.before.before.before.before.before.before.before in
     let a = s.args in
-    begins-refused a.target a.size a.memory.now _ (key s) c.before.before.before.before.before.before.before.before.begin.result c.before.before.before.before.before.before.before.before.begin.ensures c.before.before.before.before.before.store.ensures _ c.before.answer.given.1
+    begins_refused a.target a.size a.memory.now _ (key s) c.before.before.before.before.before.before.before.before.begin.result c.before.before.before.before.before.before.before.before.begin.ensures c.before.before.before.before.before.store.ensures _ c.before.answer.given.1
 
 enum_told : tie.Need-enum-told
 enum_told c = search rules
@@ -39,7 +39,7 @@ returns-2 : tie.Need-returns-2
 returns-2 c =
     let s = c.before.before.before.before.before.before.before.before.before.before in
     let a = s.args in
-    begins-short a.target a.size a.memory.now _ (key s) c.before.before.before.before.before.before.before.before.begin.result c.before.before.before.before.before.before.before.before.begin.ensures c.before.before.before.before.before.store.ensures c.before.enum_told.given.1 (omega (arith, c.if1.true))
+    begins_short a.target a.size a.memory.now _ (key s) c.before.before.before.before.before.before.before.before.begin.result c.before.before.before.before.before.before.before.before.begin.ensures c.before.before.before.before.before.store.ensures c.before.enum_told.given.1 (omega (arith, c.if1.true))
 
 same-length-3 : tie.Need-same-length-3
 same-length-3 c = search rules
@@ -48,7 +48,7 @@ returns-3 : tie.Need-returns-3
 returns-3 c =
     let s = c.before.before.before.before.before.before.before.before.before.before in
     let a = s.args in
-    begins-done a.target a.size a.memory.now _ (key s) c.before.before.before.before.before.before.before.before.begin.result c.before.before.before.before.before.before.before.before.begin.ensures c.before.before.before.before.before.store.ensures c.before.enum_told.given.1 (omega (arith, c.if1.false))
+    begins_done a.target a.size a.memory.now _ (key s) c.before.before.before.before.before.before.before.before.begin.result c.before.before.before.before.before.before.before.before.begin.ensures c.before.before.before.before.before.store.ensures c.before.enum_told.given.1 (omega (arith, c.if1.false))
 
 pub begin-spec : {M : Type 1} → statement M
 begin-spec =

@@ -4,14 +4,14 @@ use mathlib.Core.Path.{◌≡◌, ◌∙◌, sym}
 use native.Mathlib.Omega.{arith}
 use Rattle.nearest.specs.declared.Answer.TheVariants.{Done}
 use Rattle.nearest.specs.Calls.{checked}
-use Rattle.lent_list_laws.specs.Layout.{listAt}
-use Rattle.lent_list_laws.proofs.ChangeLaws.{count-there}
-use Rattle.lent_list.proofs.HeldLaws.{held-short, held-refused, held-nothing, held-node}
+use Rattle.lent_list_laws.specs.Layout.{list_at}
+use Rattle.lent_list_laws.proofs.ChangeLaws.{count_there}
+use Rattle.lent_list.proofs.HeldLaws.{held_short, held_refused, held_nothing, held_node}
 use Rattle.lent_list.proofs.held_at.Statement.{statement}
 use Rattle.lent_list.proofs.held_at.Tie as tie
 
 -- the list keeps its rules behind its test
-passed : (c : tie.After-enum-told) → checked (listAt c.before.before.before.before.before.args.memory.now) ≡ Done
+passed : (c : tie.After-enum-told) → checked (list_at c.before.before.before.before.before.args.memory.now) ≡ Done
 passed c = sym c.before.before.check.ensures ∙ c.enum_told.given.1
 
 too-short-requires : tie.Need-too-short-requires
@@ -23,7 +23,7 @@ none-requires c κs = search rules
 returns : tie.Need-returns
 returns c =
     let a = c.before.before.before.before.args in
-    c.none.ensures ∙ held-short a.memory.now a.index _ c.before.too_short.ensures c.before.before.if1.true
+    c.none.ensures ∙ held_short a.memory.now a.index _ c.before.too_short.ensures c.before.before.if1.true
 
 check-requires : tie.Need-check-requires
 check-requires c κs = search rules
@@ -38,7 +38,7 @@ returns-2 : tie.Need-returns-2
 returns-2 c =
     let a = c.before.before.before.before.before.before.before.args in
     c.none2.ensures
-    ∙ held-refused a.memory.now a.index c.before.before.before.before.before.if1.false _
+    ∙ held_refused a.memory.now a.index c.before.before.before.before.before.if1.false _
     (sym c.before.before.before.before.check.ensures ∙ c.before.before.standing.given.1)
 
 enum_told : tie.Need-enum-told
@@ -57,7 +57,7 @@ returns-3 : tie.Need-returns-3
 returns-3 c =
     let a = c.before.before.before.before.before.before.before.before.args in
     c.none3.ensures
-    ∙ held-nothing a.memory.now a.index c.before.before.before.before.before.before.if1.false (passed c.before.before.before) c.before.if2.true
+    ∙ held_nothing a.memory.now a.index c.before.before.before.before.before.before.if1.false (passed c.before.before.before) c.before.if2.true
 
 sub-read-at : tie.Need-overflow-sub-read-at
 sub-read-at c = search rules
@@ -71,13 +71,13 @@ part-read-at-end c = search rules
 read-at-requires : tie.Need-read-at-requires
 read-at-requires c κs =
     let a = c.before.before.before.before.before.before.before.before.args in
-    let w = count-there a.memory.now (passed c.before.before.before) in
+    let w = count_there a.memory.now (passed c.before.before.before) in
     (search rules, omega arith)
 
 returns-4 : tie.Need-returns-4
 returns-4 c =
     let a = c.before.before.before.before.before.before.before.before.before.args in
-    held-node a.memory.now a.index c.before.before.before.before.before.before.before.if1.false (passed c.before.before.before.before)
+    held_node a.memory.now a.index c.before.before.before.before.before.before.before.if1.false (passed c.before.before.before.before)
     c.before.before.if2.false _ c.read_at.ensures
 
 pub held-at-spec : {M : Type 1} → statement M

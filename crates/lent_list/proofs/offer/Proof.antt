@@ -8,17 +8,17 @@ use Prim.Native.Nat.{ℕ, ◌≤◌}
 use native.Mathlib.Omega.{arith}
 use lib.ListN.{length}
 use Rattle.wire.specs.Numbers.{Bytes}
-use Rattle.wire.proofs.Numbers.{bytes-each}
+use Rattle.wire.proofs.Numbers.{bytes_each}
 use Rattle.refusal.specs.declared.Refusal.TheVariants.{UnknownFamily}
 use Rattle.node.specs.declared.Node.{Node}
-use Rattle.node.proofs.Owned.{is-node}
+use Rattle.node.proofs.Owned.{is_node}
 use Rattle.nearest.specs.declared.OfferAnswer.{OfferAnswer}
 use Rattle.nearest.specs.declared.Offered.{Offered}
-use Rattle.nearest.specs.Calls.{notOffered, offerAnswer, offered}
-use Rattle.nearest.proofs.OfferLaws.{offer-refused, offer-unknown}
-use Rattle.lent_list_laws.specs.Layout.{listAt, stored, Fits}
+use Rattle.nearest.specs.Calls.{not_offered, offer_answer, offered}
+use Rattle.nearest.proofs.OfferLaws.{offer_refused, offer_unknown}
+use Rattle.lent_list_laws.specs.Layout.{list_at, stored, Fits}
 use Rattle.lent_list_laws.specs.Calls.{Offers}
-use Rattle.lent_list_laws.proofs.CallLaws.{offers-short, offers-refused, offers-taken}
+use Rattle.lent_list_laws.proofs.CallLaws.{offers_short, offers_refused, offers_taken}
 use Rattle.lent_list.proofs.offer.Statement.{statement}
 use Rattle.lent_list.proofs.offer.Tie as tie
 
@@ -33,10 +33,10 @@ module _ (c : tie.After-slice-known) where
 
   -- a node by value has the fields that a slot holds
   fits : Fits node
-  fits = let g = c.before.well-formed.1.0 in (g.1.1.0.1, is-node node g.0 g.1.1)
+  fits = let g = c.before.well-formed.1.0 in (g.1.1.0.1, is_node node g.0 g.1.1)
 
   bytes : Bytes memory
-  bytes = bytes-each memory (λ i. (c.slice-known.given i).fits)
+  bytes = bytes_each memory (λ i. (c.slice-known.given i).fits)
 
 too-short-requires : tie.Need-too-short-requires
 too-short-requires c κs = search rules
@@ -48,7 +48,7 @@ returns : tie.Need-returns
 returns c =
     let k = c.before.before.before in
     let h = c.before.before.if1.true in
-    offers-short (node k) (memory k) (fits k) (bytes k) _ c.too_short.ensures (omega arith)
+    offers_short (node k) (memory k) (fits k) (bytes k) _ c.too_short.ensures (omega arith)
 
 check-requires : tie.Need-check-requires
 check-requires c κs = search rules
@@ -65,7 +65,7 @@ returns-2 c =
     let h = c.before.before.before.before.before.if1.false in
     let why = c.before.standing.given.0.0 in
     let e = sym c.before.before.before.check.ensures ∙ c.before.standing.given.1 in
-    offers-refused (node k) (memory k) (fits k) (bytes k) (omega arith) (notOffered (listAt (memory k)) why) (offer-refused (listAt (memory k)) (node k) why e) why refl
+    offers_refused (node k) (memory k) (fits k) (bytes k) (omega arith) (not_offered (list_at (memory k)) why) (offer_refused (list_at (memory k)) (node k) why e) why refl
 
 enum_told : tie.Need-enum-told
 enum_told c = search rules
@@ -81,8 +81,8 @@ returns-3 c =
     let k = c.before.before.before.before.before.before.before in
     let h = c.before.before.before.before.before.before.if1.false in
     let e = sym c.before.before.before.before.check.ensures ∙ c.before.before.enum_told.given.1 in
-    offers-refused (node k) (memory k) (fits k) (bytes k) (omega arith) (notOffered (listAt (memory k)) UnknownFamily)
-    (offer-unknown (listAt (memory k)) (node k) e (sym c.before.known.ensures ∙ not-true _ c.if2.true)) UnknownFamily refl
+    offers_refused (node k) (memory k) (fits k) (bytes k) (omega arith) (not_offered (list_at (memory k)) UnknownFamily)
+    (offer_unknown (list_at (memory k)) (node k) e (sym c.before.known.ensures ∙ not-true _ c.if2.true)) UnknownFamily refl
 
 keep-requires : tie.Need-keep-requires
 keep-requires c κs =
@@ -93,18 +93,18 @@ keep-requires c κs =
     )
 
 -- what was kept is what is offered
-kept : (k : tie.After-slice-known) → 850 ≤ length (memory k) → (r b : Bool) (left : List ℕ) → r ≡ b → offerAnswer r ≡ (offered (listAt (memory k)) (node k)).answer
-    → left ≡ stored (offered (listAt (memory k)) (node k)).list (memory k) → Offers (node k) (memory k) left (offerAnswer b)
+kept : (k : tie.After-slice-known) → 850 ≤ length (memory k) → (r b : Bool) (left : List ℕ) → r ≡ b → offer_answer r ≡ (offered (list_at (memory k)) (node k)).answer
+    → left ≡ stored (offered (list_at (memory k)) (node k)).list (memory k) → Offers (node k) (memory k) left (offer_answer b)
 kept k room r b left e a s =
-    let o = offered (listAt (memory k)) (node k) in
-    offers-taken (node k) (memory k) (fits k) (bytes k) room (record { list = o.list; answer = offerAnswer b })
-    (ap {B = Offered} (λ (x : OfferAnswer). record { list = o.list; answer = x }) (sym (ap offerAnswer e) ∙ a)) left s
+    let o = offered (list_at (memory k)) (node k) in
+    offers_taken (node k) (memory k) (fits k) (bytes k) room (record { list = o.list; answer = offer_answer b })
+    (ap {B = Offered} (λ (x : OfferAnswer). record { list = o.list; answer = x }) (sym (ap offer_answer e) ∙ a)) left s
 
 same-length-4 : tie.Need-same-length-4
 same-length-4 c = search rules
 
 returns-4 : tie.Need-returns-4
-unfolding offerAnswer
+unfolding offer_answer
 returns-4 c =
     let k = c.before.before.before.before.before.before.before.before.before.before.before.before in
     let h = c.before.before.before.before.before.before.before.before.before.before.before.if1.false in
@@ -115,7 +115,7 @@ same-length-5 : tie.Need-same-length-5
 same-length-5 c = search rules
 
 returns-5 : tie.Need-returns-5
-unfolding offerAnswer
+unfolding offer_answer
 returns-5 c =
     let k = c.before.before.before.before.before.before.before.before.before.before.before.before in
     let h = c.before.before.before.before.before.before.before.before.before.before.before.if1.false in

@@ -7,17 +7,17 @@ use Prim.Native.Nat.{ℕ, ◌≤◌}
 use native.Mathlib.Omega.{arith}
 use lib.ListN.{length}
 use Rattle.wire.specs.Numbers.{Bytes}
-use Rattle.wire.proofs.Numbers.{bytes-each}
+use Rattle.wire.proofs.Numbers.{bytes_each}
 use Rattle.key.specs.declared.Key.{Key}
 use Rattle.nearest.specs.declared.Answer.{Answer}
 use Rattle.nearest.specs.declared.Answer.TheVariants.{Refused}
 use Rattle.nearest.specs.declared.Removed.{Removed}
 use Rattle.nearest.specs.Calls.{removed}
-use Rattle.nearest.proofs.RemoveLaws.{remove-refused}
-use Rattle.lent_list.specs.Change.{removeAnswer}
-use Rattle.lent_list_laws.specs.Layout.{listAt, stored}
+use Rattle.nearest.proofs.RemoveLaws.{remove_refused}
+use Rattle.lent_list.specs.Change.{remove_answer}
+use Rattle.lent_list_laws.specs.Layout.{list_at, stored}
 use Rattle.lent_list_laws.specs.Calls.{Removes}
-use Rattle.lent_list_laws.proofs.CallLaws.{removes-short, removes-refused, removes-done}
+use Rattle.lent_list_laws.proofs.CallLaws.{removes_short, removes_refused, removes_done}
 use Rattle.lent_list.proofs.remove.Statement.{statement}
 use Rattle.lent_list.proofs.remove.Tie as tie
 
@@ -31,7 +31,7 @@ module _ (c : tie.After-slice-known) where
   key = c.before.args.key
 
   bytes : Bytes memory
-  bytes = bytes-each memory (λ i. (c.slice-known.given i).fits)
+  bytes = bytes_each memory (λ i. (c.slice-known.given i).fits)
 
 too-short-requires : tie.Need-too-short-requires
 too-short-requires c κs = search rules
@@ -43,7 +43,7 @@ returns : tie.Need-returns
 returns c =
     let k = c.before.before.before in
     let h = c.before.before.if1.true in
-    removes-short (key k) (memory k) (bytes k) _ c.too_short.ensures (omega arith)
+    removes_short (key k) (memory k) (bytes k) _ c.too_short.ensures (omega arith)
 
 check-requires : tie.Need-check-requires
 check-requires c κs = search rules
@@ -60,8 +60,8 @@ returns-2 c =
     let h = c.before.before.before.before.before.if1.false in
     let why = c.before.standing.given.0.0 in
     let e = sym c.before.before.before.check.ensures ∙ c.before.standing.given.1 in
-    removes-refused (key k) (memory k) (bytes k) (omega arith) (record { list = listAt (memory k); answer = Refused why })
-    (remove-refused (listAt (memory k)) (key k) why e) why refl
+    removes_refused (key k) (memory k) (bytes k) (omega arith) (record { list = list_at (memory k); answer = Refused why })
+    (remove_refused (list_at (memory k)) (key k) why e) why refl
 
 enum_told : tie.Need-enum-told
 enum_told c = search rules
@@ -72,18 +72,18 @@ take-out-requires c κs =
     (omega arith, sym c.before.before.before.check.ensures ∙ c.before.enum_told.given.1)
 
 -- what was taken out is what is removed
-taken : (k : tie.After-slice-known) → 850 ≤ length (memory k) → (r b : Bool) (left : List ℕ) → r ≡ b → removeAnswer r ≡ (removed (listAt (memory k)) (key k)).answer
-    → left ≡ stored (removed (listAt (memory k)) (key k)).list (memory k) → Removes (key k) (memory k) left (removeAnswer b)
+taken : (k : tie.After-slice-known) → 850 ≤ length (memory k) → (r b : Bool) (left : List ℕ) → r ≡ b → remove_answer r ≡ (removed (list_at (memory k)) (key k)).answer
+    → left ≡ stored (removed (list_at (memory k)) (key k)).list (memory k) → Removes (key k) (memory k) left (remove_answer b)
 taken k room r b left e a s =
-    let o = removed (listAt (memory k)) (key k) in
-    removes-done (key k) (memory k) (bytes k) room (record { list = o.list; answer = removeAnswer b })
-    (ap {B = Removed} (λ (x : Answer). record { list = o.list; answer = x }) (sym (ap removeAnswer e) ∙ a)) left s
+    let o = removed (list_at (memory k)) (key k) in
+    removes_done (key k) (memory k) (bytes k) room (record { list = o.list; answer = remove_answer b })
+    (ap {B = Removed} (λ (x : Answer). record { list = o.list; answer = x }) (sym (ap remove_answer e) ∙ a)) left s
 
 same-length-3 : tie.Need-same-length-3
 same-length-3 c = search rules
 
 returns-3 : tie.Need-returns-3
-unfolding removeAnswer
+unfolding remove_answer
 returns-3 c =
     let k = c.before.before.before.before.before.before.before.before.before.before in
     let h = c.before.before.before.before.before.before.before.before.before.if1.false in
@@ -94,7 +94,7 @@ same-length-4 : tie.Need-same-length-4
 same-length-4 c = search rules
 
 returns-4 : tie.Need-returns-4
-unfolding removeAnswer
+unfolding remove_answer
 returns-4 c =
     let k = c.before.before.before.before.before.before.before.before.before.before in
     let h = c.before.before.before.before.before.before.before.before.before.if1.false in

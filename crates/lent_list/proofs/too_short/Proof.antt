@@ -3,7 +3,7 @@ use borrow.Author.Rules.{rules}
 use borrow.Author.Tests.{not-true, not-false}
 use mathlib.Core.Path.{◌∙◌, sym}
 use native.Mathlib.Omega.{arith}
-use Rattle.lent_list_laws.proofs.CallLaws.{short_none, short-no-size, short-size}
+use Rattle.lent_list_laws.proofs.CallLaws.{short_none, short_no_size, short_size}
 use Rattle.lent_list.proofs.too_short.Statement.{statement}
 use Rattle.lent_list.proofs.too_short.Tie as tie
 
@@ -21,12 +21,12 @@ size-right-requires c κs = search rules
 
 returns-2 : tie.Need-returns-2
 returns-2 c =
-    short-no-size c.before.before.before.before.before.args.memory.now (omega (arith, c.before.before.before.if1.false))
+    short_no_size c.before.before.before.before.before.args.memory.now (omega (arith, c.before.before.before.if1.false))
     (sym c.before.size-right.ensures ∙ not-true _ c.if2.true)
 
 returns-3 : tie.Need-returns-3
 returns-3 c =
-    short-size c.before.before.before.before.before.args.memory.now (omega (arith, c.before.before.before.if1.false))
+    short_size c.before.before.before.before.before.args.memory.now (omega (arith, c.before.before.before.if1.false))
     (sym c.before.size-right.ensures ∙ not-false _ c.if2.false)
 
 pub too-short-spec : {M : Type 1} → statement M

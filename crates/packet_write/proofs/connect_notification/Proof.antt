@@ -1,25 +1,25 @@
 -- `packet_write::connect_notification` meets its contract: the number is judged, then the two bytes are put. Assumes nothing.
 use borrow.Author.Rules.{rules}
 use mathlib.Core.List.{[], ◌∷◌}
-use Rattle.packet_laws.specs.FromRelay.{FitsRelay, relayBytes, connectNotice}
-use Rattle.packet_laws.specs.Judged.{relayJudged}
-use Rattle.packet_write.proofs.WriteLaws.{accepted-writes, refused-writes}
-use Rattle.packet_laws.proofs.Judged.{relay-connect-judged, relay-connect-number}
+use Rattle.packet_laws.specs.FromRelay.{FitsRelay, relay_bytes, connect_notice}
+use Rattle.packet_laws.specs.Judged.{relay_judged}
+use Rattle.packet_write.proofs.WriteLaws.{accepted_writes, refused_writes}
+use Rattle.packet_laws.proofs.Judged.{relay_connect_judged, relay_connect_number}
 use Rattle.packet_write.proofs.connect_notification.Statement.{statement}
 use Rattle.packet_write.proofs.connect_notification.Tie as tie
 
-fits : (s : tie.Start) → FitsRelay (connectNotice s.args.number.0)
+fits : (s : tie.Start) → FitsRelay (connect_notice s.args.number.0)
 unfolding FitsRelay
 fits s = s.well-formed.0.1.1.0.1
 
 returns : tie.Need-returns
-unfolding relayBytes
+unfolding relay_bytes
 returns c =
     let a = c.before.before.before.args in
     record {
       fits = fits c.before.before.before;
       writes =
-          refused-writes (relayJudged (connectNotice a.number.0)) (2 ∷ a.number.0 ∷ []) a.out.now _ (relay-connect-number a.number.0 c.if1.true);
+          refused_writes (relay_judged (connect_notice a.number.0)) (2 ∷ a.number.0 ∷ []) a.out.now _ (relay_connect_number a.number.0 c.if1.true);
     }
 
 put-pair-requires : tie.Need-put-pair-requires
@@ -29,13 +29,13 @@ same_length : tie.Need-same-length
 same_length c = search rules
 
 returns-2 : tie.Need-returns-2
-unfolding relayBytes
+unfolding relay_bytes
 returns-2 c =
     let a = c.before.before.before.before.before.before.before.args in
     record {
       fits = fits c.before.before.before.before.before.before.before;
       writes =
-          accepted-writes (relayJudged (connectNotice a.number.0)) (2 ∷ a.number.0 ∷ []) a.out.now _ _ _ (relay-connect-judged a.number.0 c.before.before.before.before.if1.false) c.before.before.put-pair.ensures;
+          accepted_writes (relay_judged (connect_notice a.number.0)) (2 ∷ a.number.0 ∷ []) a.out.now _ _ _ (relay_connect_judged a.number.0 c.before.before.before.before.if1.false) c.before.before.put-pair.ensures;
     }
 
 pub connect-notification-spec : {M : Type 1} → statement M

@@ -9,37 +9,37 @@ use mathlib.Core.Bool.{true}
 use native.Mathlib.Nat.{add-sub_cancel_left}
 use borrow.Author.Tests.{not-true, not-false}
 use Rattle.wire.specs.Numbers.{Bytes}
-use Rattle.wire.proofs.Numbers.{bytes-each}
-use Rattle.wire.proofs.Copy.{length-written}
+use Rattle.wire.proofs.Numbers.{bytes_each}
+use Rattle.wire.proofs.Copy.{length_written}
 use Rattle.refusal.specs.declared.Refusal.{Refusal}
 use Rattle.packet_write.specs.declared.Written.{Written}
 use Rattle.packet_write.specs.declared.Written.TheVariants.{Refused}
 use Rattle.packet_laws.specs.Read.{refused}
-use Rattle.packet_laws.specs.Table.{sizeRight}
+use Rattle.packet_laws.specs.Table.{size_right}
 use Rattle.packet_laws.specs.FromClient as client
 use Rattle.packet_laws.specs.FromRelay as relay
-use Rattle.packet_laws.specs.Judged.{clientJudged, relayJudged}
+use Rattle.packet_laws.specs.Judged.{client_judged, relay_judged}
 use Rattle.packet_write.specs.Written.{Puts, DataWrites}
-use Rattle.packet_write.proofs.WriteLaws.{puts-short, puts-written, accepted-writes, refused-writes, written-byte-and-bytes}
-use Rattle.packet_laws.proofs.Judged.{client-data-judged, client-data-size, client-data-number, client-data-length, relay-data-judged, relay-data-size, relay-data-number, relay-data-length}
+use Rattle.packet_write.proofs.WriteLaws.{puts_short, puts_written, accepted_writes, refused_writes, written_byte_and_bytes}
+use Rattle.packet_laws.proofs.Judged.{client_data_judged, client_data_size, client_data_number, client_data_length, relay_data_judged, relay_data_size, relay_data_number, relay_data_length}
 use Rattle.packet_write.proofs.data.Statement.{statement}
 use Rattle.packet_write.proofs.data.Tie as tie
 
 -- both ends take the packet, and it is put; or both refuse it alike
-put : (number : ℕ) (bytes out : List ℕ) (answer : Written) (left : List ℕ) → number < 256 → Bytes bytes → sizeRight (1 + length bytes) ≡ true → 16 ≤ number → 1 ≤ length bytes
+put : (number : ℕ) (bytes out : List ℕ) (answer : Written) (left : List ℕ) → number < 256 → Bytes bytes → size_right (1 + length bytes) ≡ true → 16 ≤ number → 1 ≤ length bytes
     → Puts (number ∷ bytes) out answer left → DataWrites number bytes out left answer
-unfolding client.clientBytes relay.relayBytes client.FitsClient relay.FitsRelay
+unfolding client.client_bytes relay.relay_bytes client.FitsClient relay.FitsRelay
 put number bytes out answer left small are s h l p = record {
-  asClient = record { fits = (small, are); writes = accepted-writes (clientJudged (client.routedData number bytes)) (number ∷ bytes) out _ answer left (client-data-judged number bytes s h l) p };
-  asRelay = record { fits = (small, are); writes = accepted-writes (relayJudged (relay.routedData number bytes)) (number ∷ bytes) out _ answer left (relay-data-judged number bytes s h l) p };
+  as_client = record { fits = (small, are); writes = accepted_writes (client_judged (client.routed_data number bytes)) (number ∷ bytes) out _ answer left (client_data_judged number bytes s h l) p };
+  as_relay = record { fits = (small, are); writes = accepted_writes (relay_judged (relay.routed_data number bytes)) (number ∷ bytes) out _ answer left (relay_data_judged number bytes s h l) p };
 }
 
-refuse : (number : ℕ) (bytes out : List ℕ) (why : Refusal) → number < 256 → Bytes bytes → clientJudged (client.routedData number bytes) ≡ refused why
-    → relayJudged (relay.routedData number bytes) ≡ refused why → DataWrites number bytes out out (Refused why)
-unfolding client.clientBytes relay.relayBytes client.FitsClient relay.FitsRelay
+refuse : (number : ℕ) (bytes out : List ℕ) (why : Refusal) → number < 256 → Bytes bytes → client_judged (client.routed_data number bytes) ≡ refused why
+    → relay_judged (relay.routed_data number bytes) ≡ refused why → DataWrites number bytes out out (Refused why)
+unfolding client.client_bytes relay.relay_bytes client.FitsClient relay.FitsRelay
 refuse number bytes out why small are p q = record {
-  asClient = record { fits = (small, are); writes = refused-writes (clientJudged (client.routedData number bytes)) (number ∷ bytes) out why p };
-  asRelay = record { fits = (small, are); writes = refused-writes (relayJudged (relay.routedData number bytes)) (number ∷ bytes) out why q };
+  as_client = record { fits = (small, are); writes = refused_writes (client_judged (client.routed_data number bytes)) (number ∷ bytes) out why p };
+  as_relay = record { fits = (small, are); writes = refused_writes (relay_judged (relay.routed_data number bytes)) (number ∷ bytes) out why q };
 }
 
 add-size : tie.Need-overflow-add-size
@@ -53,16 +53,16 @@ returns c =
     let a = c.before.before.before.before.args in
     let s = sym c.before.size-right.ensures ∙ not-true _ c.if1.true in
     refuse a.number.0 a.«data».now a.out.now _
-    c.before.before.before.before.well-formed.0.1.1.0.1 (bytes-each a.«data».now (λ i. (c.before.before.before.shared-slice-known.given i).fits))
-    (client-data-size a.number.0 a.«data».now s) (relay-data-size a.number.0 a.«data».now s)
+    c.before.before.before.before.well-formed.0.1.1.0.1 (bytes_each a.«data».now (λ i. (c.before.before.before.shared-slice-known.given i).fits))
+    (client_data_size a.number.0 a.«data».now s) (relay_data_size a.number.0 a.«data».now s)
 
 returns-2 : tie.Need-returns-2
 returns-2 c =
     let a = c.before.before.before.before.before.before.args in
     let s = (sym c.before.before.before.size-right.ensures ∙ not-false _ c.before.before.if1.false) in
     refuse a.number.0 a.«data».now a.out.now _
-    c.before.before.before.before.before.before.well-formed.0.1.1.0.1 (bytes-each a.«data».now (λ i. (c.before.before.before.before.before.shared-slice-known.given i).fits))
-    (client-data-number a.number.0 a.«data».now s c.if2.true) (relay-data-number a.number.0 a.«data».now s c.if2.true)
+    c.before.before.before.before.before.before.well-formed.0.1.1.0.1 (bytes_each a.«data».now (λ i. (c.before.before.before.before.before.shared-slice-known.given i).fits))
+    (client_data_number a.number.0 a.«data».now s c.if2.true) (relay_data_number a.number.0 a.«data».now s c.if2.true)
 
 returns-3 : tie.Need-returns-3
 returns-3 c =
@@ -70,15 +70,15 @@ returns-3 c =
     let s = (sym c.before.before.before.before.size-right.ensures ∙ not-false _ c.before.before.before.if1.false) in
     let h = c.before.if2.false in
     refuse a.number.0 a.«data».now a.out.now _
-    c.before.before.before.before.before.before.before.well-formed.0.1.1.0.1 (bytes-each a.«data».now (λ i. (c.before.before.before.before.before.before.shared-slice-known.given i).fits))
-    (client-data-length a.number.0 a.«data».now s h c.if3.true) (relay-data-length a.number.0 a.«data».now s h c.if3.true)
+    c.before.before.before.before.before.before.before.well-formed.0.1.1.0.1 (bytes_each a.«data».now (λ i. (c.before.before.before.before.before.before.shared-slice-known.given i).fits))
+    (client_data_length a.number.0 a.«data».now s h c.if3.true) (relay_data_length a.number.0 a.«data».now s h c.if3.true)
 
 returns-4 : tie.Need-returns-4
 returns-4 c =
     let a = c.before.before.before.before.before.before.before.before.args in
     put a.number.0 a.«data».now a.out.now _ _
-    c.before.before.before.before.before.before.before.before.well-formed.0.1.1.0.1 (bytes-each a.«data».now (λ i. (c.before.before.before.before.before.before.before.shared-slice-known.given i).fits))
-    (sym c.before.before.before.before.before.size-right.ensures ∙ not-false _ c.before.before.before.before.if1.false) c.before.before.if2.false (omega arith) (puts-short (a.number.0 ∷ a.«data».now) a.out.now (omega arith))
+    c.before.before.before.before.before.before.before.before.well-formed.0.1.1.0.1 (bytes_each a.«data».now (λ i. (c.before.before.before.before.before.before.before.shared-slice-known.given i).fits))
+    (sym c.before.before.before.before.before.size-right.ensures ∙ not-false _ c.before.before.before.before.if1.false) c.before.before.if2.false (omega arith) (puts_short (a.number.0 ∷ a.«data».now) a.out.now (omega arith))
 
 slice-write-out : tie.Need-slice-write-out
 slice-write-out c = search rules
@@ -99,18 +99,18 @@ same_length : tie.Need-same-length
 same_length c =
     let a = c.before.before.before.before.before.before.before.before.before.before.before.before.args in
     ap length
-    (written-byte-and-bytes a.out.now c.before.before.copy.new.1.0 a.«data».now a.number.0 (1 + length a.«data».now - 1)
+    (written_byte_and_bytes a.out.now c.before.before.copy.new.1.0 a.«data».now a.number.0 (1 + length a.«data».now - 1)
     (add-sub_cancel_left 1 (length a.«data».now)) (omega arith) c.before.before.copy.ensures.1)
-    ∙ length-written (a.number.0 ∷ a.«data».now) a.out.now (1 + length a.«data».now) (omega arith) (omega arith)
+    ∙ length_written (a.number.0 ∷ a.«data».now) a.out.now (1 + length a.«data».now) (omega arith) (omega arith)
 
 returns-5 : tie.Need-returns-5
 returns-5 c =
     let a = c.before.before.before.before.before.before.before.before.before.before.before.before.args in
     put a.number.0 a.«data».now a.out.now _ _
-    c.before.before.before.before.before.before.before.before.before.before.before.before.well-formed.0.1.1.0.1 (bytes-each a.«data».now (λ i. (c.before.before.before.before.before.before.before.before.before.before.before.shared-slice-known.given i).fits))
+    c.before.before.before.before.before.before.before.before.before.before.before.before.well-formed.0.1.1.0.1 (bytes_each a.«data».now (λ i. (c.before.before.before.before.before.before.before.before.before.before.before.shared-slice-known.given i).fits))
     (sym c.before.before.before.before.before.before.before.before.before.size-right.ensures ∙ not-false _ c.before.before.before.before.before.before.before.before.if1.false) c.before.before.before.before.before.before.if2.false (omega arith)
-    (puts-written (a.number.0 ∷ a.«data».now) a.out.now _ (1 + length a.«data».now) (omega arith) (omega arith)
-    (written-byte-and-bytes a.out.now c.before.before.copy.new.1.0 a.«data».now a.number.0 (1 + length a.«data».now - 1)
+    (puts_written (a.number.0 ∷ a.«data».now) a.out.now _ (1 + length a.«data».now) (omega arith) (omega arith)
+    (written_byte_and_bytes a.out.now c.before.before.copy.new.1.0 a.«data».now a.number.0 (1 + length a.«data».now - 1)
     (add-sub_cancel_left 1 (length a.«data».now)) (omega arith) c.before.before.copy.ensures.1))
 
 pub data-spec : {M : Type 1} → statement M

@@ -6,9 +6,9 @@ use Prim.Native.Nat.{ℕ, ◌≤◌}
 use native.Mathlib.Omega.{arith}
 use lib.ListN.{length, take, drop, set, length-set}
 use Rattle.wire.specs.Numbers.{bytes_of}
-use Rattle.wire.proofs.Numbers.{length-bytesOf}
-use Rattle.wire.proofs.Copy.{written-first, written-part, length-lent, length-written}
-use Rattle.packet_write.proofs.WriteLaws.{puts-short, puts-written}
+use Rattle.wire.proofs.Numbers.{length_bytes_of}
+use Rattle.wire.proofs.Copy.{written_first, written_part, length_lent, length_written}
+use Rattle.packet_write.proofs.WriteLaws.{puts_short, puts_written}
 use Rattle.packet_write.proofs.put_number.Statement.{statement}
 use Rattle.packet_write.proofs.put_number.Tie as tie
 
@@ -16,11 +16,11 @@ use Rattle.packet_write.proofs.put_number.Tie as tie
 written : (out new : List ℕ) (k n : ℕ) → 9 ≤ length out → new ≡ bytes_of (length (take 8 (drop 1 (set out 0 k)))) n
     → take 1 (set out 0 k) ++ (new ++ drop 8 (drop 1 (set out 0 k))) ≡ (k ∷ bytes_of 8 n) ++ drop 9 out
 written out new k n h e =
-    let m : new ≡ bytes_of 8 n = e ∙ ap (λ (j : ℕ). bytes_of j n) (length-lent (set out 0 k) 1 8 (simp length-set h)) in
-    ap₂ (λ (x l : List ℕ). take 1 l ++ (x ++ drop 8 (drop 1 l))) m (written-first out k (omega arith)) ∙ written-part (k ∷ []) (bytes_of 8 n) out 1 8 refl
+    let m : new ≡ bytes_of 8 n = e ∙ ap (λ (j : ℕ). bytes_of j n) (length_lent (set out 0 k) 1 8 (simp length-set h)) in
+    ap₂ (λ (x l : List ℕ). take 1 l ++ (x ++ drop 8 (drop 1 l))) m (written_first out k (omega arith)) ∙ written_part (k ∷ []) (bytes_of 8 n) out 1 8 refl
 
 returns : tie.Need-returns
-returns c = puts-short _ c.before.before.args.out.now (let e = length-bytesOf 8 c.before.before.args.number in omega arith)
+returns c = puts_short _ c.before.before.args.out.now (let e = length_bytes_of 8 c.before.before.args.number in omega arith)
 
 slice-write-out : tie.Need-slice-write-out
 slice-write-out c = search rules
@@ -40,13 +40,13 @@ write-number-requires c κs = search rules
 same_length : tie.Need-same-length
 same_length c =
     let a = c.before.before.before.before.before.before.args in
-    let e = length-bytesOf 8 a.number in
-    ap length (written a.out.now c.before.before.write-number.new.1.0 a.kind a.number (omega arith) c.before.before.write-number.ensures) ∙ length-written (a.kind ∷ bytes_of 8 a.number) a.out.now 9 (omega arith) (omega arith)
+    let e = length_bytes_of 8 a.number in
+    ap length (written a.out.now c.before.before.write-number.new.1.0 a.kind a.number (omega arith) c.before.before.write-number.ensures) ∙ length_written (a.kind ∷ bytes_of 8 a.number) a.out.now 9 (omega arith) (omega arith)
 
 returns-2 : tie.Need-returns-2
 returns-2 c =
     let a = c.before.before.before.before.before.before.args in
-    puts-written (a.kind ∷ bytes_of 8 a.number) a.out.now _ 9 (let e = length-bytesOf 8 a.number in omega arith) (omega arith)
+    puts_written (a.kind ∷ bytes_of 8 a.number) a.out.now _ 9 (let e = length_bytes_of 8 a.number in omega arith) (omega arith)
     (written a.out.now c.before.before.write-number.new.1.0 a.kind a.number (omega arith) c.before.before.write-number.ensures)
 
 pub put-number-spec : {M : Type 1} → statement M

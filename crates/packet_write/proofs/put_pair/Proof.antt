@@ -5,16 +5,16 @@ use mathlib.Core.List.{List, [], ◌∷◌, ◌++◌}
 use Prim.Native.Nat.{ℕ, ◌<◌}
 use native.Mathlib.Omega.{arith}
 use lib.ListN.{length, drop, set, length-set}
-use Rattle.wire.proofs.Copy.{written-first, written_byte}
-use Rattle.packet_write.proofs.WriteLaws.{puts-short, puts-written}
+use Rattle.wire.proofs.Copy.{written_first, written_byte}
+use Rattle.packet_write.proofs.WriteLaws.{puts_short, puts_written}
 use Rattle.packet_write.proofs.put_pair.Statement.{statement}
 use Rattle.packet_write.proofs.put_pair.Tie as tie
 
 written : (out : List ℕ) (a b : ℕ) → 1 < length out → set (set out 0 a) 1 b ≡ (a ∷ b ∷ []) ++ drop 2 out
-written out a b h = ap (λ (l : List ℕ). set l 1 b) (written-first out a (omega arith)) ∙ written_byte (a ∷ []) out 1 b refl h
+written out a b h = ap (λ (l : List ℕ). set l 1 b) (written_first out a (omega arith)) ∙ written_byte (a ∷ []) out 1 b refl h
 
 returns : tie.Need-returns
-returns c = puts-short _ c.before.args.out.now (omega arith)
+returns c = puts_short _ c.before.args.out.now (omega arith)
 
 slice-write-out : tie.Need-slice-write-out
 slice-write-out c = search rules
@@ -28,7 +28,7 @@ same_length c = simp length-set
 returns-2 : tie.Need-returns-2
 returns-2 c =
     let a = c.before.args in
-    puts-written (a.kind ∷ a.byte ∷ []) a.out.now _ 2 refl (omega arith) (written a.out.now a.kind a.byte (omega arith))
+    puts_written (a.kind ∷ a.byte ∷ []) a.out.now _ 2 refl (omega arith) (written a.out.now a.kind a.byte (omega arith))
 
 pub put-pair-spec : {M : Type 1} → statement M
 put-pair-spec =

@@ -2,18 +2,18 @@
 use borrow.Author.Rules.{rules}
 use mathlib.Core.Path.{sym, ap}
 use native.Mathlib.Omega.{arith}
-use Rattle.records.specs.Read.{shownFirst}
-use Rattle.records.proofs.FrontLaws.{no_bytes, head-cut, packet-cut, all_there}
+use Rattle.records.specs.Read.{shown_first}
+use Rattle.records.proofs.FrontLaws.{no_bytes, head_cut, packet_cut, all_there}
 use Rattle.records.proofs.read.Statement.{statement}
 use Rattle.records.proofs.read.Tie as tie
 
 returns : tie.Need-returns
-unfolding shownFirst
-returns c = sym (ap shownFirst (no_bytes c.before.before.args.bytes.now c.if1.true))
+unfolding shown_first
+returns c = sym (ap shown_first (no_bytes c.before.before.args.bytes.now c.if1.true))
 
 returns-2 : tie.Need-returns-2
-unfolding shownFirst
-returns-2 c = sym (ap shownFirst (head-cut c.before.before.before.args.bytes.now c.before.if1.false c.if2.true))
+unfolding shown_first
+returns-2 c = sym (ap shown_first (head_cut c.before.before.before.args.bytes.now c.before.if1.false c.if2.true))
 
 sub-read-number : tie.Need-overflow-sub-read-number
 sub-read-number c = search rules
@@ -31,10 +31,10 @@ sub-if3 : tie.Need-overflow-sub-if3
 sub-if3 c = search rules
 
 returns-3 : tie.Need-returns-3
-unfolding shownFirst
+unfolding shown_first
 returns-3 c =
     let a = c.before.before.before.before.before.before.args in
-    sym (ap shownFirst (packet-cut a.bytes.now c.before.read_number.result (omega arith) c.before.read_number.ensures (omega arith)))
+    sym (ap shown_first (packet_cut a.bytes.now c.before.read_number.result (omega arith) c.before.read_number.ensures (omega arith)))
 
 shared-slice-read-t11 : tie.Need-shared-slice-read-t11
 shared-slice-read-t11 c = search rules

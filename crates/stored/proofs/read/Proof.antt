@@ -2,14 +2,14 @@
 use borrow.Author.Rules.{rules}
 use mathlib.Core.Path.{◌∙◌, sym, ap}
 use native.Mathlib.Omega.{arith}
-use Rattle.stored.specs.Stored.{shownFirst}
-use Rattle.stored.proofs.FormLaws.{no-head, shown-cut, shown-there}
+use Rattle.stored.specs.Stored.{shown_first}
+use Rattle.stored.proofs.FormLaws.{no_head, shown_cut, shown_there}
 use Rattle.stored.proofs.read.Statement.{statement}
 use Rattle.stored.proofs.read.Tie as tie
 
 returns : tie.Need-returns
-unfolding shownFirst
-returns c = sym (ap shownFirst (no-head c.before.before.args.bytes.now c.if1.true))
+unfolding shown_first
+returns c = sym (ap shown_first (no_head c.before.before.args.bytes.now c.if1.true))
 
 sub-read-number : tie.Need-overflow-sub-read-number
 sub-read-number c = search rules
@@ -27,11 +27,11 @@ sub-if2 : tie.Need-overflow-sub-if2
 sub-if2 c = search rules
 
 returns-2 : tie.Need-returns-2
-unfolding shownFirst
+unfolding shown_first
 returns-2 c =
     let a = c.before.before.before.before.before.args in
     let long = c.before.before.before.if1.false in
-    sym (ap shownFirst (shown-cut a.bytes.now (omega arith) c.before.read_number.result c.before.read_number.ensures (omega arith)))
+    sym (ap shown_first (shown_cut a.bytes.now (omega arith) c.before.read_number.result c.before.read_number.ensures (omega arith)))
 
 add-end : tie.Need-overflow-add-end
 add-end c = search rules
@@ -59,7 +59,7 @@ returns-3 c =
     let a = c.before.before.before.before.before.before.before.before.before.args in
     let long = c.before.before.before.before.before.before.before.if1.false in
     let read = c.before.before.before.before.before.read_number in
-    c.formed.ensures ∙ sym (ap shownFirst (shown-there a.bytes.now (omega arith) read.result read.ensures (omega arith)))
+    c.formed.ensures ∙ sym (ap shown_first (shown_there a.bytes.now (omega arith) read.result read.ensures (omega arith)))
 
 pub read_spec : {M : Type 1} → statement M
 read_spec =

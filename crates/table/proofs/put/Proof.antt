@@ -1,6 +1,6 @@
 -- `table::put` meets its contract: nothing where the place may not be put in use, else it is entered. Assumes nothing.
 use borrow.Author.Rules.{rules}
-use Rattle.table_laws.proofs.FitsLaws.{may-facts, put-allowed, put-entered, put_refused}
+use Rattle.table_laws.proofs.FitsLaws.{may_facts, put_allowed, put_entered, put_refused}
 use Rattle.table.proofs.put.Statement.{statement}
 use Rattle.table.proofs.put.Tie as tie
 
@@ -18,8 +18,8 @@ returns c =
 enter-requires : tie.Need-enter-requires
 enter-requires c κs =
     let a = c.before.before.before.before.before.before.args in
-    may-facts a.places a.width a.table.now a.place a.«record».now
-    (put-allowed a.places a.width a.table.now a.place a.«record».now _ c.before.before.may-put.ensures c.before.if1.false)
+    may_facts a.places a.width a.table.now a.place a.«record».now
+    (put_allowed a.places a.width a.table.now a.place a.«record».now _ c.before.before.may-put.ensures c.before.if1.false)
 
 same-length-2 : tie.Need-same-length-2
 same-length-2 c = search rules
@@ -27,7 +27,7 @@ same-length-2 c = search rules
 returns-2 : tie.Need-returns-2
 returns-2 c =
     let a = c.before.before.before.before.before.before.before.before.before.args in
-    put-entered a.places a.width a.table.now a.place a.«record».now
+    put_entered a.places a.width a.table.now a.place a.«record».now
     _ c.before.before.before.before.before.may-put.ensures c.before.before.before.before.if1.false _ c.before.before.enter.ensures
 
 pub put_spec : {M : Type 1} → statement M

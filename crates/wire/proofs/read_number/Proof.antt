@@ -7,7 +7,7 @@ use native.Mathlib.Omega.{arith}
 use lib.ListN.{length, take}
 use lib.Seq.{take_all}
 use Rattle.wire.specs.Numbers.{number_of}
-use Rattle.wire.proofs.Numbers.{seven-leave-room, number_more, more_lt}
+use Rattle.wire.proofs.Numbers.{seven_leave_room, number_more, more_lt}
 use Rattle.wire.proofs.read_number.Statement.{statement}
 use Rattle.wire.proofs.read_number.Tie as tie
 
@@ -28,7 +28,7 @@ returns c =
     l.invariant.2 ∙ ap number_of (take_all l.i a.bytes.now (omega arith) ∙ sym (take_all 8 a.bytes.now (omega arith)))
 
 mul-number : tie.Need-overflow-mul-number invariant-loop decreases-loop
-mul-number c = let l = c.before.before.loop in let h = seven-leave-room l.number l.i l.invariant.3 c.before.loop-test.true in omega arith
+mul-number c = let l = c.before.before.loop in let h = seven_leave_room l.number l.i l.invariant.3 c.before.loop-test.true in omega arith
 
 shared-slice-read-wide : tie.Need-shared-slice-read-wide invariant-loop decreases-loop
 shared-slice-read-wide c = omega arith
@@ -39,7 +39,7 @@ wide-requires c κs = search rules
 add-number : tie.Need-overflow-add-number invariant-loop decreases-loop
 add-number c =
     let l = c.before.before.before.before.loop in
-    let h = seven-leave-room l.number l.i l.invariant.3 c.before.before.before.loop-test.true in
+    let h = seven_leave_room l.number l.i l.invariant.3 c.before.before.before.loop-test.true in
     omega (arith, c.before.shared-slice-known2.given l.i)
 
 add-i : tie.Need-overflow-add-i invariant-loop decreases-loop

@@ -7,7 +7,7 @@ use native.Mathlib.Omega.{arith}
 use lib.ListN.{length, drop, length-set}
 use lib.Seq.{drop-length}
 use Rattle.wire.specs.Numbers.{bytes_of}
-use Rattle.wire.proofs.Numbers.{bytesOf-store}
+use Rattle.wire.proofs.Numbers.{bytes_of_store}
 use Rattle.wire.proofs.write_number.Statement.{statement}
 use Rattle.wire.proofs.write_number.Tie as tie
 
@@ -41,7 +41,7 @@ loop-again c =
     let e : l.i ≡ suc (l.i - 1) = omega arith in (
       omega arith,
       simp length-set (omega arith),
-      l.invariant.2 ∙ ap (λ (n : ℕ). bytes_of n l.left ++ drop n l.out) e ∙ bytesOf-store (l.i - 1) l.left l.out (omega arith),
+      l.invariant.2 ∙ ap (λ (n : ℕ). bytes_of n l.left ++ drop n l.out) e ∙ bytes_of_store (l.i - 1) l.left l.out (omega arith),
     )
 
 same_length : tie.Need-same-length invariant-loop decreases-loop

@@ -3,7 +3,7 @@ use borrow.Author.Rules.{rules}
 use mathlib.Core.Path.{◌∙◌, sym, ap}
 use mir.Syntax.{w32}
 use mir.ValLaws.{to_z-of_z}
-use Rattle.banavoge_laws.specs.Nearest.{doneCode}
+use Rattle.banavoge_laws.specs.Nearest.{done_code}
 use Rattle.banavoge.proofs.answer.done.Statement.{statement}
 use Rattle.banavoge.proofs.answer.done.Tie as tie
 
@@ -17,12 +17,12 @@ refused-requires : tie.Need-refused-requires
 refused-requires c κs = search rules
 
 returns : tie.Need-returns
-unfolding doneCode
-returns c = sym (ap doneCode c.enum_told.given.1)
+unfolding done_code
+returns c = sym (ap done_code c.enum_told.given.1)
 
 returns-2 : tie.Need-returns-2
-unfolding doneCode
-returns-2 c = to_z-of_z w32 c.refused.result (record { sfits = c.refused.type-inv }) ∙ c.refused.ensures ∙ sym (ap doneCode c.before.before.answer.given.1)
+unfolding done_code
+returns-2 c = to_z-of_z w32 c.refused.result (record { sfits = c.refused.type-inv }) ∙ c.refused.ensures ∙ sym (ap done_code c.before.before.answer.given.1)
 
 pub done-spec : {M : Type 1} → statement M
 done-spec = tie.close (tie.spec enum_told enum-known-answer refused-requires returns returns-2)

@@ -3,7 +3,7 @@ use borrow.Author.Rules.{rules}
 use mathlib.Core.Path.{◌∙◌, sym, ap}
 use mir.Syntax.{w32}
 use mir.ValLaws.{to_z-of_z}
-use Rattle.banavoge_laws.specs.Nearest.{keptCode}
+use Rattle.banavoge_laws.specs.Nearest.{kept_code}
 use Rattle.banavoge.proofs.answer.kept.Statement.{statement}
 use Rattle.banavoge.proofs.answer.kept.Tie as tie
 
@@ -20,16 +20,16 @@ refused-requires : tie.Need-refused-requires
 refused-requires c κs = search rules
 
 returns : tie.Need-returns
-unfolding keptCode
-returns c = sym (ap keptCode c.enum_told.given.1)
+unfolding kept_code
+returns c = sym (ap kept_code c.enum_told.given.1)
 
 returns-2 : tie.Need-returns-2
-unfolding keptCode
-returns-2 c = sym (ap keptCode c.enum-told2.given.1)
+unfolding kept_code
+returns-2 c = sym (ap kept_code c.enum-told2.given.1)
 
 returns-3 : tie.Need-returns-3
-unfolding keptCode
-returns-3 c = to_z-of_z w32 c.refused.result (record { sfits = c.refused.type-inv }) ∙ c.refused.ensures ∙ sym (ap keptCode c.before.before.answer.given.1)
+unfolding kept_code
+returns-3 c = to_z-of_z w32 c.refused.result (record { sfits = c.refused.type-inv }) ∙ c.refused.ensures ∙ sym (ap kept_code c.before.before.answer.given.1)
 
 pub kept-spec : {M : Type 1} → statement M
 kept-spec =

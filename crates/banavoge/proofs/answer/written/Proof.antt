@@ -3,7 +3,7 @@ use borrow.Author.Rules.{rules}
 use mathlib.Core.Path.{◌∙◌, sym, ap}
 use mir.Syntax.{w32}
 use mir.ValLaws.{to_z-of_z}
-use Rattle.banavoge_laws.specs.Answers.{writtenCode}
+use Rattle.banavoge_laws.specs.Answers.{written_code}
 use Rattle.banavoge_laws.proofs.Codes.{counted}
 use Rattle.banavoge.proofs.answer.written.Statement.{statement}
 use Rattle.banavoge.proofs.answer.written.Tie as tie
@@ -21,12 +21,12 @@ refused-requires : tie.Need-refused-requires
 refused-requires c κs = search rules
 
 returns : tie.Need-returns
-unfolding writtenCode
-returns c = to_z-of_z w32 c.count.result (record { sfits = c.count.type-inv }) ∙ c.count.ensures ∙ sym (ap writtenCode c.before.before.answer.given.1)
+unfolding written_code
+returns c = to_z-of_z w32 c.count.result (record { sfits = c.count.type-inv }) ∙ c.count.ensures ∙ sym (ap written_code c.before.before.answer.given.1)
 
 returns-2 : tie.Need-returns-2
-unfolding writtenCode
-returns-2 c = to_z-of_z w32 c.refused.result (record { sfits = c.refused.type-inv }) ∙ c.refused.ensures ∙ sym (ap writtenCode c.before.before.answer2.given.1)
+unfolding written_code
+returns-2 c = to_z-of_z w32 c.refused.result (record { sfits = c.refused.type-inv }) ∙ c.refused.ensures ∙ sym (ap written_code c.before.before.answer2.given.1)
 
 pub written-spec : {M : Type 1} → statement M
 written-spec =

@@ -4,7 +4,7 @@ use mathlib.Core.Path.{◌∙◌, ap}
 use mir.Syntax.{w32}
 use mir.ValLaws.{to_z-of_z}
 use Rattle.frame.specs.declared.Read.{Read}
-use Rattle.banavoge_laws.specs.Frames.{framePlaces, shownCode, framePlacesAfter}
+use Rattle.banavoge_laws.specs.Frames.{frame_places, shown_code, frame_places_after}
 use Rattle.banavoge.proofs.frames.banavoge_frame_read.Statement.{statement}
 use Rattle.banavoge.proofs.frames.banavoge_frame_read.Tie as tie
 
@@ -21,15 +21,15 @@ same_length : tie.Need-same-length
 same_length c = search rules
 
 returns : tie.Need-returns
-unfolding framePlacesAfter
+unfolding frame_places_after
 returns c =
     let a = c.before.before.before.before.before.before.before.before.before.before.before.args in
     let read = c.before.before.before.before.before.before.read in
     record {
-      answers = to_z-of_z w32 c.shown-code.result (record { sfits = c.shown-code.type-inv }) ∙ c.shown-code.ensures ∙ ap (λ (x : Read). shownCode x.shown) read.ensures.0;
+      answers = to_z-of_z w32 c.shown-code.result (record { sfits = c.shown-code.type-inv }) ∙ c.shown-code.ensures ∙ ap (λ (x : Read). shown_code x.shown) read.ensures.0;
       sets =
-          ap (framePlaces read.result.reader.held read.result.used) c.before.end_after.ensures
-          ∙ ap (λ (x : Read). framePlacesAfter x (framePlaces a.held.now a.used.now a.end.now)) read.ensures.0;
+          ap (frame_places read.result.reader.held read.result.used) c.before.end_after.ensures
+          ∙ ap (λ (x : Read). frame_places_after x (frame_places a.held.now a.used.now a.end.now)) read.ensures.0;
       leaves = read.ensures.1;
     }
 

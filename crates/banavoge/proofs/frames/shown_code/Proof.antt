@@ -3,7 +3,7 @@ use borrow.Author.Rules.{rules}
 use mathlib.Core.Path.{◌∙◌, sym, ap}
 use mir.Syntax.{w32}
 use mir.ValLaws.{to_z-of_z}
-use Rattle.banavoge_laws.specs.Frames.{shownCode}
+use Rattle.banavoge_laws.specs.Frames.{shown_code}
 use Rattle.banavoge.proofs.frames.shown_code.Statement.{statement}
 use Rattle.banavoge.proofs.frames.shown_code.Tie as tie
 
@@ -23,20 +23,20 @@ refused-requires : tie.Need-refused-requires
 refused-requires c κs = search rules
 
 returns : tie.Need-returns
-unfolding shownCode
-returns c = sym (ap shownCode c.enum_told.given.1)
+unfolding shown_code
+returns c = sym (ap shown_code c.enum_told.given.1)
 
 returns-2 : tie.Need-returns-2
-unfolding shownCode
-returns-2 c = sym (ap shownCode c.enum-told2.given.1)
+unfolding shown_code
+returns-2 c = sym (ap shown_code c.enum-told2.given.1)
 
 returns-3 : tie.Need-returns-3
-unfolding shownCode
-returns-3 c = sym (ap shownCode c.enum-told3.given.1)
+unfolding shown_code
+returns-3 c = sym (ap shown_code c.enum-told3.given.1)
 
 returns-4 : tie.Need-returns-4
-unfolding shownCode
-returns-4 c = to_z-of_z w32 c.refused.result (record { sfits = c.refused.type-inv }) ∙ c.refused.ensures ∙ sym (ap shownCode c.before.before.shown.given.1)
+unfolding shown_code
+returns-4 c = to_z-of_z w32 c.refused.result (record { sfits = c.refused.type-inv }) ∙ c.refused.ensures ∙ sym (ap shown_code c.before.before.shown.given.1)
 
 pub shown-code-spec : {M : Type 1} → statement M
 shown-code-spec =

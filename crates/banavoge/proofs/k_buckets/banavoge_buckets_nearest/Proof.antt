@@ -3,7 +3,7 @@ use borrow.Author.Rules.{rules}
 use mathlib.Core.Path.{◌∙◌}
 use mir.Syntax.{w32}
 use mir.ValLaws.{to_z-of_z}
-use Rattle.banavoge_laws.proofs.NodeTelling.{asked-counted}
+use Rattle.banavoge_laws.proofs.NodeTelling.{asked_counted}
 use Rattle.banavoge.proofs.k_buckets.banavoge_buckets_nearest.Statement.{statement}
 use Rattle.banavoge.proofs.k_buckets.banavoge_buckets_nearest.Tie as tie
 
@@ -11,7 +11,7 @@ nearest-requires : tie.Need-nearest-requires
 nearest-requires c κs = search rules
 
 packed-requires : tie.Need-packed-requires
-packed-requires c κs = asked-counted _ _ _ _ _ c.before.before.nearest.ensures
+packed-requires c κs = asked_counted _ _ _ _ _ c.before.before.nearest.ensures
 
 same_length : tie.Need-same-length
 same_length c = search rules

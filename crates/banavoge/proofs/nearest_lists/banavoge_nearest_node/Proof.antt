@@ -3,7 +3,7 @@ use borrow.Author.Rules.{rules}
 use mathlib.Core.Path.{◌∙◌}
 use mir.Syntax.{w32}
 use mir.ValLaws.{to_z-of_z}
-use Rattle.banavoge_laws.proofs.HeldTelling.{held-told, held_none, held-turned}
+use Rattle.banavoge_laws.proofs.HeldTelling.{held_told, held_none, held_turned}
 use Rattle.banavoge.proofs.nearest_lists.banavoge_nearest_node.Statement.{statement}
 use Rattle.banavoge.proofs.nearest_lists.banavoge_nearest_node.Tie as tie
 
@@ -26,14 +26,14 @@ refused-requires : tie.Need-refused-requires
 refused-requires c κs = search rules
 
 returns : tie.Need-returns
-returns c = held-told c.before.before.before.before.before.before.before.before.held_at.result _ c.before.before.before.before.before.before.before.before.held_at.ensures _ _ c.before.before.before.before.before.enum_told.given.1 c.tell-held.ensures
+returns c = held_told c.before.before.before.before.before.before.before.before.held_at.result _ c.before.before.before.before.before.before.before.before.held_at.ensures _ _ c.before.before.before.before.before.enum_told.given.1 c.tell-held.ensures
 
 returns-2 : tie.Need-returns-2
 returns-2 c = held_none c.before.before.before.held_at.result _ c.before.before.before.held_at.ensures _ c.enum-told2.given.1
 
 returns-3 : tie.Need-returns-3
 returns-3 c =
-    held-turned c.before.before.before.before.before.held_at.result _ c.before.before.before.before.before.held_at.ensures _ _ _ c.before.before.held.given.1
+    held_turned c.before.before.before.before.before.held_at.result _ c.before.before.before.before.before.held_at.ensures _ _ _ c.before.before.held.given.1
     (to_z-of_z w32 c.refused.result (record { sfits = c.refused.type-inv }) ∙ c.refused.ensures)
 
 pub banavoge-nearest-node-spec : {M : Type 1} → statement M

@@ -4,9 +4,9 @@ use mathlib.Core.Path.{◌∙◌}
 use mir.Syntax.{w32}
 use mir.ValLaws.{to_z-of_z}
 use lib.ListN.{drop}
-use Rattle.wire.proofs.Numbers.{bytes-each}
+use Rattle.wire.proofs.Numbers.{bytes_each}
 use Rattle.node.specs.Nodes.{read_node}
-use Rattle.banavoge_laws.proofs.NodeTelling.{node-told, node-turned}
+use Rattle.banavoge_laws.proofs.NodeTelling.{node_told, node_turned}
 use Rattle.banavoge.proofs.nodes.banavoge_node_read.Statement.{statement}
 use Rattle.banavoge.proofs.nodes.banavoge_node_read.Tie as tie
 
@@ -28,17 +28,17 @@ refused-requires c κs = search rules
 returns : tie.Need-returns
 returns c =
     record {
-      bytes = bytes-each c.before.before.before.before.before.before.before.before.before.before.before.before.args.bytes.now (λ i. (c.before.before.before.before.before.before.before.before.before.before.before.shared-slice-known.given i).fits);
+      bytes = bytes_each c.before.before.before.before.before.before.before.before.before.before.before.before.args.bytes.now (λ i. (c.before.before.before.before.before.before.before.before.before.before.before.shared-slice-known.given i).fits);
       does =
-          node-told c.before.before.before.before.before.before.before.before.before.before.before.before.args.at c.before.before.before.before.before.before.before.before.before.before.read.result (read_node (drop c.before.before.before.before.before.before.before.before.before.before.before.before.args.at c.before.before.before.before.before.before.before.before.before.before.before.before.args.bytes.now)) c.before.before.before.before.before.before.before.found.given.0.0 _ _ c.before.before.before.before.before.before.before.before.before.before.read.ensures.exact c.before.before.before.before.before.before.before.found.given.1 c.tell-node.ensures;
+          node_told c.before.before.before.before.before.before.before.before.before.before.before.before.args.at c.before.before.before.before.before.before.before.before.before.before.read.result (read_node (drop c.before.before.before.before.before.before.before.before.before.before.before.before.args.at c.before.before.before.before.before.before.before.before.before.before.before.before.args.bytes.now)) c.before.before.before.before.before.before.before.found.given.0.0 _ _ c.before.before.before.before.before.before.before.before.before.before.read.ensures.exact c.before.before.before.before.before.before.before.found.given.1 c.tell-node.ensures;
     }
 
 returns-2 : tie.Need-returns-2
 returns-2 c =
     record {
-      bytes = bytes-each c.before.before.before.before.before.before.before.args.bytes.now (λ i. (c.before.before.before.before.before.before.shared-slice-known.given i).fits);
+      bytes = bytes_each c.before.before.before.before.before.before.before.args.bytes.now (λ i. (c.before.before.before.before.before.before.shared-slice-known.given i).fits);
       does =
-          node-turned c.before.before.before.before.before.before.before.args.at c.before.before.before.before.before.read.result (read_node (drop c.before.before.before.before.before.before.before.args.at c.before.before.before.before.before.before.before.args.bytes.now)) c.before.before.found2.given.0.0 _ _ c.before.before.before.before.before.read.ensures.exact c.before.before.found2.given.1 (to_z-of_z w32 c.refused.result (record { sfits = c.refused.type-inv }) ∙ c.refused.ensures);
+          node_turned c.before.before.before.before.before.before.before.args.at c.before.before.before.before.before.read.result (read_node (drop c.before.before.before.before.before.before.before.args.at c.before.before.before.before.before.before.before.args.bytes.now)) c.before.before.found2.given.0.0 _ _ c.before.before.before.before.before.read.ensures.exact c.before.before.found2.given.1 (to_z-of_z w32 c.refused.result (record { sfits = c.refused.type-inv }) ∙ c.refused.ensures);
     }
 
 pub banavoge-node-read-spec : {M : Type 1} → statement M

@@ -3,7 +3,7 @@ use borrow.Author.Rules.{rules}
 use mathlib.Core.Path.{◌∙◌}
 use mir.Syntax.{w32}
 use mir.ValLaws.{to_z-of_z}
-use Rattle.banavoge_laws.proofs.NodeTelling.{node-counted}
+use Rattle.banavoge_laws.proofs.NodeTelling.{node_counted}
 use Rattle.banavoge.proofs.nodes.banavoge_node_write.Statement.{statement}
 use Rattle.banavoge.proofs.nodes.banavoge_node_write.Tie as tie
 
@@ -11,7 +11,7 @@ write-requires : tie.Need-write-requires
 write-requires c κs = search rules
 
 packed-requires : tie.Need-packed-requires
-packed-requires c κs = node-counted _ _ _ _ c.before.before.write.ensures
+packed-requires c κs = node_counted _ _ _ _ c.before.before.write.ensures
 
 same_length : tie.Need-same-length
 same_length c = search rules

@@ -3,10 +3,10 @@ use borrow.Author.Rules.{rules}
 use mathlib.Core.Path.{◌∙◌}
 use mir.Syntax.{w32}
 use mir.ValLaws.{to_z-of_z}
-use Rattle.wire.proofs.Numbers.{bytes-each}
+use Rattle.wire.proofs.Numbers.{bytes_each}
 use Rattle.node.specs.Steps.{step_of}
-use Rattle.banavoge_laws.specs.Nodes.{nodePlaces}
-use Rattle.banavoge_laws.proofs.NodeTelling.{step-told, step-ended, step-turned}
+use Rattle.banavoge_laws.specs.Nodes.{node_places}
+use Rattle.banavoge_laws.proofs.NodeTelling.{step_told, step_ended, step_turned}
 use Rattle.banavoge.proofs.nodes.banavoge_nodes_step.Statement.{statement}
 use Rattle.banavoge.proofs.nodes.banavoge_nodes_step.Tie as tie
 
@@ -34,10 +34,10 @@ returns c =
     let step = c.before.before.before.before.before.before.before.before.before.step_from in
     let left = c.tell-node.new.1.1 in
     record {
-      bytes = bytes-each a.list.now (λ i. (c.before.before.before.before.before.before.before.before.before.before.shared-slice-known.given i).fits);
+      bytes = bytes_each a.list.now (λ i. (c.before.before.before.before.before.before.before.before.before.before.shared-slice-known.given i).fits);
       does =
-          step-told a.place a.count step.result (step_of a.list.now a.place a.count) _
-          (nodePlaces left.0 left.1.0 left.1.1.0 left.1.1.1.0 left.1.1.1.1.0) step.ensures.exact
+          step_told a.place a.count step.result (step_of a.list.now a.place a.count) _
+          (node_places left.0 left.1.0 left.1.1.0 left.1.1.1.0 left.1.1.1.1.0) step.ensures.exact
           c.before.before.before.before.before.before.enum_told.given.1 c.tell-node.ensures;
     }
 
@@ -46,8 +46,8 @@ returns-2 c =
     let a = c.before.before.before.before.before.args in
     let step = c.before.before.before.step_from in
     record {
-      bytes = bytes-each a.list.now (λ i. (c.before.before.before.before.shared-slice-known.given i).fits);
-      does = step-ended a.place a.count step.result (step_of a.list.now a.place a.count) _ step.ensures.exact c.enum-told2.given.1;
+      bytes = bytes_each a.list.now (λ i. (c.before.before.before.before.shared-slice-known.given i).fits);
+      does = step_ended a.place a.count step.result (step_of a.list.now a.place a.count) _ step.ensures.exact c.enum-told2.given.1;
     }
 
 returns-3 : tie.Need-returns-3
@@ -56,9 +56,9 @@ returns-3 c =
     let step = c.before.before.before.before.before.step_from in
     let why = c.before.before.shown.given in
     record {
-      bytes = bytes-each a.list.now (λ i. (c.before.before.before.before.before.before.shared-slice-known.given i).fits);
+      bytes = bytes_each a.list.now (λ i. (c.before.before.before.before.before.before.shared-slice-known.given i).fits);
       does =
-          step-turned a.place a.count step.result (step_of a.list.now a.place a.count) why.0.0 _ _ step.ensures.exact why.1
+          step_turned a.place a.count step.result (step_of a.list.now a.place a.count) why.0.0 _ _ step.ensures.exact why.1
           (to_z-of_z w32 c.refused.result (record { sfits = c.refused.type-inv }) ∙ c.refused.ensures);
     }
 

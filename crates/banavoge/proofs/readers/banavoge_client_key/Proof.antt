@@ -3,11 +3,11 @@ use borrow.Author.Rules.{rules}
 use mathlib.Core.Path.{◌∙◌, sym}
 use mir.Syntax.{w32}
 use mir.ValLaws.{to_z-of_z, to_z_pos}
-use Rattle.packet_laws.specs.FromRelay.{clientRead, clientKey}
+use Rattle.packet_laws.specs.FromRelay.{client_read, client_key}
 use native.Mathlib.Omega.{arith}
-use Rattle.packet.proofs.ClientLaws.{client-key}
-use Rattle.fields.specs.Fields.{relayFields}
-use Rattle.banavoge_laws.proofs.Reading.{client-found, client-turned, tells-key, refuses-key}
+use Rattle.packet.proofs.ClientLaws.{client_key_lem}
+use Rattle.fields.specs.Fields.{relay_fields}
+use Rattle.banavoge_laws.proofs.Reading.{client_found, client_turned, tells_key, refuses_key}
 use Rattle.banavoge.proofs.readers.banavoge_client_key.Statement.{statement}
 use Rattle.banavoge.proofs.readers.banavoge_client_key.Tie as tie
 
@@ -34,14 +34,14 @@ refused-requires c κs = search rules
 
 returns : tie.Need-returns
 returns c =
-    tells-key relayFields (clientRead c.before.before.before.before.before.before.before.before.before.args.packet.now) _ clientKey c.before.of-relay.result _ _
-    (client-found (clientRead c.before.before.before.before.before.before.before.before.before.args.packet.now) c.before.before.before.before.before.before.before.read.result c.before.before.before.before.before.shown.given.0.0 c.before.of-relay.result c.before.before.before.before.before.before.before.read.ensures.exact c.before.before.before.before.before.shown.given.1 c.before.of-relay.ensures)
+    tells_key relay_fields (client_read c.before.before.before.before.before.before.before.before.before.args.packet.now) _ client_key c.before.of-relay.result _ _
+    (client_found (client_read c.before.before.before.before.before.before.before.before.before.args.packet.now) c.before.before.before.before.before.before.before.read.result c.before.before.before.before.before.shown.given.0.0 c.before.of-relay.result c.before.before.before.before.before.before.before.read.ensures.exact c.before.before.before.before.before.shown.given.1 c.before.of-relay.ensures)
     (to_z_pos w32 c.before.of-relay.result.kind (omega (arith, c.struct_known.given)))
-    (c.before.before.before.key.ensures ∙ client-key c.before.before.before.before.before.before.before.before.before.args.packet.now c.before.before.before.before.before.shown.given.0.0 (sym c.before.before.before.before.before.shown.given.1 ∙ c.before.before.before.before.before.before.before.read.ensures.exact))
+    (c.before.before.before.key.ensures ∙ client_key_lem c.before.before.before.before.before.before.before.before.before.args.packet.now c.before.before.before.before.before.shown.given.0.0 (sym c.before.before.before.before.before.shown.given.1 ∙ c.before.before.before.before.before.before.before.read.ensures.exact))
 
 returns-2 : tie.Need-returns-2
 returns-2 c =
-    refuses-key relayFields (clientRead c.before.before.before.before.before.before.args.packet.now) _ clientKey c.before.before.why.given.0.0 _ (client-turned (clientRead c.before.before.before.before.before.before.args.packet.now) c.before.before.before.before.read.result c.before.before.why.given.0.0 c.before.before.before.before.read.ensures.exact c.before.before.why.given.1)
+    refuses_key relay_fields (client_read c.before.before.before.before.before.before.args.packet.now) _ client_key c.before.before.why.given.0.0 _ (client_turned (client_read c.before.before.before.before.before.before.args.packet.now) c.before.before.before.before.read.result c.before.before.why.given.0.0 c.before.before.before.before.read.ensures.exact c.before.before.why.given.1)
     (to_z-of_z w32 c.refused.result (record { sfits = c.refused.type-inv }) ∙ c.refused.ensures)
 
 pub banavoge-client-key-spec : {M : Type 1} → statement M

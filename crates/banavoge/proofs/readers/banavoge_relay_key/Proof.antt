@@ -3,11 +3,11 @@ use borrow.Author.Rules.{rules}
 use mathlib.Core.Path.{◌∙◌, sym}
 use mir.Syntax.{w32}
 use mir.ValLaws.{to_z-of_z, to_z_pos}
-use Rattle.packet_laws.specs.FromClient.{relayRead, relayKey}
+use Rattle.packet_laws.specs.FromClient.{relay_read, relay_key}
 use native.Mathlib.Omega.{arith}
-use Rattle.packet.proofs.RelayLaws.{relay-key}
-use Rattle.fields.specs.Fields.{clientFields}
-use Rattle.banavoge_laws.proofs.Reading.{relay-found, relay-turned, tells-key, refuses-key}
+use Rattle.packet.proofs.RelayLaws.{relay_key_lem}
+use Rattle.fields.specs.Fields.{client_fields}
+use Rattle.banavoge_laws.proofs.Reading.{relay_found, relay_turned, tells_key, refuses_key}
 use Rattle.banavoge.proofs.readers.banavoge_relay_key.Statement.{statement}
 use Rattle.banavoge.proofs.readers.banavoge_relay_key.Tie as tie
 
@@ -34,14 +34,14 @@ refused-requires c κs = search rules
 
 returns : tie.Need-returns
 returns c =
-    tells-key clientFields (relayRead c.before.before.before.before.before.before.before.before.before.args.packet.now) _ relayKey c.before.of-client.result _ _
-    (relay-found (relayRead c.before.before.before.before.before.before.before.before.before.args.packet.now) c.before.before.before.before.before.before.before.read.result c.before.before.before.before.before.shown.given.0.0 c.before.of-client.result c.before.before.before.before.before.before.before.read.ensures.exact c.before.before.before.before.before.shown.given.1 c.before.of-client.ensures)
+    tells_key client_fields (relay_read c.before.before.before.before.before.before.before.before.before.args.packet.now) _ relay_key c.before.of-client.result _ _
+    (relay_found (relay_read c.before.before.before.before.before.before.before.before.before.args.packet.now) c.before.before.before.before.before.before.before.read.result c.before.before.before.before.before.shown.given.0.0 c.before.of-client.result c.before.before.before.before.before.before.before.read.ensures.exact c.before.before.before.before.before.shown.given.1 c.before.of-client.ensures)
     (to_z_pos w32 c.before.of-client.result.kind (omega (arith, c.struct_known.given)))
-    (c.before.before.before.key.ensures ∙ relay-key c.before.before.before.before.before.before.before.before.before.args.packet.now c.before.before.before.before.before.shown.given.0.0 (sym c.before.before.before.before.before.shown.given.1 ∙ c.before.before.before.before.before.before.before.read.ensures.exact))
+    (c.before.before.before.key.ensures ∙ relay_key_lem c.before.before.before.before.before.before.before.before.before.args.packet.now c.before.before.before.before.before.shown.given.0.0 (sym c.before.before.before.before.before.shown.given.1 ∙ c.before.before.before.before.before.before.before.read.ensures.exact))
 
 returns-2 : tie.Need-returns-2
 returns-2 c =
-    refuses-key clientFields (relayRead c.before.before.before.before.before.before.args.packet.now) _ relayKey c.before.before.why.given.0.0 _ (relay-turned (relayRead c.before.before.before.before.before.before.args.packet.now) c.before.before.before.before.read.result c.before.before.why.given.0.0 c.before.before.before.before.read.ensures.exact c.before.before.why.given.1)
+    refuses_key client_fields (relay_read c.before.before.before.before.before.before.args.packet.now) _ relay_key c.before.before.why.given.0.0 _ (relay_turned (relay_read c.before.before.before.before.before.before.args.packet.now) c.before.before.before.before.read.result c.before.before.why.given.0.0 c.before.before.before.before.read.ensures.exact c.before.before.why.given.1)
     (to_z-of_z w32 c.refused.result (record { sfits = c.refused.type-inv }) ∙ c.refused.ensures)
 
 pub banavoge-relay-key-spec : {M : Type 1} → statement M

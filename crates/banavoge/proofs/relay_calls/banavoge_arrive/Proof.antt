@@ -7,8 +7,8 @@ use mir.ValLaws.{to_z-of_z, to_z_pos}
 use Rattle.rules.specs.Call.{arrive}
 use Rattle.records.specs.declared.Answer.{Answer}
 use Rattle.relay_laws.specs.Calls.{answer_of}
-use Rattle.banavoge_laws.specs.RelayCalls.{countCode, seatAfter, told, arrivalTold}
-use Rattle.banavoge_laws.proofs.RelayCounts.{call-counted, given-small}
+use Rattle.banavoge_laws.specs.RelayCalls.{count_code, seat_after, told, arrival_told}
+use Rattle.banavoge_laws.proofs.RelayCounts.{call_counted, given_small}
 use Rattle.banavoge.proofs.relay_calls.banavoge_arrive.Statement.{statement}
 use Rattle.banavoge.proofs.relay_calls.banavoge_arrive.Tie as tie
 
@@ -23,7 +23,7 @@ cast-result c =
     let given = c.before.taken.given in
     let called = c.before.before.before.before.before.before.before in
     let a = called.before.before.before.before.before.before.args in
-    let h = given-small _ _ _ (call-counted a.room.now (arrive a.key.now) a.out.now _ _ _ called.arrive.ensures.leaves) given.1 in
+    let h = given_small _ _ _ (call_counted a.room.now (arrive a.key.now) a.out.now _ _ _ called.arrive.ensures.leaves) given.1 in
     record { sfits = omega (arith, h) }
 
 enum-known-why : tie.Need-enum-known-why
@@ -39,18 +39,18 @@ same-length-2 : tie.Need-same-length-2
 same-length-2 c = search rules
 
 returns : tie.Need-returns
-unfolding arrivalTold countCode seatAfter answer_of
+unfolding arrival_told count_code seat_after answer_of
 returns c =
     let given = c.before.taken.given in
     let called = c.before.before.before.before.before.before.before in
     let a = called.before.before.before.before.before.before.args in
-    let h = given-small _ _ _ (call-counted a.room.now (arrive a.key.now) a.out.now _ _ _ called.arrive.ensures.leaves) given.1 in
+    let h = given_small _ _ _ (call_counted a.room.now (arrive a.key.now) a.out.now _ _ _ called.arrive.ensures.leaves) given.1 in
     record {
       given = _;
       relates = called.arrive.ensures;
       codes =
-          ap₂ told (to_z_pos w32 _ (omega (arith, h)) ∙ sym (ap (λ (x : Answer). countCode (answer_of x)) given.1))
-          (sym (ap (λ (x : Answer). seatAfter (answer_of x) a.seat.now) given.1));
+          ap₂ told (to_z_pos w32 _ (omega (arith, h)) ∙ sym (ap (λ (x : Answer). count_code (answer_of x)) given.1))
+          (sym (ap (λ (x : Answer). seat_after (answer_of x) a.seat.now) given.1));
     }
 
 same-length-3 : tie.Need-same-length-3
@@ -60,7 +60,7 @@ same-length-4 : tie.Need-same-length-4
 same-length-4 c = search rules
 
 returns-2 : tie.Need-returns-2
-unfolding arrivalTold countCode seatAfter answer_of
+unfolding arrival_told count_code seat_after answer_of
 returns-2 c =
     let given = c.before.before.why.given in
     let called = c.before.before.before.before.before.before.before.before in
@@ -70,8 +70,8 @@ returns-2 c =
       relates = called.arrive.ensures;
       codes =
           ap₂ told
-          (to_z-of_z w32 c.refused.result (record { sfits = c.refused.type-inv }) ∙ c.refused.ensures ∙ sym (ap (λ (x : Answer). countCode (answer_of x)) given.1))
-          (sym (ap (λ (x : Answer). seatAfter (answer_of x) a.seat.now) given.1));
+          (to_z-of_z w32 c.refused.result (record { sfits = c.refused.type-inv }) ∙ c.refused.ensures ∙ sym (ap (λ (x : Answer). count_code (answer_of x)) given.1))
+          (sym (ap (λ (x : Answer). seat_after (answer_of x) a.seat.now) given.1));
     }
 
 pub banavoge-arrive-spec : {M : Type 1} → statement M

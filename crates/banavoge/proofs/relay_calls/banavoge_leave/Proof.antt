@@ -4,7 +4,7 @@ use mathlib.Core.Path.{◌∙◌}
 use mir.Syntax.{w32}
 use mir.ValLaws.{to_z-of_z}
 use Rattle.rules.specs.Call.{leave}
-use Rattle.banavoge_laws.proofs.RelayCounts.{call-counted}
+use Rattle.banavoge_laws.proofs.RelayCounts.{call_counted}
 use Rattle.banavoge.proofs.relay_calls.banavoge_leave.Statement.{statement}
 use Rattle.banavoge.proofs.relay_calls.banavoge_leave.Tie as tie
 
@@ -14,7 +14,7 @@ leave-requires c κs = search rules
 count-of-requires : tie.Need-count-of-requires
 count-of-requires c κs =
     let a = c.before.before.before.before.before.before.before.before.before.args in
-    call-counted a.room.now (leave a.seat) a.out.now _ _ _ c.before.before.before.before.leave.ensures
+    call_counted a.room.now (leave a.seat) a.out.now _ _ _ c.before.before.before.before.leave.ensures
 
 same_length : tie.Need-same-length
 same_length c = search rules

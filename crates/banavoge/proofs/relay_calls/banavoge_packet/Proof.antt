@@ -3,8 +3,8 @@ use borrow.Author.Rules.{rules}
 use mathlib.Core.Path.{◌∙◌}
 use mir.Syntax.{w32}
 use mir.ValLaws.{to_z-of_z}
-use Rattle.rules.specs.Call.{packetCall}
-use Rattle.banavoge_laws.proofs.RelayCounts.{call-counted}
+use Rattle.rules.specs.Call.{packet_call}
+use Rattle.banavoge_laws.proofs.RelayCounts.{call_counted}
 use Rattle.banavoge.proofs.relay_calls.banavoge_packet.Statement.{statement}
 use Rattle.banavoge.proofs.relay_calls.banavoge_packet.Tie as tie
 
@@ -14,7 +14,7 @@ packet-requires c κs = search rules
 count-of-requires : tie.Need-count-of-requires
 count-of-requires c κs =
     let a = c.before.before.before.before.before.before.before.before.before.before.args in
-    call-counted a.room.now (packetCall a.seat a.packet.now) a.out.now _ _ _ c.before.before.before.before.packet.ensures
+    call_counted a.room.now (packet_call a.seat a.packet.now) a.out.now _ _ _ c.before.before.before.before.packet.ensures
 
 same_length : tie.Need-same-length
 same_length c = search rules

@@ -4,7 +4,7 @@ use mathlib.Core.Path.{◌∙◌}
 use mir.Syntax.{w32}
 use mir.ValLaws.{to_z-of_z}
 use Rattle.rules.specs.Call.{tick}
-use Rattle.banavoge_laws.proofs.RelayCounts.{call-counted}
+use Rattle.banavoge_laws.proofs.RelayCounts.{call_counted}
 use Rattle.banavoge.proofs.relay_calls.banavoge_tick.Statement.{statement}
 use Rattle.banavoge.proofs.relay_calls.banavoge_tick.Tie as tie
 
@@ -14,7 +14,7 @@ tick-requires c κs = search rules
 count-of-requires : tie.Need-count-of-requires
 count-of-requires c κs =
     let a = c.before.before.before.before.before.before.before.before.before.args in
-    call-counted a.room.now (tick a.time a.number) a.out.now _ _ _ c.before.before.before.before.tick.ensures.leaves
+    call_counted a.room.now (tick a.time a.number) a.out.now _ _ _ c.before.before.before.before.tick.ensures.leaves
 
 same_length : tie.Need-same-length
 same_length c = search rules

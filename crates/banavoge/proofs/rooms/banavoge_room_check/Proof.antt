@@ -4,7 +4,7 @@ use mathlib.Core.Path.{◌∙◌, ap}
 use mir.Syntax.{w32}
 use mir.ValLaws.{to_z-of_z}
 use Rattle.refusal.specs.declared.Refusal.TheVariants.{RoomNotWhole}
-use Rattle.banavoge_laws.specs.Rooms.{doneOr, roomCode}
+use Rattle.banavoge_laws.specs.Rooms.{done_or, room_code}
 use Rattle.banavoge.proofs.rooms.banavoge_room_check.Statement.{statement}
 use Rattle.banavoge.proofs.rooms.banavoge_room_check.Tie as tie
 
@@ -15,8 +15,8 @@ done-or-requires : tie.Need-done-or-requires
 done-or-requires c κs = search rules
 
 returns : tie.Need-returns
-unfolding roomCode
-returns c = to_z-of_z w32 c.done-or.result (record { sfits = c.done-or.type-inv }) ∙ c.done-or.ensures ∙ ap (doneOr RoomNotWhole) c.before.is_whole.ensures
+unfolding room_code
+returns c = to_z-of_z w32 c.done-or.result (record { sfits = c.done-or.type-inv }) ∙ c.done-or.ensures ∙ ap (done_or RoomNotWhole) c.before.is_whole.ensures
 
 pub banavoge-room-check-spec : {M : Type 1} → statement M
 banavoge-room-check-spec = tie.close (tie.spec is-whole-requires done-or-requires returns)

@@ -5,7 +5,7 @@ use lib.IntN.{ℤ}
 use mir.Syntax.{w32}
 use mir.ValLaws.{to_z-of_z}
 use Rattle.relay.specs.declared.play.Run.{Run}
-use Rattle.banavoge_laws.specs.Runs.{runCode, Counts, counts, runCounts, Telling, runTold}
+use Rattle.banavoge_laws.specs.Runs.{run_code, Counts, counts, run_counts, Telling, run_told}
 use Rattle.banavoge.proofs.runs.banavoge_play.Statement.{statement}
 use Rattle.banavoge.proofs.runs.banavoge_play.Tie as tie
 
@@ -35,7 +35,7 @@ same-length-2 : tie.Need-same-length-2
 same-length-2 c = search rules
 
 returns : tie.Need-returns
-unfolding runTold runCode runCounts
+unfolding run_told run_code run_counts
 returns c =
     let a = c.before.before.before.before.before.before.before.before.before.before.before.before.before.before.args in
     let e = c.before.before.why.given.1 in
@@ -43,8 +43,8 @@ returns c =
       given = _;
       relates = c.before.before.before.before.before.before.before.before.play.ensures;
       codes =
-          ap₂ tell (to_z-of_z w32 c.stop-code.result (record { sfits = c.stop-code.type-inv }) ∙ c.stop-code.ensures ∙ sym (ap runCode e))
-          (sym (ap (λ (x : Run). runCounts x (counts a.played.now a.read.now a.written.now)) e));
+          ap₂ tell (to_z-of_z w32 c.stop-code.result (record { sfits = c.stop-code.type-inv }) ∙ c.stop-code.ensures ∙ sym (ap run_code e))
+          (sym (ap (λ (x : Run). run_counts x (counts a.played.now a.read.now a.written.now)) e));
     }
 
 same-length-3 : tie.Need-same-length-3
@@ -54,7 +54,7 @@ same-length-4 : tie.Need-same-length-4
 same-length-4 c = search rules
 
 returns-2 : tie.Need-returns-2
-unfolding runTold runCode runCounts
+unfolding run_told run_code run_counts
 returns-2 c =
     let a = c.before.before.before.before.before.before.before.before.before.before.before.before.before.before.args in
     let e = c.before.before.why2.given.1 in
@@ -62,8 +62,8 @@ returns-2 c =
       given = _;
       relates = c.before.before.before.before.before.before.before.before.play.ensures;
       codes =
-          ap₂ tell (to_z-of_z w32 c.refused.result (record { sfits = c.refused.type-inv }) ∙ c.refused.ensures ∙ sym (ap runCode e))
-          (sym (ap (λ (x : Run). runCounts x (counts a.played.now a.read.now a.written.now)) e));
+          ap₂ tell (to_z-of_z w32 c.refused.result (record { sfits = c.refused.type-inv }) ∙ c.refused.ensures ∙ sym (ap run_code e))
+          (sym (ap (λ (x : Run). run_counts x (counts a.played.now a.read.now a.written.now)) e));
     }
 
 pub banavoge-play-spec : {M : Type 1} → statement M

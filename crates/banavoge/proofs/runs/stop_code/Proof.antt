@@ -3,7 +3,7 @@ use borrow.Author.Rules.{rules}
 use mathlib.Core.Path.{sym, ap}
 use lib.IntN.{pos}
 use Rattle.relay.specs.declared.play.Stop.{Stop}
-use Rattle.banavoge_laws.specs.Runs.{stopNumber}
+use Rattle.banavoge_laws.specs.Runs.{stop_number}
 use Rattle.banavoge.proofs.runs.stop_code.Statement.{statement}
 use Rattle.banavoge.proofs.runs.stop_code.Tie as tie
 
@@ -20,20 +20,20 @@ enum-told-4 : tie.Need-enum-told-4
 enum-told-4 c = search rules
 
 returns : tie.Need-returns
-unfolding stopNumber
-returns c = sym (ap (λ (x : Stop). pos (stopNumber x)) c.enum_told.given.1)
+unfolding stop_number
+returns c = sym (ap (λ (x : Stop). pos (stop_number x)) c.enum_told.given.1)
 
 returns-2 : tie.Need-returns-2
-unfolding stopNumber
-returns-2 c = sym (ap (λ (x : Stop). pos (stopNumber x)) c.enum-told2.given.1)
+unfolding stop_number
+returns-2 c = sym (ap (λ (x : Stop). pos (stop_number x)) c.enum-told2.given.1)
 
 returns-3 : tie.Need-returns-3
-unfolding stopNumber
-returns-3 c = sym (ap (λ (x : Stop). pos (stopNumber x)) c.enum-told3.given.1)
+unfolding stop_number
+returns-3 c = sym (ap (λ (x : Stop). pos (stop_number x)) c.enum-told3.given.1)
 
 returns-4 : tie.Need-returns-4
-unfolding stopNumber
-returns-4 c = sym (ap (λ (x : Stop). pos (stopNumber x)) c.enum-told4.given.1)
+unfolding stop_number
+returns-4 c = sym (ap (λ (x : Stop). pos (stop_number x)) c.enum-told4.given.1)
 
 pub stop-code-spec : {M : Type 1} → statement M
 stop-code-spec =

@@ -5,7 +5,7 @@ use mathlib.Core.Path.{refl, sym, ◌∙◌}
 use mir.Syntax.{w32}
 use mir.ValLaws.{to_z-of_z}
 use Rattle.refusal.specs.declared.Refusal.TheVariants.{RoomNotWhole, NotSeated}
-use Rattle.banavoge_laws.proofs.SittingLaws.{not-whole-told, vacant-told, key-told, tells-refusal, tells-key}
+use Rattle.banavoge_laws.proofs.SittingLaws.{not_whole_told, vacant_told, key_told, tells_refusal, tells_key}
 use Rattle.banavoge.proofs.sitting.banavoge_key_in.Statement.{statement}
 use Rattle.banavoge.proofs.sitting.banavoge_key_in.Tie as tie
 
@@ -18,8 +18,8 @@ refused-requires c κs = search rules
 returns : tie.Need-returns
 returns c =
     let a = c.before.before.before.before.args in
-    let broken = not-whole-told 40 32 a.room.now a.seat (sym c.before.before.is_whole.ensures ∙ not-true _ c.before.if1.true) in
-    tells-refusal 40 32 a.room.now a.seat _ _ RoomNotWhole broken (to_z-of_z w32 c.refused.result (record { sfits = c.refused.type-inv }) ∙ c.refused.ensures)
+    let broken = not_whole_told 40 32 a.room.now a.seat (sym c.before.before.is_whole.ensures ∙ not-true _ c.before.if1.true) in
+    tells_refusal 40 32 a.room.now a.seat _ _ RoomNotWhole broken (to_z-of_z w32 c.refused.result (record { sfits = c.refused.type-inv }) ∙ c.refused.ensures)
 
 is-taken-requires : tie.Need-is-taken-requires
 is-taken-requires c κs = search rules
@@ -31,8 +31,8 @@ returns-2 : tie.Need-returns-2
 returns-2 c =
     let a = c.before.before.before.before.before.before.args in
     let whole = sym c.before.before.before.before.is_whole.ensures ∙ not-false _ c.before.before.before.if1.false in
-    let empty = vacant-told 40 32 a.room.now a.seat whole (sym c.before.before.is-taken.ensures ∙ not-true _ c.before.if2.true) in
-    tells-refusal 40 32 a.room.now a.seat _ _ NotSeated empty (to_z-of_z w32 c.refused2.result (record { sfits = c.refused2.type-inv }) ∙ c.refused2.ensures)
+    let empty = vacant_told 40 32 a.room.now a.seat whole (sym c.before.before.is-taken.ensures ∙ not-true _ c.before.if2.true) in
+    tells_refusal 40 32 a.room.now a.seat _ _ NotSeated empty (to_z-of_z w32 c.refused2.result (record { sfits = c.refused2.type-inv }) ∙ c.refused2.ensures)
 
 key-in-requires : tie.Need-key-in-requires
 key-in-requires c κs = search rules
@@ -42,8 +42,8 @@ returns-3 c =
     let a = c.before.before.before.before.before.before.before.args in
     let whole = sym c.before.before.before.before.before.is_whole.ensures ∙ not-false _ c.before.before.before.before.if1.false in
     let taken = sym c.before.before.before.is-taken.ensures ∙ not-false _ c.before.before.if2.false in
-    let there = key-told 40 32 a.room.now a.seat whole taken c.before.key_in.result.0 c.before.key_in.ensures in
-    tells-key 40 32 a.room.now a.seat _ _ c.before.key_in.result.0 there refl
+    let there = key_told 40 32 a.room.now a.seat whole taken c.before.key_in.result.0 c.before.key_in.ensures in
+    tells_key 40 32 a.room.now a.seat _ _ c.before.key_in.result.0 there refl
 
 pub banavoge-key-in-spec : {M : Type 1} → statement M
 banavoge-key-in-spec =

@@ -5,7 +5,7 @@ use mathlib.Core.Path.{sym, ◌∙◌}
 use native.Mathlib.Omega.{arith}
 use mir.Syntax.{w32}
 use mir.ValLaws.{to_z-of_z, to_z_pos}
-use Rattle.banavoge_laws.proofs.SittingLaws.{not-whole-code, seat-code, none-code}
+use Rattle.banavoge_laws.proofs.SittingLaws.{not_whole_code, seat_code, none_code}
 use Rattle.banavoge.proofs.sitting.banavoge_seat_of.Statement.{statement}
 use Rattle.banavoge.proofs.sitting.banavoge_seat_of.Tie as tie
 
@@ -18,7 +18,7 @@ refused-requires c κs = search rules
 returns : tie.Need-returns
 returns c =
     let a = c.before.before.before.before.args in
-    let broken = not-whole-code 40 32 a.room.now a.key.now (sym c.before.before.is_whole.ensures ∙ not-true _ c.before.if1.true) in
+    let broken = not_whole_code 40 32 a.room.now a.key.now (sym c.before.before.is_whole.ensures ∙ not-true _ c.before.if1.true) in
     to_z-of_z w32 c.refused.result (record { sfits = c.refused.type-inv }) ∙ c.refused.ensures ∙ sym broken
 
 seat-of-requires : tie.Need-seat-of-requires
@@ -43,7 +43,7 @@ returns-2 c =
     let whole = sym f.before.before.before.is_whole.ensures ∙ not-false _ f.before.before.if1.false in
     let seat = c.before.before.seat.given in
     to_z_pos w32 seat.0.0.0 (omega (arith, c.struct_known.given))
-    ∙ sym (seat-code 40 32 a.room.now a.key.now whole f.seat-of.result f.seat-of.ensures seat.0.0 seat.1)
+    ∙ sym (seat_code 40 32 a.room.now a.key.now whole f.seat-of.result f.seat-of.ensures seat.0.0 seat.1)
 
 returns-3 : tie.Need-returns-3
 returns-3 c =
@@ -51,7 +51,7 @@ returns-3 c =
     let a = f.before.before.before.before.before.args in
     let whole = sym f.before.before.before.is_whole.ensures ∙ not-false _ f.before.before.if1.false in
     to_z-of_z w32 c.refused2.result (record { sfits = c.refused2.type-inv }) ∙ c.refused2.ensures
-    ∙ sym (none-code 40 32 a.room.now a.key.now whole f.seat-of.result f.seat-of.ensures c.before.enum_told.given.1)
+    ∙ sym (none_code 40 32 a.room.now a.key.now whole f.seat-of.result f.seat-of.ensures c.before.enum_told.given.1)
 
 pub banavoge-seat-of-spec : {M : Type 1} → statement M
 banavoge-seat-of-spec =

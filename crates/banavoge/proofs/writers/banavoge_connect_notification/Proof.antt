@@ -3,8 +3,8 @@ use borrow.Author.Rules.{rules}
 use mathlib.Core.Path.{◌∙◌}
 use mir.Syntax.{w32}
 use mir.ValLaws.{to_z-of_z}
-use Rattle.packet_laws.specs.FromRelay.{connectNotice}
-use Rattle.banavoge_laws.proofs.Writing.{relay-counted}
+use Rattle.packet_laws.specs.FromRelay.{connect_notice}
+use Rattle.banavoge_laws.proofs.Writing.{relay_counted}
 use Rattle.banavoge.proofs.writers.banavoge_connect_notification.Statement.{statement}
 use Rattle.banavoge.proofs.writers.banavoge_connect_notification.Tie as tie
 
@@ -12,7 +12,7 @@ connect-notification-requires : tie.Need-connect-notification-requires
 connect-notification-requires c κs = search rules
 
 written-requires : tie.Need-written-requires
-written-requires c κs = relay-counted (connectNotice c.before.before.before.before.before.args.number) c.before.before.before.before.before.args.out.now _ _ c.before.before.connect-notification.ensures
+written-requires c κs = relay_counted (connect_notice c.before.before.before.before.before.args.number) c.before.before.before.before.before.args.out.now _ _ c.before.before.connect-notification.ensures
 
 same_length : tie.Need-same-length
 same_length c = search rules

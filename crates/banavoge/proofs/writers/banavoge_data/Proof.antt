@@ -4,7 +4,7 @@ use mathlib.Core.Path.{◌∙◌}
 use mir.Syntax.{w32}
 use mir.ValLaws.{to_z-of_z}
 use Rattle.packet_laws.specs.FromClient as client
-use Rattle.banavoge_laws.proofs.Writing.{client-counted}
+use Rattle.banavoge_laws.proofs.Writing.{client_counted}
 use Rattle.banavoge.proofs.writers.banavoge_data.Statement.{statement}
 use Rattle.banavoge.proofs.writers.banavoge_data.Tie as tie
 
@@ -12,7 +12,7 @@ data-requires : tie.Need-data-requires
 data-requires c κs = search rules
 
 written-requires : tie.Need-written-requires
-written-requires c κs = client-counted (client.routedData c.before.before.before.before.before.before.args.number c.before.before.before.before.before.before.args.«data».now) c.before.before.before.before.before.before.args.out.now _ _ c.before.before.«data».ensures.asClient
+written-requires c κs = client_counted (client.routed_data c.before.before.before.before.before.before.args.number c.before.before.before.before.before.before.args.«data».now) c.before.before.before.before.before.before.args.out.now _ _ c.before.before.«data».ensures.as_client
 
 same_length : tie.Need-same-length
 same_length c = search rules

@@ -3,8 +3,8 @@ use borrow.Author.Rules.{rules}
 use mathlib.Core.Path.{◌∙◌}
 use mir.Syntax.{w32}
 use mir.ValLaws.{to_z-of_z}
-use Rattle.packet_laws.specs.FromRelay.{disconnectNotice}
-use Rattle.banavoge_laws.proofs.Writing.{relay-counted}
+use Rattle.packet_laws.specs.FromRelay.{disconnect_notice}
+use Rattle.banavoge_laws.proofs.Writing.{relay_counted}
 use Rattle.banavoge.proofs.writers.banavoge_disconnect_notification.Statement.{statement}
 use Rattle.banavoge.proofs.writers.banavoge_disconnect_notification.Tie as tie
 
@@ -12,7 +12,7 @@ disconnect-notification-requires : tie.Need-disconnect-notification-requires
 disconnect-notification-requires c κs = search rules
 
 written-requires : tie.Need-written-requires
-written-requires c κs = relay-counted (disconnectNotice c.before.before.before.before.before.args.number) c.before.before.before.before.before.args.out.now _ _ c.before.before.disconnect-notification.ensures
+written-requires c κs = relay_counted (disconnect_notice c.before.before.before.before.before.args.number) c.before.before.before.before.before.args.out.now _ _ c.before.before.disconnect-notification.ensures
 
 same_length : tie.Need-same-length
 same_length c = search rules

@@ -3,8 +3,8 @@ use borrow.Author.Rules.{rules}
 use mathlib.Core.Path.{◌∙◌}
 use mir.Syntax.{w32}
 use mir.ValLaws.{to_z-of_z}
-use Rattle.packet_laws.specs.FromRelay.{oobReceived}
-use Rattle.banavoge_laws.proofs.Writing.{relay-counted}
+use Rattle.packet_laws.specs.FromRelay.{oob_received}
+use Rattle.banavoge_laws.proofs.Writing.{relay_counted}
 use Rattle.banavoge.proofs.writers.banavoge_oob_received.Statement.{statement}
 use Rattle.banavoge.proofs.writers.banavoge_oob_received.Tie as tie
 
@@ -12,7 +12,7 @@ oob-received-requires : tie.Need-oob-received-requires
 oob-received-requires c κs = search rules
 
 written-requires : tie.Need-written-requires
-written-requires c κs = relay-counted (oobReceived c.before.before.before.before.before.before.before.args.key.now c.before.before.before.before.before.before.before.args.«data».now) c.before.before.before.before.before.before.before.args.out.now _ _ c.before.before.oob-received.ensures
+written-requires c κs = relay_counted (oob_received c.before.before.before.before.before.before.before.args.key.now c.before.before.before.before.before.before.before.args.«data».now) c.before.before.before.before.before.before.before.args.out.now _ _ c.before.before.oob-received.ensures
 
 same_length : tie.Need-same-length
 same_length c = search rules

@@ -3,8 +3,8 @@ use borrow.Author.Rules.{rules}
 use mathlib.Core.Path.{◌∙◌}
 use mir.Syntax.{w32}
 use mir.ValLaws.{to_z-of_z}
-use Rattle.packet_laws.specs.FromClient.{oobSend}
-use Rattle.banavoge_laws.proofs.Writing.{client-counted}
+use Rattle.packet_laws.specs.FromClient.{oob_send}
+use Rattle.banavoge_laws.proofs.Writing.{client_counted}
 use Rattle.banavoge.proofs.writers.banavoge_oob_send.Statement.{statement}
 use Rattle.banavoge.proofs.writers.banavoge_oob_send.Tie as tie
 
@@ -12,7 +12,7 @@ oob-send-requires : tie.Need-oob-send-requires
 oob-send-requires c κs = search rules
 
 written-requires : tie.Need-written-requires
-written-requires c κs = client-counted (oobSend c.before.before.before.before.before.before.before.args.key.now c.before.before.before.before.before.before.before.args.«data».now) c.before.before.before.before.before.before.before.args.out.now _ _ c.before.before.oob-send.ensures
+written-requires c κs = client_counted (oob_send c.before.before.before.before.before.before.before.args.key.now c.before.before.before.before.before.before.before.args.«data».now) c.before.before.before.before.before.before.before.args.out.now _ _ c.before.before.oob-send.ensures
 
 same_length : tie.Need-same-length
 same_length c = search rules

@@ -4,7 +4,7 @@ use mathlib.Core.Path.{◌∙◌}
 use mir.Syntax.{w32}
 use mir.ValLaws.{to_z-of_z}
 use Rattle.packet_laws.specs.FromClient as client
-use Rattle.banavoge_laws.proofs.Writing.{client-counted}
+use Rattle.banavoge_laws.proofs.Writing.{client_counted}
 use Rattle.banavoge.proofs.writers.banavoge_pong.Statement.{statement}
 use Rattle.banavoge.proofs.writers.banavoge_pong.Tie as tie
 
@@ -12,7 +12,7 @@ pong-requires : tie.Need-pong-requires
 pong-requires c κs = search rules
 
 written-requires : tie.Need-written-requires
-written-requires c κs = client-counted (client.pong c.before.before.before.before.before.args.n) c.before.before.before.before.before.args.out.now _ _ c.before.before.pong.ensures.asClient
+written-requires c κs = client_counted (client.pong c.before.before.before.before.before.args.n) c.before.before.before.before.before.args.out.now _ _ c.before.before.pong.ensures.as_client
 
 same_length : tie.Need-same-length
 same_length c = search rules

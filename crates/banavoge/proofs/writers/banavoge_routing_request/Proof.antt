@@ -3,8 +3,8 @@ use borrow.Author.Rules.{rules}
 use mathlib.Core.Path.{◌∙◌}
 use mir.Syntax.{w32}
 use mir.ValLaws.{to_z-of_z}
-use Rattle.packet_laws.specs.FromClient.{routingRequest}
-use Rattle.banavoge_laws.proofs.Writing.{client-counted}
+use Rattle.packet_laws.specs.FromClient.{routing_request}
+use Rattle.banavoge_laws.proofs.Writing.{client_counted}
 use Rattle.banavoge.proofs.writers.banavoge_routing_request.Statement.{statement}
 use Rattle.banavoge.proofs.writers.banavoge_routing_request.Tie as tie
 
@@ -12,7 +12,7 @@ routing-request-requires : tie.Need-routing-request-requires
 routing-request-requires c κs = search rules
 
 written-requires : tie.Need-written-requires
-written-requires c κs = client-counted (routingRequest c.before.before.before.before.before.before.args.key.now) c.before.before.before.before.before.before.args.out.now _ _ c.before.before.routing-request.ensures
+written-requires c κs = client_counted (routing_request c.before.before.before.before.before.before.args.key.now) c.before.before.before.before.before.before.args.out.now _ _ c.before.before.routing-request.ensures
 
 same_length : tie.Need-same-length
 same_length c = search rules

@@ -3,8 +3,8 @@ use borrow.Author.Rules.{rules}
 use mathlib.Core.Path.{◌∙◌}
 use mir.Syntax.{w32}
 use mir.ValLaws.{to_z-of_z}
-use Rattle.packet_laws.specs.FromRelay.{routingResponse}
-use Rattle.banavoge_laws.proofs.Writing.{relay-counted}
+use Rattle.packet_laws.specs.FromRelay.{routing_response}
+use Rattle.banavoge_laws.proofs.Writing.{relay_counted}
 use Rattle.banavoge.proofs.writers.banavoge_routing_response.Statement.{statement}
 use Rattle.banavoge.proofs.writers.banavoge_routing_response.Tie as tie
 
@@ -12,7 +12,7 @@ routing-response-requires : tie.Need-routing-response-requires
 routing-response-requires c κs = search rules
 
 written-requires : tie.Need-written-requires
-written-requires c κs = relay-counted (routingResponse c.before.before.before.before.before.before.args.number c.before.before.before.before.before.before.args.key.now) c.before.before.before.before.before.before.args.out.now _ _ c.before.before.routing-response.ensures
+written-requires c κs = relay_counted (routing_response c.before.before.before.before.before.before.args.number c.before.before.before.before.before.before.args.key.now) c.before.before.before.before.before.before.args.out.now _ _ c.before.before.routing-response.ensures
 
 same_length : tie.Need-same-length
 same_length c = search rules

@@ -4,14 +4,14 @@ use mathlib.Core.Path.{◌≡◌, ◌∙◌, sym, ap}
 use Prim.Native.Nat.{ℕ, ◌+◌, ◌*◌, ◌-◌, ◌≤◌}
 use native.Mathlib.Omega.{arith}
 use lib.ListN.{get_or}
-use Rattle.node.specs.Families.{packedLength}
-use Rattle.buckets.proofs.PackedLaws.{frontBytes, front-none, front-longer, packed-most}
-use Rattle.buckets.proofs.Places.{family-here}
+use Rattle.node.specs.Families.{packed_length}
+use Rattle.buckets.proofs.PackedLaws.{front_bytes, front_none, front_longer, packed_most}
+use Rattle.buckets.proofs.Places.{family_here}
 use Rattle.buckets.proofs.answer.length.Statement.{statement}
 use Rattle.buckets.proofs.answer.length.Tie as tie
 
 abbrev invariant-loop : tie.invariant-loop
-invariant-loop memory starts count bytes₀ i₀ bytes i = (i ≤ count) × (bytes ≤ 51 * i) × (bytes ≡ lib.ListN.length (frontBytes memory starts i))
+invariant-loop memory starts count bytes₀ i₀ bytes i = (i ≤ count) × (bytes ≤ 51 * i) × (bytes ≡ lib.ListN.length (front_bytes memory starts i))
 
 abbrev decreases-loop : tie.decreases-loop
 decreases-loop memory starts count bytes₀ i₀ bytes i = count - i
@@ -19,7 +19,7 @@ decreases-loop memory starts count bytes₀ i₀ bytes i = count - i
 loop-holds : tie.Need-loop-init invariant-loop decreases-loop
 loop-holds c =
     let a = c.before.before.args in
-    (omega arith, omega arith, sym (ap lib.ListN.length (front-none a.memory.now a.kept.starts)))
+    (omega arith, omega arith, sym (ap lib.ListN.length (front_none a.memory.now a.kept.starts)))
 
 mul_at : tie.Need-overflow-mul-at invariant-loop decreases-loop
 mul_at c = search rules
@@ -39,11 +39,11 @@ packed-length-requires : tie.Need-packed-length-requires invariant-loop decrease
 packed-length-requires c κs = search rules
 
 -- one node takes at most 51
-few : (c : tie.After-packed-length invariant-loop decreases-loop) → c.packed-length.result ≤ 51
+few : (c : tie.After-packed-length invariant-loop decreases-loop) → c.packed_length.result ≤ 51
 few c =
     let a = c.before.before.before.before.before.before.args in
-    let e = c.packed-length.ensures in
-    let m = packed-most (get_or a.memory.now (get_or a.kept.starts c.before.before.before.loop.i 0 + 32) 0) in
+    let e = c.packed_length.ensures in
+    let m = packed_most (get_or a.memory.now (get_or a.kept.starts c.before.before.before.loop.i 0 + 32) 0) in
     omega arith
 
 add-bytes : tie.Need-overflow-add-bytes invariant-loop decreases-loop
@@ -61,8 +61,8 @@ loop-again c =
     let s = c.before.before.before.before.before.before in
     let a = s.args in
     let h = c.before.before.loop-test.true in
-    let e = c.packed-length.ensures ∙ ap packedLength (family-here a.memory.now (get_or a.kept.starts l.i 0)) in
-    let q = front-longer a.memory.now a.kept s.requires l.i h in
+    let e = c.packed_length.ensures ∙ ap packed_length (family_here a.memory.now (get_or a.kept.starts l.i 0)) in
+    let q = front_longer a.memory.now a.kept s.requires l.i h in
     let f = few c in
     let b = l.invariant.2 in
     (omega arith, omega arith, omega arith)
@@ -73,7 +73,7 @@ returns c =
     let s = c.before.before.before.before in
     let a = s.args in
     let e : l.i ≡ a.kept.count = let h = l.invariant.0 in let k = c.loop-test.false in omega arith in
-    l.invariant.2 ∙ ap (λ (x : ℕ). lib.ListN.length (frontBytes a.memory.now a.kept.starts x)) e
+    l.invariant.2 ∙ ap (λ (x : ℕ). lib.ListN.length (front_bytes a.memory.now a.kept.starts x)) e
 
 pub length_spec : {M : Type 1} → statement M
 length_spec =

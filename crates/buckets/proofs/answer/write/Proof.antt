@@ -5,18 +5,18 @@ use mathlib.Core.List.{List, ◌++◌}
 use Prim.Native.Nat.{ℕ, ◌+◌, ◌-◌, ◌≤◌}
 use native.Mathlib.Omega.{arith}
 use lib.ListN.{length, get_or, take, drop}
-use Rattle.wire.proofs.Copy.{length-lent}
+use Rattle.wire.proofs.Copy.{length_lent}
 use Rattle.node.specs.declared.Node.{Node}
-use Rattle.node.specs.Families.{packedLength}
-use Rattle.buckets_laws.specs.Layout.{recordNode}
-use Rattle.buckets.specs.Kept.{nodeAt}
-use Rattle.buckets.proofs.PackedLaws.{frontBytes, front-none, front-longer, room-left, node-fits, written-more}
+use Rattle.node.specs.Families.{packed_length}
+use Rattle.buckets_laws.specs.Layout.{record_node}
+use Rattle.buckets.specs.Kept.{node_at}
+use Rattle.buckets.proofs.PackedLaws.{front_bytes, front_none, front_longer, room_left, node_fits, written_more}
 use Rattle.buckets.proofs.answer.write.Statement.{statement}
 use Rattle.buckets.proofs.answer.write.Tie as tie
 
 abbrev invariant-loop : tie.invariant-loop
 invariant-loop memory out₀ starts count at₀ i₀ out at i =
-    (i ≤ count) × (at ≡ length (frontBytes memory starts i)) × (length out ≡ length out₀) × (out ≡ frontBytes memory starts i ++ drop at out₀)
+    (i ≤ count) × (at ≡ length (front_bytes memory starts i)) × (length out ≡ length out₀) × (out ≡ front_bytes memory starts i ++ drop at out₀)
 
 abbrev decreases-loop : tie.decreases-loop
 decreases-loop memory out₀ starts count at₀ i₀ out at i = count - i
@@ -24,7 +24,7 @@ decreases-loop memory out₀ starts count at₀ i₀ out at i = count - i
 loop-holds : tie.Need-loop-init invariant-loop decreases-loop
 loop-holds c =
     let a = c.before.before.before.args in
-    let e = front-none a.memory.now a.kept.starts in
+    let e = front_none a.memory.now a.kept.starts in
     (omega arith, sym (ap length e), refl, ap (λ (x : List ℕ). x ++ a.out.now) (sym e))
 
 mul-start : tie.Need-overflow-mul-start invariant-loop decreases-loop
@@ -55,16 +55,16 @@ read-requires c κs =
     let a = c.before.before.before.before.before.before.args in
     let at = get_or a.kept.starts c.before.before.loop.i 0 in
     let h = inside c.before in
-    length-lent a.memory.now at (at + 51 - at) (omega arith) ∙ (let q : at + 51 - at ≡ 51 = omega arith in q)
+    length_lent a.memory.now at (at + 51 - at) (omega arith) ∙ (let q : at + 51 - at ≡ 51 = omega arith in q)
 
 -- the node read is the one that stands there
-same-node : (c : tie.After-read invariant-loop decreases-loop) →
+same_node : (c : tie.After-read invariant-loop decreases-loop) →
     let a = c.before.before.before.before.before.before.before.args in
-    c.read.result ≡ nodeAt a.memory.now (get_or a.kept.starts c.before.before.before.loop.i 0)
-same-node c =
+    c.read.result ≡ node_at a.memory.now (get_or a.kept.starts c.before.before.before.loop.i 0)
+same_node c =
     let a = c.before.before.before.before.before.before.before.args in
     let at = get_or a.kept.starts c.before.before.before.loop.i 0 in
-    c.read.ensures ∙ ap (λ (k : ℕ). recordNode (take k (drop at a.memory.now))) (let q : at + 51 - at ≡ 51 = omega arith in q)
+    c.read.ensures ∙ ap (λ (k : ℕ). record_node (take k (drop at a.memory.now))) (let q : at + 51 - at ≡ 51 = omega arith in q)
 
 -- there is room behind those written
 room : (c : tie.In-loop invariant-loop decreases-loop) → c.before.loop.at ≤ length c.before.loop.out
@@ -72,7 +72,7 @@ room c =
     let l = c.before.loop in
     let s = c.before.before.before.before.before in
     let a = s.args in
-    room-left a.memory.now a.kept s.requires.0 l.i c.loop-test.true s.requires.1 a.out.now l.out s.requires.2 l.at l.invariant.3 l.invariant.1
+    room_left a.memory.now a.kept s.requires.0 l.i c.loop-test.true s.requires.1 a.out.now l.out s.requires.2 l.at l.invariant.3 l.invariant.1
 
 sub-write : tie.Need-overflow-sub-write invariant-loop decreases-loop
 sub-write c = let h = room c.before.before in omega arith
@@ -95,9 +95,9 @@ add_at c =
     let s = c.before.before.before.before.before.before.before.before.before.before.before.before in
     let a = s.args in
     let turn = c.before.before.before.before.before.before.before.loop-test.true in
-    let h = node-fits a.memory.now a.kept s.requires.0 l.i turn s.requires.1 a.out.now l.out s.requires.2 l.at l.invariant.3 l.invariant.1
-    c.before.before.before.before.before.read.result (same-node c.before.before.before.before.before) in
-    let e = c.packed-length.ensures in
+    let h = node_fits a.memory.now a.kept s.requires.0 l.i turn s.requires.1 a.out.now l.out s.requires.2 l.at l.invariant.3 l.invariant.1
+    c.before.before.before.before.before.read.result (same_node c.before.before.before.before.before) in
+    let e = c.packed_length.ensures in
     omega arith
 
 add-i : tie.Need-overflow-add-i invariant-loop decreases-loop
@@ -114,17 +114,17 @@ loop-again c =
     let m = a.memory.now in
     let h = c.before.before.before.before.before.before.before.loop-test.true in
     let node = c.before.before.before.before.before.read.result in
-    let same = same-node c.before.before.before.before.before in
+    let same = same_node c.before.before.before.before.before in
     let w = c.before.before.before.write in
-    let e = c.packed-length.ensures in
-    let f = ap (λ (n : Node). packedLength n.family) same in
-    let q = front-longer m a.kept s.requires.0 l.i h in
+    let e = c.packed_length.ensures in
+    let f = ap (λ (n : Node). packed_length n.family) same in
+    let q = front_longer m a.kept s.requires.0 l.i h in
     let b = l.invariant.1 in (
       omega arith,
       omega arith,
       search rules,
-      written-more m a.kept s.requires.0 l.i h s.requires.1 a.out.now l.out s.requires.2 l.at l.invariant.3 b node same _ w.result w.ensures
-          ∙ ap (λ (k : ℕ). frontBytes m a.kept.starts (l.i + 1) ++ drop (l.at + k) a.out.now) (sym e),
+      written_more m a.kept s.requires.0 l.i h s.requires.1 a.out.now l.out s.requires.2 l.at l.invariant.3 b node same _ w.result w.ensures
+          ∙ ap (λ (k : ℕ). front_bytes m a.kept.starts (l.i + 1) ++ drop (l.at + k) a.out.now) (sym e),
     )
 
 same_length : tie.Need-same-length invariant-loop decreases-loop
@@ -136,8 +136,8 @@ returns c =
     let a = c.before.before.before.before.before.args in
     let e : l.i ≡ a.kept.count = let h = l.invariant.0 in let k = c.loop-test.false in omega arith in
     l.invariant.3
-    ∙ ap₂ (λ (i at : ℕ). frontBytes a.memory.now a.kept.starts i ++ drop at a.out.now) e
-    (l.invariant.1 ∙ ap (λ (i : ℕ). length (frontBytes a.memory.now a.kept.starts i)) e)
+    ∙ ap₂ (λ (i at : ℕ). front_bytes a.memory.now a.kept.starts i ++ drop at a.out.now) e
+    (l.invariant.1 ∙ ap (λ (i : ℕ). length (front_bytes a.memory.now a.kept.starts i)) e)
 
 pub write_spec : {M : Type 1} → statement M
 write_spec =

@@ -4,7 +4,7 @@ use mathlib.Core.Path.{◌∙◌, ap}
 use Prim.Native.Nat.{ℕ, ◌-◌}
 use native.Mathlib.Nat.{add-sub_cancel_left}
 use lib.ListN.{take, drop}
-use Rattle.buckets_laws.specs.Layout.{bucketAt}
+use Rattle.buckets_laws.specs.Layout.{bucket_at}
 use Rattle.buckets.proofs.layout.bucket_at.Statement.{statement}
 use Rattle.buckets.proofs.layout.bucket_at.Tie as tie
 
@@ -24,7 +24,7 @@ part-result-end : tie.Need-slice-bounds-result-end
 part-result-end c = search rules
 
 returns : tie.Need-returns
-unfolding bucketAt
+unfolding bucket_at
 returns c =
     let m = c.before.before.before.args.memory.now in
     let at = c.before.bucket-start.result in

@@ -5,16 +5,16 @@ use mathlib.Core.List.{List, [], ◌∷◌, ◌++◌, append-nil}
 use Prim.Native.Nat.{ℕ}
 use native.Mathlib.Omega.{arith}
 use lib.ListN.{replicate}
-use Rattle.wire.proofs.Copy.{copy-whole}
-use Rattle.key.proofs.Lent.{with-key-whole}
+use Rattle.wire.proofs.Copy.{copy_whole}
+use Rattle.key.proofs.Lent.{with_key_whole}
 use Rattle.node.specs.Values.{IsNode}
-use Rattle.node.proofs.Owned.{is-node}
-use Rattle.buckets_laws.specs.Layout.{nodeFields, nodeRecord}
+use Rattle.node.proofs.Owned.{is_node}
+use Rattle.buckets_laws.specs.Layout.{node_fields, node_record}
 use Rattle.buckets.proofs.record.of.Statement.{statement}
 use Rattle.buckets.proofs.record.of.Tie as tie
 
 held : (s : tie.Start) → IsNode s.args.node
-held s = is-node s.args.node s.well-formed.0.0 s.well-formed.0.1.1
+held s = is_node s.args.node s.well-formed.0.0 s.well-formed.0.1.1
 
 -- the parts, one behind the other
 joined : {key k address a port p : List ℕ} (family : ℕ) → key ≡ k → address ≡ a → port ≡ p → key ++ (family ∷ (address ++ (port ++ []))) ≡ k ++ (family ∷ (a ++ p))
@@ -67,11 +67,11 @@ write-requires : tie.Need-write-requires
 write-requires c κs = search rules
 
 returns : tie.Need-returns
-unfolding nodeRecord nodeFields
+unfolding node_record node_fields
 returns c =
     let s = c.before.before.before.before.before.before.before.before.before.before.before.before.before in
-    joined s.args.node.family (c.before.write.ensures ∙ with-key-whole s.args.node.key.0 (replicate 32 0) refl)
-    (c.before.before.before.before.copy.ensures.1 ∙ copy-whole s.args.node.address (replicate 16 0) (sym (held s).long))
+    joined s.args.node.family (c.before.write.ensures ∙ with_key_whole s.args.node.key.0 (replicate 32 0) refl)
+    (c.before.before.before.before.copy.ensures.1 ∙ copy_whole s.args.node.address (replicate 16 0) (sym (held s).long))
     c.before.before.before.before.before.before.before.before.write-number.ensures
 
 pub of_spec : {M : Type 1} → statement M

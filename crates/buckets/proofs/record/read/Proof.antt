@@ -3,11 +3,11 @@ use borrow.Author.Rules.{rules}
 use mathlib.Core.Path.{◌∙◌, ap}
 use native.Mathlib.Omega.{arith}
 use Rattle.wire.specs.Numbers.{number_of}
-use Rattle.wire.proofs.Numbers.{bytes-each}
-use Rattle.node.proofs.NodeLaws.{same-value}
+use Rattle.wire.proofs.Numbers.{bytes_each}
+use Rattle.node.proofs.NodeLaws.{same_value}
 use lib.ListN.{get_or}
-use Rattle.buckets_laws.specs.Layout.{recordNode}
-use Rattle.buckets.proofs.RecordParts.{port-part, port-small, key-part}
+use Rattle.buckets_laws.specs.Layout.{record_node}
+use Rattle.buckets.proofs.RecordParts.{port_part, port_small, key_part}
 use Rattle.buckets.proofs.record.read.Statement.{statement}
 use Rattle.buckets.proofs.record.read.Tie as tie
 
@@ -42,8 +42,8 @@ cast-t14 : tie.Need-overflow-cast-t14
 cast-t14 c =
     let s = c.before.before.before.before.before.before in
     let b = s.args.bytes.now in
-    let e = c.read_number.ensures ∙ ap number_of (port-part b s.requires) in
-    let l = port-small b s.requires (bytes-each b (λ i. (c.before.before.before.before.before.shared-slice-known.given i).fits)) in
+    let e = c.read_number.ensures ∙ ap number_of (port_part b s.requires) in
+    let l = port_small b s.requires (bytes_each b (λ i. (c.before.before.before.before.before.shared-slice-known.given i).fits)) in
     omega arith
 
 sub_read : tie.Need-overflow-sub-read
@@ -59,13 +59,13 @@ read-requires : tie.Need-read-requires
 read-requires c κs = search rules
 
 returns : tie.Need-returns
-unfolding recordNode
+unfolding record_node
 returns c =
     let s = c.before.before.before.before.before.before.before.before in
     let b = s.args.bytes.now in
-    same-value (get_or b 32 0) _ _ _ _ c.read.result _ c.before.before.before.before.address.ensures
-    (c.before.before.read_number.ensures ∙ ap number_of (port-part b s.requires))
-    (c.read.ensures ∙ key-part b s.requires)
+    same_value (get_or b 32 0) _ _ _ _ c.read.result _ c.before.before.before.before.address.ensures
+    (c.before.before.read_number.ensures ∙ ap number_of (port_part b s.requires))
+    (c.read.ensures ∙ key_part b s.requires)
 
 pub read_spec : {M : Type 1} → statement M
 read_spec =

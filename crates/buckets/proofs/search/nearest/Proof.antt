@@ -4,15 +4,15 @@ use mathlib.Core.Path.{◌≡◌}
 use mathlib.Core.List.{[]}
 use Prim.Native.Nat.{◌-◌, ◌≤◌}
 use native.Mathlib.Omega.{arith}
-use Rattle.nearest_first.specs.Kept.{keptOnto}
-use Rattle.buckets_laws.specs.Layout.{heldBelow}
+use Rattle.nearest_first.specs.Kept.{kept_onto}
+use Rattle.buckets_laws.specs.Layout.{held_below}
 use Rattle.buckets.specs.Kept.{KeptAs}
-use Rattle.buckets.proofs.KeptLaws.{none_passed, bucket-passed, buckets-passed}
+use Rattle.buckets.proofs.KeptLaws.{none_passed, bucket_passed, buckets_passed}
 use Rattle.buckets.proofs.search.nearest.Statement.{statement}
 use Rattle.buckets.proofs.search.nearest.Tie as tie
 
 abbrev invariant-loop : tie.invariant-loop
-invariant-loop memory target kept₀ bucket₀ kept bucket = (bucket ≤ 256) × KeptAs memory target (keptOnto 4 target [] (heldBelow memory bucket)) kept
+invariant-loop memory target kept₀ bucket₀ kept bucket = (bucket ≤ 256) × KeptAs memory target (kept_onto 4 target [] (held_below memory bucket)) kept
 
 abbrev decreases-loop : tie.decreases-loop
 decreases-loop memory target kept₀ bucket₀ kept bucket = 256 - bucket
@@ -33,14 +33,14 @@ loop-again : tie.Need-loop-preserved invariant-loop decreases-loop
 loop-again c =
     let a = c.before.before.before.before.before.args in
     let l = c.before.before.loop in
-    (omega arith, bucket-passed a.memory.now a.target.now [] l.bucket l.auto l.invariant.1 c.with-bucket.result c.with-bucket.ensures)
+    (omega arith, bucket_passed a.memory.now a.target.now [] l.bucket l.auto l.invariant.1 c.with-bucket.result c.with-bucket.ensures)
 
 returns : tie.Need-returns invariant-loop decreases-loop
 returns c =
     let a = c.before.before.before.before.args in
     let l = c.before.loop in
     let e : l.bucket ≡ 256 = let h = l.invariant.0 in let k = c.loop-test.false in omega arith in
-    buckets-passed a.memory.now a.target.now l.bucket e l.auto l.invariant.1
+    buckets_passed a.memory.now a.target.now l.bucket e l.auto l.invariant.1
 
 pub nearest-spec : {M : Type 1} → statement M
 nearest-spec =

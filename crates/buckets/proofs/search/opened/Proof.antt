@@ -6,14 +6,14 @@ use mathlib.Core.List.{List, ◌++◌}
 use Prim.Native.Nat.{ℕ, ◌+◌, ◌-◌, ◌<◌, ◌≤◌}
 use native.Mathlib.Omega.{arith}
 use lib.ListN.{length, get_or, take, drop, set}
-use Rattle.lists.specs.Insert.{insertAt}
-use Rattle.lists.proofs.Shift.{at_in, open-begins, open-stored, open-carried}
+use Rattle.lists.specs.Insert.{insert_at}
+use Rattle.lists.proofs.Shift.{at_in, open_begins, open_stored, open_carried}
 use Rattle.buckets.proofs.search.opened.Statement.{statement}
 use Rattle.buckets.proofs.search.opened.Tie as tie
 
 abbrev invariant-loop : tie.invariant-loop
 invariant-loop place last start out₀ carried₀ i₀ out carried i =
-    (place ≤ i) × (i ≤ last + 1) × (out ≡ take i (insertAt place carried₀ out₀) ++ drop i out₀) × (carried ≡ get_or (insertAt place carried₀ out₀) i 0)
+    (place ≤ i) × (i ≤ last + 1) × (out ≡ take i (insert_at place carried₀ out₀) ++ drop i out₀) × (carried ≡ get_or (insert_at place carried₀ out₀) i 0)
 
 abbrev decreases-loop : tie.decreases-loop
 decreases-loop place last start out₀ carried₀ i₀ out carried i = last + 1 - i
@@ -24,7 +24,7 @@ loop-holds c =
     let h : a.place ≤ length a.starts = omega arith in (
       omega arith,
       omega arith,
-      open-begins a.place a.start a.starts h,
+      open_begins a.place a.start a.starts h,
       sym (at_in a.place a.start a.starts 0 h),
     )
 
@@ -54,8 +54,8 @@ loop-again c =
       omega arith,
       omega arith,
       ap₂ (λ (x : List ℕ) (y : ℕ). set x l.i y) l.invariant.2 l.invariant.3
-          ∙ open-stored a.place a.start a.starts 0 l.i l.invariant.0 h,
-      ap (λ (x : List ℕ). get_or x l.i 0) l.invariant.2 ∙ open-carried a.place a.start a.starts 0 l.i l.invariant.0 h,
+          ∙ open_stored a.place a.start a.starts 0 l.i l.invariant.0 h,
+      ap (λ (x : List ℕ). get_or x l.i 0) l.invariant.2 ∙ open_carried a.place a.start a.starts 0 l.i l.invariant.0 h,
     )
 
 returns : tie.Need-returns invariant-loop decreases-loop
@@ -63,7 +63,7 @@ returns c =
     let l = c.before.loop in
     let a = c.before.before.args in
     let k : l.i ≡ a.last + 1 = let i = l.invariant.1 in omega arith in
-    l.invariant.2 ∙ ap (λ (x : ℕ). take x (insertAt a.place a.start a.starts) ++ drop x a.starts) k
+    l.invariant.2 ∙ ap (λ (x : ℕ). take x (insert_at a.place a.start a.starts) ++ drop x a.starts) k
 
 pub opened-spec : {M : Type 1} → statement M
 opened-spec =

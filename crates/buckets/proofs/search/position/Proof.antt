@@ -6,17 +6,17 @@ use Prim.Native.Nat.{◌+◌, ◌-◌, ◌≤◌}
 use native.Mathlib.Omega.{arith}
 use lib.ListN.{length, get_or, take}
 use Rattle.key.specs.Keys.{nearer}
-use Rattle.nearest.specs.Lists.{nodeKey}
+use Rattle.nearest.specs.Lists.{node_key}
 use Rattle.nearest.specs.Slots.{position}
-use Rattle.nearest.proofs.Place.{place-le}
-use Rattle.buckets.specs.Kept.{nodeAt, keptNodes}
-use Rattle.buckets.proofs.KeptLaws.{kept-length, nearer-lent, scan-goes-on, scan-stops}
+use Rattle.nearest.proofs.Place.{place_le}
+use Rattle.buckets.specs.Kept.{node_at, kept_nodes}
+use Rattle.buckets.proofs.KeptLaws.{kept_length, nearer_lent, scan_goes_on, scan_stops}
 use Rattle.buckets.proofs.search.position.Statement.{statement}
 use Rattle.buckets.proofs.search.position.Tie as tie
 
 abbrev invariant-loop : tie.invariant-loop
 invariant-loop memory target at starts end i₀ i =
-    (i ≤ i₀) × (position target (nodeKey (nodeAt memory at)) (map (nodeAt memory) (take i₀ starts)) ≤ i)
+    (i ≤ i₀) × (position target (node_key (node_at memory at)) (map (node_at memory) (take i₀ starts)) ≤ i)
 
 abbrev decreases-loop : tie.decreases-loop
 decreases-loop memory target at starts end i₀ i = i
@@ -30,12 +30,12 @@ kept-inside c = c.before.before.before.before.before.requires.0.starts.inside (c
 compared : (c : tie.After-nearer invariant-loop decreases-loop) →
     let a = c.before.before.before.before.before.before.before.before.args in
     c.nearer.result
-    ≡ nearer a.target.now (nodeKey (nodeAt a.memory.now (get_or a.kept.starts (c.before.before.before.before.loop.i - 1) 0)))
-    (nodeKey (nodeAt a.memory.now a.at))
+    ≡ nearer a.target.now (node_key (node_at a.memory.now (get_or a.kept.starts (c.before.before.before.before.loop.i - 1) 0)))
+    (node_key (node_at a.memory.now a.at))
 compared c =
     let s = c.before.before.before.before.before.before.before.before in
     let a = s.args in
-    nearer-lent a.memory.now a.target.now s.requires.2 (get_or a.kept.starts (c.before.before.before.before.loop.i - 1) 0) a.at
+    nearer_lent a.memory.now a.target.now s.requires.2 (get_or a.kept.starts (c.before.before.before.before.loop.i - 1) 0) a.at
     (kept-inside c.before.before.before) s.requires.1 c.nearer.result c.nearer.ensures.answers
 
 add-end : tie.Need-overflow-add-end invariant-loop decreases-loop
@@ -45,8 +45,8 @@ loop-holds : tie.Need-loop-init invariant-loop decreases-loop
 loop-holds c =
     let s = c.before.before.before in
     let a = s.args in
-    let p = place-le a.target.now (nodeAt a.memory.now a.at) (keptNodes a.memory.now a.kept) in
-    let l = kept-length a.memory.now a.kept s.requires.0.starts in
+    let p = place_le a.target.now (node_at a.memory.now a.at) (kept_nodes a.memory.now a.kept) in
+    let l = kept_length a.memory.now a.kept s.requires.0.starts in
     (omega arith, omega arith)
 
 sub-start : tie.Need-overflow-sub-start invariant-loop decreases-loop
@@ -88,7 +88,7 @@ returns c =
     let s = c.before.before.before.before.before.before.before.before.before in
     let a = s.args in
     let h = c.before.before.before.before.loop-test.true in
-    let q = scan-stops a.memory.now a.target.now a.kept s.requires.0 a.at (l.i - 1) (omega arith)
+    let q = scan_stops a.memory.now a.target.now a.kept s.requires.0 a.at (l.i - 1) (omega arith)
     (sym (compared c.before) ∙ c.if1.true) (let i = l.invariant.1 in omega arith) in
     omega arith
 
@@ -105,7 +105,7 @@ loop-again c =
     let a = s.args in
     let h = c.before.before.before.before.loop-test.true in (
       omega arith,
-      scan-goes-on a.memory.now a.target.now a.kept s.requires.0 a.at (l.i - 1) (omega arith) (sym (compared c.before) ∙ c.if1.false),
+      scan_goes_on a.memory.now a.target.now a.kept s.requires.0 a.at (l.i - 1) (omega arith) (sym (compared c.before) ∙ c.if1.false),
     )
 
 returns-2 : tie.Need-returns-2 invariant-loop decreases-loop

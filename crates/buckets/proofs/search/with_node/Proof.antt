@@ -1,6 +1,6 @@
 -- `search::with_node` meets its contract: by whether the node's place is behind the four, and by whether there is room. Assumes nothing.
 use borrow.Author.Rules.{rules}
-use Rattle.buckets.proofs.KeptLaws.{place-few, kept-stays, kept-grows, kept_full}
+use Rattle.buckets.proofs.KeptLaws.{place_few, kept_stays, kept_grows, kept_full}
 use Rattle.buckets.proofs.search.with_node.Statement.{statement}
 use Rattle.buckets.proofs.search.with_node.Tie as tie
 
@@ -12,7 +12,7 @@ returns c =
     let s = c.before.before.before.before in
     let a = s.args in
     let p = c.before.position in
-    kept-stays a.memory.now a.target.now a.kept s.requires.0 a.at s.requires.1 p.result p.ensures c.if1.true
+    kept_stays a.memory.now a.target.now a.kept s.requires.0 a.at s.requires.1 p.result p.ensures c.if1.true
 
 add-t9 : tie.Need-overflow-add-t9
 add-t9 c = search rules
@@ -22,14 +22,14 @@ opened-requires c κs =
     let s = c.before.before.before.before.before.before in
     let a = s.args in
     let p = c.before.before.before.position in
-    (place-few a.memory.now a.target.now a.kept s.requires.0 a.at s.requires.1 p.result p.ensures, c.if2.true)
+    (place_few a.memory.now a.target.now a.kept s.requires.0 a.at s.requires.1 p.result p.ensures, c.if2.true)
 
 returns-2 : tie.Need-returns-2
 returns-2 c =
     let s = c.before.before.before.before.before.before.before in
     let a = s.args in
     let p = c.before.before.before.before.position in
-    kept-grows a.memory.now a.target.now a.kept s.requires.0 a.at s.requires.1 p.result p.ensures c.before.if2.true
+    kept_grows a.memory.now a.target.now a.kept s.requires.0 a.at s.requires.1 p.result p.ensures c.before.if2.true
     c.opened.result c.opened.ensures
 
 sub-opened : tie.Need-overflow-sub-opened

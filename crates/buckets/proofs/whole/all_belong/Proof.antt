@@ -5,18 +5,18 @@ use mathlib.Core.Path.{◌≡◌, sym, ap, ◌∙◌}
 use Prim.Native.Nat.{◌-◌, ◌≤◌}
 use native.Mathlib.Omega.{arith}
 use lib.ListN.{length}
-use Rattle.table_laws.specs.Table.{listed, usedPlaces}
-use Rattle.buckets_laws.specs.Layout.{base_of, bucketAt, bucketNodes}
-use Rattle.buckets_laws.specs.Whole.{allBelong}
-use Rattle.buckets.proofs.Places.{record-inside, used-listed, listed-place-low}
-use Rattle.buckets.proofs.WholeSteps.{nodesFrom, all-nodes, belong-stop, belong-next, belong-end, at-start}
+use Rattle.table_laws.specs.Table.{listed, used_places}
+use Rattle.buckets_laws.specs.Layout.{base_of, bucket_at, bucket_nodes}
+use Rattle.buckets_laws.specs.Whole.{all_belong}
+use Rattle.buckets.proofs.Places.{record_inside, used_listed, listed_place_low}
+use Rattle.buckets.proofs.WholeSteps.{nodes_from, all_nodes, belong_stop, belong_next, belong_end, at_start}
 use Rattle.buckets.proofs.whole.all_belong.Statement.{statement}
 use Rattle.buckets.proofs.whole.all_belong.Tie as tie
 
 abbrev invariant-loop : tie.invariant-loop
 invariant-loop memory bucket used i₀ i =
-    (i ≤ length used) × (used ≡ listed 8 (bucketAt memory bucket))
-    × (allBelong (base_of memory) bucket (bucketNodes (bucketAt memory bucket)) ≡ allBelong (base_of memory) bucket (nodesFrom (bucketAt memory bucket) i))
+    (i ≤ length used) × (used ≡ listed 8 (bucket_at memory bucket))
+    × (all_belong (base_of memory) bucket (bucket_nodes (bucket_at memory bucket)) ≡ all_belong (base_of memory) bucket (nodes_from (bucket_at memory bucket) i))
 
 abbrev decreases-loop : tie.decreases-loop
 decreases-loop memory bucket used i₀ i = length used - i
@@ -31,10 +31,10 @@ loop-holds : tie.Need-loop-init invariant-loop decreases-loop
 loop-holds c =
     let s = c.before.before.before in
     let a = s.args in
-    let t = bucketAt a.memory.now a.bucket in (
+    let t = bucket_at a.memory.now a.bucket in (
       omega arith,
-      c.used.ensures ∙ ap (usedPlaces 8) c.before.bucket-at.ensures ∙ used-listed t s.requires.2,
-      ap (allBelong (base_of a.memory.now) a.bucket) (all-nodes t),
+      c.used.ensures ∙ ap (used_places 8) c.before.bucket-at.ensures ∙ used_listed t s.requires.2,
+      ap (all_belong (base_of a.memory.now) a.bucket) (all_nodes t),
     )
 
 shared-slice-read-record-start : tie.Need-shared-slice-read-record-start invariant-loop decreases-loop
@@ -48,7 +48,7 @@ record-start-requires c κs =
     let l = c.before.before.loop in
     let s = c.before.before.before.before.before.before in
     let q = ap length l.invariant.1 in
-    (s.requires.1, rw l.invariant.1 (listed-place-low (bucketAt s.args.memory.now s.args.bucket) s.requires.2 l.i (omega arith)))
+    (s.requires.1, rw l.invariant.1 (listed_place_low (bucket_at s.args.memory.now s.args.bucket) s.requires.2 l.i (omega arith)))
 
 belongs-requires : tie.Need-belongs-requires invariant-loop decreases-loop
 belongs-requires c κs =
@@ -57,8 +57,8 @@ belongs-requires c κs =
     let a = s.args in
     let q = ap length l.invariant.1 in
     let e = c.record-start.ensures in
-    let p = listed-place-low (bucketAt a.memory.now a.bucket) s.requires.2 l.i (omega arith) in
-    let r = record-inside a.memory.now a.bucket _ p s.requires.0 s.requires.1 in
+    let p = listed_place_low (bucket_at a.memory.now a.bucket) s.requires.2 l.i (omega arith) in
+    let r = record_inside a.memory.now a.bucket _ p s.requires.0 s.requires.1 in
     rw (e, l.invariant.1) r
 
 returns : tie.Need-returns invariant-loop decreases-loop
@@ -68,8 +68,8 @@ returns c =
     let a = s.args in
     let q = ap length l.invariant.1 in
     sym (l.invariant.2
-    ∙ belong-stop a.memory.now a.bucket s.requires.2 l.i (omega arith) c.before.belongs.result
-    (c.before.belongs.ensures ∙ at-start a.memory.now a.bucket _ _ l.invariant.1 l.i c.before.before.record-start.ensures)
+    ∙ belong_stop a.memory.now a.bucket s.requires.2 l.i (omega arith) c.before.belongs.result
+    (c.before.belongs.ensures ∙ at_start a.memory.now a.bucket _ _ l.invariant.1 l.i c.before.before.record-start.ensures)
     (not-true _ c.if1.true))
 
 add-i : tie.Need-overflow-add-i invariant-loop decreases-loop
@@ -87,8 +87,8 @@ loop-again c =
       omega arith,
       l.invariant.1,
       l.invariant.2
-          ∙ belong-next a.memory.now a.bucket s.requires.2 l.i (omega arith) c.before.belongs.result
-          (c.before.belongs.ensures ∙ at-start a.memory.now a.bucket _ _ l.invariant.1 l.i c.before.before.record-start.ensures)
+          ∙ belong_next a.memory.now a.bucket s.requires.2 l.i (omega arith) c.before.belongs.result
+          (c.before.belongs.ensures ∙ at_start a.memory.now a.bucket _ _ l.invariant.1 l.i c.before.before.record-start.ensures)
           (not-false _ c.if1.false),
     )
 
@@ -98,7 +98,7 @@ returns-2 c =
     let s = c.before.before.before.before.before in
     let a = s.args in
     let q = ap length l.invariant.1 in
-    sym (l.invariant.2 ∙ belong-end (base_of a.memory.now) a.bucket (bucketAt a.memory.now a.bucket) s.requires.2 l.i (omega arith))
+    sym (l.invariant.2 ∙ belong_end (base_of a.memory.now) a.bucket (bucket_at a.memory.now a.bucket) s.requires.2 l.i (omega arith))
 
 pub all-belong-spec : {M : Type 1} → statement M
 all-belong-spec =

@@ -1,7 +1,7 @@
 -- `whole::belongs` meets its contract: first the bits, then the family. Assumes nothing.
 use borrow.Author.Rules.{rules}
 use mathlib.Core.Path.{◌∙◌, sym}
-use Rattle.buckets.proofs.WholeSteps.{other-bucket, own-bucket}
+use Rattle.buckets.proofs.WholeSteps.{other_bucket, own_bucket_lem}
 use Rattle.buckets.proofs.whole.belongs.Statement.{statement}
 use Rattle.buckets.proofs.whole.belongs.Tie as tie
 
@@ -32,7 +32,7 @@ shared-bits-requires c κs = search rules
 returns : tie.Need-returns
 returns c =
     let s = c.before.before.before.before.before in
-    sym (other-bucket s.args.memory.now s.args.at s.requires s.args.bucket _ c.before.shared-bits.ensures c.if1.true)
+    sym (other_bucket s.args.memory.now s.args.at s.requires s.args.bucket _ c.before.shared-bits.ensures c.if1.true)
 
 shared-slice-read-known : tie.Need-shared-slice-read-known
 shared-slice-read-known c = search rules
@@ -44,7 +44,7 @@ returns-2 : tie.Need-returns-2
 returns-2 c =
     let s = c.before.before.before.before.before.before.before in
     c.known.ensures
-    ∙ sym (own-bucket s.args.memory.now s.args.at s.requires s.args.bucket _ c.before.before.before.shared-bits.ensures c.before.before.if1.false)
+    ∙ sym (own_bucket_lem s.args.memory.now s.args.at s.requires s.args.bucket _ c.before.before.before.shared-bits.ensures c.before.before.if1.false)
 
 pub belongs-spec : {M : Type 1} → statement M
 belongs-spec =

@@ -1,7 +1,7 @@
 -- `frame_reader::joined::front_of` meets its contract: its tests are those of `front`, in their order. Assumes nothing.
 use borrow.Author.Rules.{rules}
 use native.Mathlib.Omega.{arith}
-use Rattle.frame_reader.proofs.JoinedLaws.{read-few, read_under, read_above, read_short, read-long}
+use Rattle.frame_reader.proofs.JoinedLaws.{read_few, read_under, read_above, read_short, read_long}
 use Rattle.frame_reader.proofs.joined.front_of.Statement.{statement}
 use Rattle.frame_reader.proofs.joined.front_of.Tie as tie
 
@@ -9,7 +9,7 @@ add-there : tie.Need-overflow-add-there
 add-there c = search rules
 
 returns : tie.Need-returns
-returns c = let a = c.before.before.before.args in read-few a.held a.keep.now a.piece.now (omega arith) (omega arith)
+returns c = let a = c.before.before.before.args in read_few a.held a.keep.now a.piece.now (omega arith) (omega arith)
 
 byte-at-requires : tie.Need-byte-at-requires
 byte-at-requires c κs = search rules
@@ -53,7 +53,7 @@ returns-4 c =
 returns-5 : tie.Need-returns-5
 returns-5 c =
     let a = c.before.before.before.before.before.before.before.before.before.before.args in
-    read-long a.held a.keep.now a.piece.now (omega arith) (omega arith)
+    read_long a.held a.keep.now a.piece.now (omega arith) (omega arith)
     c.before.before.before.before.before.before.byte_at.ensures c.before.before.before.before.before.wide.ensures c.before.before.before.before.byte-at2.ensures c.before.before.before.wide2.ensures (omega arith) (omega arith) (omega arith)
 
 pub front-of-spec : {M : Type 1} → statement M

@@ -1,9 +1,9 @@
--- `frame_reader::shown::frame` meets its contract. Each way out is one case of `framePart`. Assumes nothing.
+-- `frame_reader::shown::frame` meets its contract. Each way out is one case of `frame_part`. Assumes nothing.
 use borrow.Author.Rules.{rules}
 use borrow.Author.Tests.{le-leb, lt-leb}
 use native.Mathlib.Omega.{arith}
 use lib.ListN.{length-take}
-use Rattle.frame_reader.specs.Parts.{framePart}
+use Rattle.frame_reader.specs.Parts.{frame_part}
 use Rattle.frame_reader.proofs.shown.frame.Statement.{statement}
 use Rattle.frame_reader.proofs.shown.frame.Tie as tie
 
@@ -21,7 +21,7 @@ slice-aggregate-result-2 c =
     simp length-take (omega arith)
 
 returns : tie.Need-returns
-unfolding framePart
+unfolding frame_part
 returns c =
     rw (c.before.before.before.shown.given.1, le-leb _ _ c.before.if1.true) (search rules)
 
@@ -36,7 +36,7 @@ slice-aggregate-result-4 c =
     simp length-take (omega arith)
 
 returns-2 : tie.Need-returns-2
-unfolding framePart
+unfolding frame_part
 returns-2 c =
     rw (c.before.before.before.shown2.given.1, le-leb _ _ c.before.if2.true) (search rules)
 
@@ -50,22 +50,22 @@ slice-aggregate-result-6 : tie.Need-slice-aggregate-result-6
 slice-aggregate-result-6 c = search rules
 
 returns-3 : tie.Need-returns-3
-unfolding framePart
+unfolding frame_part
 returns-3 c =
     rw c.before.enum_told.given.1 (search rules)
 
 returns-4 : tie.Need-returns-4
-unfolding framePart
+unfolding frame_part
 returns-4 c =
     rw (c.before.before.before.shown.given.1, lt-leb _ _ c.before.if1.false) (search rules)
 
 returns-5 : tie.Need-returns-5
-unfolding framePart
+unfolding frame_part
 returns-5 c =
     rw (c.before.before.before.shown2.given.1, lt-leb _ _ c.before.if2.false) (search rules)
 
 returns-6 : tie.Need-returns-6
-unfolding framePart
+unfolding frame_part
 returns-6 c =
     rw c.before.enum-told2.given.1 (search rules)
 

@@ -3,14 +3,14 @@ use mathlib.Core.Path.{◌≡◌, ◌∙◌, refl, sym}
 use Prim.Native.Nat.{◌-◌, ◌≤◌}
 use native.Mathlib.Omega.{arith}
 use lib.ListN.{drop}
-use Rattle.key.specs.Keys.{IsKey, sameKey}
-use Rattle.key.proofs.Same.{same-differ, same-agree, same_end}
+use Rattle.key.specs.Keys.{IsKey, same_key}
+use Rattle.key.proofs.Same.{same_differ, same_agree, same_end}
 use Rattle.key.proofs.Owned.{is_key}
 use Rattle.key.proofs.Key.equals.Statement.{statement}
 use Rattle.key.proofs.Key.equals.Tie as tie
 
 abbrev invariant-loop : tie.invariant-loop
-invariant-loop self other i₀ i = (i ≤ 32) × (sameKey self.0 other.0 ≡ sameKey (drop i self.0) (drop i other.0))
+invariant-loop self other i₀ i = (i ≤ 32) × (same_key self.0 other.0 ≡ same_key (drop i self.0) (drop i other.0))
 
 abbrev decreases-loop : tie.decreases-loop
 decreases-loop self other i₀ i = 32 - i
@@ -36,7 +36,7 @@ returns c =
     let s = c.before.before.before.before.before in
     let x = (known-t1 s).long in
     let y = (known-t2 s).long in
-    sym (l.invariant.1 ∙ same-differ s.args.t1.0 s.args.t2.0 l.i (omega arith) (omega arith) c.if1.true)
+    sym (l.invariant.1 ∙ same_differ s.args.t1.0 s.args.t2.0 l.i (omega arith) (omega arith) c.if1.true)
 
 add-i : tie.Need-overflow-add-i invariant-loop decreases-loop
 add-i c = omega arith
@@ -50,7 +50,7 @@ loop-again c =
     let s = c.before.before.before.before.before in
     let x = (known-t1 s).long in
     let y = (known-t2 s).long in
-    (omega arith, l.invariant.1 ∙ same-agree s.args.t1.0 s.args.t2.0 l.i (omega arith) (omega arith) c.if1.false)
+    (omega arith, l.invariant.1 ∙ same_agree s.args.t1.0 s.args.t2.0 l.i (omega arith) (omega arith) c.if1.false)
 
 returns-2 : tie.Need-returns-2 invariant-loop decreases-loop
 returns-2 c =

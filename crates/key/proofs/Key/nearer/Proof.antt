@@ -4,13 +4,13 @@ use mathlib.Core.Bool.{Bool}
 use Prim.Native.Nat.{◌-◌, ◌≤◌}
 use native.Mathlib.Omega.{arith}
 use Rattle.key.specs.Keys.{IsKey, nearer, Compares}
-use Rattle.key.proofs.Distance.{nearerFrom, from_start, byte-decides, byte-same, bytes-end}
+use Rattle.key.proofs.Distance.{nearer_from, from_start, byte_decides, byte_same, bytes_end}
 use Rattle.key.proofs.Owned.{is_key}
 use Rattle.key.proofs.Key.nearer.Statement.{statement}
 use Rattle.key.proofs.Key.nearer.Tie as tie
 
 abbrev invariant-loop : tie.invariant-loop
-invariant-loop self a b i₀ i = (i ≤ 32) × (nearer self.0 a.0 b.0 ≡ nearerFrom i self.0 a.0 b.0)
+invariant-loop self a b i₀ i = (i ≤ 32) × (nearer self.0 a.0 b.0 ≡ nearer_from i self.0 a.0 b.0)
 
 abbrev decreases-loop : tie.decreases-loop
 decreases-loop self a b i₀ i = 32 - i
@@ -27,7 +27,7 @@ known-t3 s = is_key s.args.t3 s.well-formed.1.1.0.0 s.well-formed.1.1.0.1.1
 -- what is compared are keys
 compares : (s : tie.Start invariant-loop decreases-loop) (r : Bool) → nearer s.args.t1.0 s.args.t2.0 s.args.t3.0 ≡ r
     → Compares s.args.t1.0 s.args.t2.0 s.args.t3.0 r
-compares s r e = record { target-key = known-t1 s; a_key = known-t2 s; b-key = known-t3 s; answers = sym e }
+compares s r e = record { target_key = known-t1 s; a_key = known-t2 s; b_key = known-t3 s; answers = sym e }
 
 loop-holds : tie.Need-loop-init invariant-loop decreases-loop
 loop-holds c = (omega arith, from_start c.args.t1.0 c.args.t2.0 c.args.t3.0)
@@ -53,7 +53,7 @@ returns c =
     let b = known-t3 s in
     let x = t.long in
     compares s _
-    (l.invariant.1 ∙ byte-decides s.args.t1.0 s.args.t2.0 s.args.t3.0 (x ∙ sym a.long) (x ∙ sym b.long) l.i (omega arith)
+    (l.invariant.1 ∙ byte_decides s.args.t1.0 s.args.t2.0 s.args.t3.0 (x ∙ sym a.long) (x ∙ sym b.long) l.i (omega arith)
     t.bytes a.bytes b.bytes c.if1.true)
 
 add-i : tie.Need-overflow-add-i invariant-loop decreases-loop
@@ -69,7 +69,7 @@ loop-again c =
     let x = (known-t1 s).long in
     let y = (known-t2 s).long in
     let z = (known-t3 s).long in
-    (omega arith, l.invariant.1 ∙ byte-same s.args.t1.0 s.args.t2.0 s.args.t3.0 (x ∙ sym y) (x ∙ sym z) l.i (omega arith) c.if1.false)
+    (omega arith, l.invariant.1 ∙ byte_same s.args.t1.0 s.args.t2.0 s.args.t3.0 (x ∙ sym y) (x ∙ sym z) l.i (omega arith) c.if1.false)
 
 returns-2 : tie.Need-returns-2 invariant-loop decreases-loop
 returns-2 c =
@@ -78,7 +78,7 @@ returns-2 c =
     let x = (known-t1 s).long in
     let y = (known-t2 s).long in
     let z = (known-t3 s).long in
-    compares s _ (l.invariant.1 ∙ bytes-end s.args.t1.0 s.args.t2.0 s.args.t3.0 (x ∙ sym y) (x ∙ sym z) l.i (omega arith))
+    compares s _ (l.invariant.1 ∙ bytes_end s.args.t1.0 s.args.t2.0 s.args.t3.0 (x ∙ sym y) (x ∙ sym z) l.i (omega arith))
 
 pub nearer-spec : {M : Type 1} → statement M
 nearer-spec =

@@ -7,7 +7,7 @@ use lib.ListN.{length, get_or, take, drop, set, length-set, length-map}
 use lib.Seq.{take_all}
 use borrow.Author.Tests.{lt-leb, le-leb}
 use Rattle.wire.proofs.Copy.{copy_more}
-use Rattle.key.specs.Keys.{withKey}
+use Rattle.key.specs.Keys.{with_key}
 use Rattle.key.proofs.Key.write.Statement.{statement}
 use Rattle.key.proofs.Key.write.Tie as tie
 
@@ -21,7 +21,7 @@ long : (s : tie.Start invariant-loop decreases-loop) → length s.args.t1.0 ≡ 
 long s = sym (length-map s.args.t1.0 _) ∙ s.well-formed.0.1.1.0.1.0.1
 
 returns : tie.Need-returns invariant-loop decreases-loop
-unfolding withKey
+unfolding with_key
 returns c = simp (lt-leb _ _ c.if1.true)
 
 loop-holds : tie.Need-loop-init invariant-loop decreases-loop
@@ -53,7 +53,7 @@ same_length : tie.Need-same-length invariant-loop decreases-loop
 same_length c = omega arith
 
 returns-2 : tie.Need-returns-2 invariant-loop decreases-loop
-unfolding withKey
+unfolding with_key
 returns-2 c =
     let l = c.before.loop in
     let s = c.before.before.before in

@@ -3,21 +3,21 @@ use mathlib.Core.Path.{◌≡◌, ◌∙◌, ap}
 use mathlib.Core.Bool.{Bool, not}
 use native.Mathlib.Omega.{arith}
 use borrow.Author.Rules.{rules}
-use Rattle.wire.proofs.Numbers.{bytes-each}
-use Rattle.key.specs.Keys.{sameKey, nearer, key_of}
-use Rattle.key.proofs.Cancel.{nearer-to-itself}
-use Rattle.key.proofs.Lent.{key-itself, key-of}
+use Rattle.wire.proofs.Numbers.{bytes_each}
+use Rattle.key.specs.Keys.{same_key, nearer, key_of}
+use Rattle.key.proofs.Cancel.{nearer_to_itself}
+use Rattle.key.proofs.Lent.{key_itself, key_of_lem}
 use Rattle.key.proofs.in_place.equals.Statement.{statement}
 use Rattle.key.proofs.in_place.equals.Tie as tie
 
 -- what the comparison of a key with itself and another tells
 itself : (k : tie.After-shared-slice-known2) (r : Bool) → let s = k.before.before.args in
-    r ≡ nearer (key_of s.a.now) (key_of s.a.now) (key_of s.b.now) → not r ≡ sameKey (key_of s.a.now) (key_of s.b.now)
+    r ≡ nearer (key_of s.a.now) (key_of s.a.now) (key_of s.b.now) → not r ≡ same_key (key_of s.a.now) (key_of s.b.now)
 itself k r e =
     let a = k.before.before.args.a.now in
     let b = k.before.before.args.b.now in
-    ap not e ∙ nearer-to-itself (key_of a) (key_of b) (key-of a (bytes-each a (λ i. (k.before.shared-slice-known.given i).fits)))
-    (key-of b (bytes-each b (λ i. (k.shared-slice-known2.given i).fits)))
+    ap not e ∙ nearer_to_itself (key_of a) (key_of b) (key_of_lem a (bytes_each a (λ i. (k.before.shared-slice-known.given i).fits)))
+    (key_of_lem b (bytes_each b (λ i. (k.shared-slice-known2.given i).fits)))
 
 nearer-of-parts-requires : tie.Need-nearer-of-parts-requires
 nearer-of-parts-requires c κs = search rules
@@ -26,8 +26,8 @@ returns : tie.Need-returns
 returns c =
     let k = c.before.before.before in
     let s = k.before.before.args in
-    let a = key-itself s.a.now (omega arith) in
-    let b = key-itself s.b.now (omega arith) in
+    let a = key_itself s.a.now (omega arith) in
+    let b = key_itself s.b.now (omega arith) in
     itself k _ (c.before.nearer-of-parts.ensures ∙ cc)
 
 nearer-of-any-requires : tie.Need-nearer-of-any-requires

@@ -4,9 +4,9 @@ use mathlib.Core.Bool.{Bool}
 use native.Mathlib.Omega.{arith}
 use borrow.Author.Rules.{rules}
 use borrow.Author.Tests.{eqb-true}
-use Rattle.wire.proofs.Numbers.{bytes-each}
+use Rattle.wire.proofs.Numbers.{bytes_each}
 use Rattle.key.specs.Keys.{nearer, Compares, key_of}
-use Rattle.key.proofs.Lent.{key-itself, key-of}
+use Rattle.key.proofs.Lent.{key_itself, key_of_lem}
 use Rattle.key.proofs.in_place.nearer.Statement.{statement}
 use Rattle.key.proofs.in_place.nearer.Tie as tie
 
@@ -16,9 +16,9 @@ compares : (k : tie.After-shared-slice-known3) (r : Bool) → let s = k.before.b
 compares k r e =
     let s = k.before.before.before.args in
     record {
-      target-key = key-of s.target.now (bytes-each s.target.now (λ i. (k.before.before.shared-slice-known.given i).fits));
-      a_key = key-of s.a.now (bytes-each s.a.now (λ i. (k.before.shared-slice-known2.given i).fits));
-      b-key = key-of s.b.now (bytes-each s.b.now (λ i. (k.shared-slice-known3.given i).fits));
+      target_key = key_of_lem s.target.now (bytes_each s.target.now (λ i. (k.before.before.shared-slice-known.given i).fits));
+      a_key = key_of_lem s.a.now (bytes_each s.a.now (λ i. (k.before.shared-slice-known2.given i).fits));
+      b_key = key_of_lem s.b.now (bytes_each s.b.now (λ i. (k.shared-slice-known3.given i).fits));
       answers = e;
     }
 
@@ -29,9 +29,9 @@ returns : tie.Need-returns
 returns c =
     let k = c.before.before.before.before in
     let s = k.before.before.before.args in
-    let t = key-itself s.target.now (omega (arith, eqb-true)) in
-    let a = key-itself s.a.now (omega (arith, eqb-true)) in
-    let b = key-itself s.b.now (omega (arith, eqb-true)) in
+    let t = key_itself s.target.now (omega (arith, eqb-true)) in
+    let a = key_itself s.a.now (omega (arith, eqb-true)) in
+    let b = key_itself s.b.now (omega (arith, eqb-true)) in
     compares k _ (c.before.nearer-of-parts.ensures ∙ cc)
 
 nearer-of-any-requires : tie.Need-nearer-of-any-requires

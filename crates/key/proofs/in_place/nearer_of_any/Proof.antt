@@ -5,16 +5,16 @@ use native.Mathlib.Omega.{arith}
 use lib.Bits.{bit_xor}
 use lib.Dec.{ltb}
 use lib.ListN.{get_or}
-use Rattle.wire.proofs.Numbers.{bytes-each, bytes-getD}
+use Rattle.wire.proofs.Numbers.{bytes_each, bytes_get_d}
 use Rattle.key.specs.Keys.{nearer, key_of}
-use Rattle.key.proofs.Distance.{nearerFrom, from_start, byte-decides, byte-same, bytes-end}
-use Rattle.key.proofs.Cancel.{xor-cancels}
-use Rattle.key.proofs.Lent.{length-key, bytes-key}
+use Rattle.key.proofs.Distance.{nearer_from, from_start, byte_decides, byte_same, bytes_end}
+use Rattle.key.proofs.Cancel.{xor_cancels}
+use Rattle.key.proofs.Lent.{length_key, bytes_key}
 use Rattle.key.proofs.in_place.nearer_of_any.Statement.{statement}
 use Rattle.key.proofs.in_place.nearer_of_any.Tie as tie
 
 abbrev invariant-loop : tie.invariant-loop
-invariant-loop target a b i₀ i = (i ≤ 32) × (nearer (key_of target) (key_of a) (key_of b) ≡ nearerFrom i (key_of target) (key_of a) (key_of b))
+invariant-loop target a b i₀ i = (i ≤ 32) × (nearer (key_of target) (key_of a) (key_of b) ≡ nearer_from i (key_of target) (key_of a) (key_of b))
 
 abbrev decreases-loop : tie.decreases-loop
 decreases-loop target a b i₀ i = 32 - i
@@ -41,15 +41,15 @@ returns c =
     let t = key_of g.target.now in
     let a = key_of g.a.now in
     let b = key_of g.b.now in
-    let e = length-key g.target.now in
-    let st = bytes-key g.target.now (bytes-each g.target.now (λ i. (k.before.before.shared-slice-known.given i).fits)) in
-    let sa = bytes-key g.a.now (bytes-each g.a.now (λ i. (k.before.shared-slice-known2.given i).fits)) in
-    let sb = bytes-key g.b.now (bytes-each g.b.now (λ i. (k.shared-slice-known3.given i).fits)) in
+    let e = length_key g.target.now in
+    let st = bytes_key g.target.now (bytes_each g.target.now (λ i. (k.before.before.shared-slice-known.given i).fits)) in
+    let sa = bytes_key g.a.now (bytes_each g.a.now (λ i. (k.before.shared-slice-known2.given i).fits)) in
+    let sb = bytes_key g.b.now (bytes_each g.b.now (λ i. (k.shared-slice-known3.given i).fits)) in
     let p = c.before.before.before.byte.ensures in
     let q = c.before.before.byte2.ensures in
     let r = c.byte3.ensures in
-    sym (l.invariant.1 ∙ byte-decides t a b (e ∙ sym (length-key g.a.now)) (e ∙ sym (length-key g.b.now)) l.i (omega arith) st sa sb
-    (λ d. c.before.if1.true (p ∙ xor-cancels 8 (get_or t l.i 0) (get_or a l.i 0) (get_or b l.i 0) (bytes-getD l.i a sa) (bytes-getD l.i b sb) d ∙ sym q))
+    sym (l.invariant.1 ∙ byte_decides t a b (e ∙ sym (length_key g.a.now)) (e ∙ sym (length_key g.b.now)) l.i (omega arith) st sa sb
+    (λ d. c.before.if1.true (p ∙ xor_cancels 8 (get_or t l.i 0) (get_or a l.i 0) (get_or b l.i 0) (bytes_get_d l.i a sa) (bytes_get_d l.i b sb) d ∙ sym q))
     ∙ ap₂ ltb (ap₂ bit_xor (sym r) (sym p)) (ap₂ bit_xor (sym r) (sym q)))
 
 add-i : tie.Need-overflow-add-i invariant-loop decreases-loop
@@ -63,10 +63,10 @@ loop-again c =
     let l = c.before.before.before.before.loop in
     let g = c.before.before.before.before.before.before.before.before.args in
     let t = key_of g.target.now in
-    let e = length-key g.target.now in (
+    let e = length_key g.target.now in (
       omega arith,
       l.invariant.1
-          ∙ byte-same t (key_of g.a.now) (key_of g.b.now) (e ∙ sym (length-key g.a.now)) (e ∙ sym (length-key g.b.now)) l.i (omega arith)
+          ∙ byte_same t (key_of g.a.now) (key_of g.b.now) (e ∙ sym (length_key g.a.now)) (e ∙ sym (length_key g.b.now)) l.i (omega arith)
           (ap (bit_xor (get_or t l.i 0)) (sym c.before.before.byte.ensures ∙ c.if1.false ∙ c.before.byte2.ensures)),
     )
 
@@ -74,8 +74,8 @@ returns-2 : tie.Need-returns-2 invariant-loop decreases-loop
 returns-2 c =
     let l = c.before.loop in
     let g = c.before.before.before.before.before.args in
-    let e = length-key g.target.now in
-    sym (l.invariant.1 ∙ bytes-end (key_of g.target.now) (key_of g.a.now) (key_of g.b.now) (e ∙ sym (length-key g.a.now)) (e ∙ sym (length-key g.b.now)) l.i (omega arith))
+    let e = length_key g.target.now in
+    sym (l.invariant.1 ∙ bytes_end (key_of g.target.now) (key_of g.a.now) (key_of g.b.now) (e ∙ sym (length_key g.a.now)) (e ∙ sym (length_key g.b.now)) l.i (omega arith))
 
 pub nearer-of-any-spec : {M : Type 1} → statement M
 nearer-of-any-spec =

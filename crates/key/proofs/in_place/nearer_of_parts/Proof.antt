@@ -4,15 +4,15 @@ use Prim.Native.Nat.{◌-◌, ◌≤◌}
 use native.Mathlib.Omega.{arith}
 use lib.Bits.{bit_xor}
 use lib.ListN.{length, get_or}
-use Rattle.wire.proofs.Numbers.{bytes-each}
+use Rattle.wire.proofs.Numbers.{bytes_each}
 use Rattle.key.specs.Keys.{nearer}
-use Rattle.key.proofs.Distance.{nearerFrom, from_start, byte-decides, byte-same, bytes-end}
-use Rattle.key.proofs.Cancel.{xor-cancels}
+use Rattle.key.proofs.Distance.{nearer_from, from_start, byte_decides, byte_same, bytes_end}
+use Rattle.key.proofs.Cancel.{xor_cancels}
 use Rattle.key.proofs.in_place.nearer_of_parts.Statement.{statement}
 use Rattle.key.proofs.in_place.nearer_of_parts.Tie as tie
 
 abbrev invariant-loop : tie.invariant-loop
-invariant-loop target a b i₀ i = (i ≤ length a) × (nearer target a b ≡ nearerFrom i target a b)
+invariant-loop target a b i₀ i = (i ≤ length a) × (nearer target a b ≡ nearer_from i target a b)
 
 abbrev decreases-loop : tie.decreases-loop
 decreases-loop target a b i₀ i = length a - i
@@ -39,9 +39,9 @@ returns c =
     let ka = c.before.before.before.shared-slice-known.given in
     let kb = c.before.before.shared-slice-known2.given in
     let kt = c.shared-slice-known3.given in
-    sym (l.invariant.1 ∙ byte-decides t a b (omega arith) (omega arith) l.i (omega arith)
-    (bytes-each t (λ i. (kt i).fits)) (bytes-each a (λ i. (ka i).fits)) (bytes-each b (λ i. (kb i).fits))
-    (λ e. c.before.if1.true (xor-cancels 8 (get_or t l.i 0) (get_or a l.i 0) (get_or b l.i 0) (ka l.i).fits (kb l.i).fits e)))
+    sym (l.invariant.1 ∙ byte_decides t a b (omega arith) (omega arith) l.i (omega arith)
+    (bytes_each t (λ i. (kt i).fits)) (bytes_each a (λ i. (ka i).fits)) (bytes_each b (λ i. (kb i).fits))
+    (λ e. c.before.if1.true (xor_cancels 8 (get_or t l.i 0) (get_or a l.i 0) (get_or b l.i 0) (ka l.i).fits (kb l.i).fits e)))
 
 add-i : tie.Need-overflow-add-i invariant-loop decreases-loop
 add-i c = omega arith
@@ -55,14 +55,14 @@ loop-again c =
     let s = c.before.before.before.before.before in
     let t = s.args.target.now in (
       omega arith,
-      l.invariant.1 ∙ byte-same t s.args.a.now s.args.b.now (omega arith) (omega arith) l.i (omega arith) (ap (bit_xor (get_or t l.i 0)) c.if1.false),
+      l.invariant.1 ∙ byte_same t s.args.a.now s.args.b.now (omega arith) (omega arith) l.i (omega arith) (ap (bit_xor (get_or t l.i 0)) c.if1.false),
     )
 
 returns-2 : tie.Need-returns-2 invariant-loop decreases-loop
 returns-2 c =
     let l = c.before.loop in
     let s = c.before.before in
-    sym (l.invariant.1 ∙ bytes-end s.args.target.now s.args.a.now s.args.b.now (omega arith) (omega arith) l.i (omega arith))
+    sym (l.invariant.1 ∙ bytes_end s.args.target.now s.args.a.now s.args.b.now (omega arith) (omega arith) l.i (omega arith))
 
 pub nearer-of-parts-spec : {M : Type 1} → statement M
 nearer-of-parts-spec =

@@ -4,8 +4,8 @@ use native.Mathlib.Omega.{arith}
 use borrow.Author.Rules.{rules}
 use borrow.Author.Tests.{leb-true}
 use lib.Seq.{length-take-le}
-use Rattle.key.specs.Bits.{sharedBits}
-use Rattle.key.proofs.Lent.{key-whole}
+use Rattle.key.specs.Bits.{shared_bits}
+use Rattle.key.proofs.Lent.{key_whole}
 use Rattle.key.proofs.in_place.shared_bits.Statement.{statement}
 use Rattle.key.proofs.in_place.shared_bits.Tie as tie
 
@@ -23,7 +23,7 @@ shared-of-parts-requires c κs =
 returns : tie.Need-returns
 returns c =
     let a = c.before.before.before.before.before.before.before.args in
-    c.shared-of-parts.ensures ∙ sym (ap₂ sharedBits (key-whole a.a.now (omega arith)) (key-whole a.b.now (omega (arith, leb-true))))
+    c.shared-of-parts.ensures ∙ sym (ap₂ shared_bits (key_whole a.a.now (omega arith)) (key_whole a.b.now (omega (arith, leb-true))))
 
 shared-by-value-requires : tie.Need-shared-by-value-requires
 shared-by-value-requires c κs = search rules

@@ -1,7 +1,7 @@
 -- `in_place::shared_by_value` meets its contract, by what `Key::read` and `shared_of_parts` ensure. Assumes nothing.
 use mathlib.Core.Path.{◌∙◌, ap₂}
 use borrow.Author.Rules.{rules}
-use Rattle.key.specs.Bits.{sharedBits}
+use Rattle.key.specs.Bits.{shared_bits}
 use Rattle.key.proofs.in_place.shared_by_value.Statement.{statement}
 use Rattle.key.proofs.in_place.shared_by_value.Tie as tie
 
@@ -23,7 +23,7 @@ shared-of-parts-requires c κs = search rules
 returns : tie.Need-returns
 returns c =
     c.shared-of-parts.ensures
-    ∙ ap₂ sharedBits c.before.before.before.before.before.before.read.ensures c.before.before.before.before.read2.ensures
+    ∙ ap₂ shared_bits c.before.before.before.before.before.before.read.ensures c.before.before.before.before.read2.ensures
 
 pub shared-by-value-spec : {M : Type 1} → statement M
 shared-by-value-spec =

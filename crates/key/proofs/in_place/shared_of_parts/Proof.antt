@@ -5,13 +5,13 @@ use native.Mathlib.Omega.{arith}
 use lib.Bits.{bit_xor, xor_self}
 use lib.Count.{count_leading_zeros, leading_le}
 use lib.ListN.{get_or, drop}
-use Rattle.key.specs.Bits.{sharedBits}
-use Rattle.key.proofs.Bits.{xor-none, shared-same-at, shared-differ-at, shared-end}
+use Rattle.key.specs.Bits.{shared_bits}
+use Rattle.key.proofs.Bits.{xor_none, shared_same_at, shared_differ_at, shared_end}
 use Rattle.key.proofs.in_place.shared_of_parts.Statement.{statement}
 use Rattle.key.proofs.in_place.shared_of_parts.Tie as tie
 
 abbrev invariant-loop : tie.invariant-loop
-invariant-loop a b i₀ i = (i ≤ 32) × (sharedBits a b ≡ 8 * i + sharedBits (drop i a) (drop i b))
+invariant-loop a b i₀ i = (i ≤ 32) × (shared_bits a b ≡ 8 * i + shared_bits (drop i a) (drop i b))
 
 abbrev decreases-loop : tie.decreases-loop
 decreases-loop a b i₀ i = 32 - i
@@ -48,7 +48,7 @@ returns c =
     let a = s.args.a.now in
     let b = s.args.b.now in
     let x : ℕ = get_or a l.i 0 in
-    let e = shared-differ-at a b l.i (omega arith) (omega arith) (c.before.before.shared-slice-known.given l.i).fits
+    let e = shared_differ_at a b l.i (omega arith) (omega arith) (c.before.before.shared-slice-known.given l.i).fits
     (c.before.shared-slice-known2.given l.i).fits (λ h. c.if1.true (ap (bit_xor x) (sym h) ∙ xor_self x)) in
     omega (arith, l.invariant.1)
 
@@ -64,7 +64,7 @@ loop-again c =
     let s = c.before.before.before.before.before in
     let a = s.args.a.now in
     let b = s.args.b.now in
-    let e = shared-same-at a b l.i (omega arith) (omega arith) (xor-none 8 (get_or a l.i 0) (get_or b l.i 0)
+    let e = shared_same_at a b l.i (omega arith) (omega arith) (xor_none 8 (get_or a l.i 0) (get_or b l.i 0)
     (c.before.before.shared-slice-known.given l.i).fits (c.before.shared-slice-known2.given l.i).fits c.if1.false) in
     omega (arith, l.invariant.1)
 
@@ -75,7 +75,7 @@ returns-2 : tie.Need-returns-2 invariant-loop decreases-loop
 returns-2 c =
     let l = c.before.loop in
     let s = c.before.before in
-    let e = shared-end s.args.a.now s.args.b.now l.i (omega arith) in
+    let e = shared_end s.args.a.now s.args.b.now l.i (omega arith) in
     omega (arith, l.invariant.1)
 
 pub shared-of-parts-spec : {M : Type 1} → statement M

@@ -5,7 +5,7 @@ use mathlib.Core.Path.{◌∙◌, sym}
 use native.Mathlib.Omega.{arith}
 use lib.ListN.{length}
 use Rattle.lent_list_laws.specs.Layout.{loaded}
-use Rattle.lent_list_laws.proofs.StoreLaws.{loaded-whole, list_read}
+use Rattle.lent_list_laws.proofs.StoreLaws.{loaded_whole, list_read}
 use Rattle.lent_list.proofs.memory.load.Statement.{statement}
 use Rattle.lent_list.proofs.memory.load.Tie as tie
 
@@ -58,7 +58,7 @@ returns-2 : tie.Need-returns-2
 returns-2 c =
     let m = c.before.before.before.before.before.before.before.before.args.memory.now in
     let h = c.before.before.before.before.before.before.if1.false in
-    list_read m c.before.before.before.before.read.result _ (omega arith) c.before.before.before.before.read.ensures c.read_all.ensures ∙ sym (loaded-whole m (omega arith))
+    list_read m c.before.before.before.before.read.result _ (omega arith) c.before.before.before.before.read.ensures c.read_all.ensures ∙ sym (loaded_whole m (omega arith))
 
 pub load_spec : {M : Type 1} → statement M
 load_spec =

@@ -4,14 +4,14 @@ use mathlib.Core.Path.{◌≡◌, ◌∙◌, sym}
 use Prim.Native.Nat.{◌%◌}
 use native.Mathlib.Omega.{arith}
 use lib.ListN.{length, length-set, length-map}
-use Rattle.lent_list_laws.specs.Layout.{slotsBytes}
-use Rattle.lent_list_laws.proofs.StoreLaws.{stored_short, length-targeted, put-slots, list_written}
+use Rattle.lent_list_laws.specs.Layout.{slots_bytes}
+use Rattle.lent_list_laws.proofs.StoreLaws.{stored_short, length_targeted, put_slots, list_written}
 use Rattle.lent_list.proofs.memory.store.Statement.{statement}
 use Rattle.lent_list.proofs.memory.store.Tie as tie
 
 -- a key by value has 32 bytes
-key-long : (s : tie.Start) → length s.args.list.target.0 ≡ 32
-key-long s = sym (length-map s.args.list.target.0 _) ∙ s.well-formed.0.1.1.0.1.1.0.1.0.1
+key_long : (s : tie.Start) → length s.args.list.target.0 ≡ 32
+key_long s = sym (length-map s.args.list.target.0 _) ∙ s.well-formed.0.1.1.0.1.1.0.1.0.1
 
 returns : tie.Need-returns
 returns c = let a = c.before.before.args in let h = c.if1.true in sym (stored_short a.list a.memory.now (omega arith))
@@ -51,7 +51,7 @@ part-write-all-end c =
     let s = c.before.before.before.before.before.before.before.before.before.before in
     let a = s.args in
     let h = c.before.before.before.before.before.before.before.before.if1.false in
-    let e = length-targeted a.memory.now a.list.target.0 (slotsBytes a.list.nodes) (a.list.size % 256) (a.list.count % 256) (omega arith) (key-long s) _ c.before.before.write.ensures in
+    let e = length_targeted a.memory.now a.list.target.0 (slots_bytes a.list.nodes) (a.list.size % 256) (a.list.count % 256) (omega arith) (key_long s) _ c.before.before.write.ensures in
     omega arith
 
 write-all-requires : tie.Need-write-all-requires
@@ -62,7 +62,7 @@ same_length c =
     let s = c.before.before.before.before.before.before.before.before.before.before.before.before.before.before in
     let a = s.args in
     let h = c.before.before.before.before.before.before.before.before.before.before.before.before.if1.false in
-    let e = length-targeted a.memory.now a.list.target.0 (slotsBytes a.list.nodes) (a.list.size % 256) (a.list.count % 256) (omega arith) (key-long s) _ c.before.before.before.before.before.before.write.ensures in
+    let e = length_targeted a.memory.now a.list.target.0 (slots_bytes a.list.nodes) (a.list.size % 256) (a.list.count % 256) (omega arith) (key_long s) _ c.before.before.before.before.before.before.write.ensures in
     search rules
 
 returns-2 : tie.Need-returns-2
@@ -71,7 +71,7 @@ returns-2 c =
     let a = s.args in
     let h = c.before.before.before.before.before.before.before.before.before.before.before.before.if1.false in
     list_written a.list a.memory.now _ (omega arith)
-    (put-slots a.memory.now a.list.target.0 (slotsBytes a.list.nodes) (a.list.size % 256) (a.list.count % 256) (omega arith) (key-long s) _ c.before.before.before.before.before.before.write.ensures _ c.before.before.write-all.ensures)
+    (put_slots a.memory.now a.list.target.0 (slots_bytes a.list.nodes) (a.list.size % 256) (a.list.count % 256) (omega arith) (key_long s) _ c.before.before.before.before.before.before.write.ensures _ c.before.before.write-all.ensures)
 
 pub store_spec : {M : Type 1} → statement M
 store_spec =

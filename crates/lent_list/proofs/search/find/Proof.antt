@@ -6,19 +6,19 @@ use mathlib.Core.List.{List}
 use Prim.Native.Nat.{ℕ, suc, ◌+◌, ◌-◌, ◌≤◌}
 use native.Mathlib.Omega.{arith}
 use lib.ListN.{take, drop}
-use Rattle.key.proofs.Lent.{key-itself}
+use Rattle.key.proofs.Lent.{key_itself}
 use Rattle.nearest.specs.Slots.{index_of}
-use Rattle.nearest.proofs.Front.{no_node, front-next, front-end}
-use Rattle.nearest.proofs.Steps.{index-one, index-none}
-use Rattle.lent_list_laws.specs.Layout.{slotsAt}
-use Rattle.lent_list_laws.proofs.SlotLaws.{slots-number}
-use Rattle.lent_list_laws.proofs.PartLaws.{key-lent}
+use Rattle.nearest.proofs.Front.{no_node, front_next, front_end}
+use Rattle.nearest.proofs.Steps.{index_one, index_none}
+use Rattle.lent_list_laws.specs.Layout.{slots_at}
+use Rattle.lent_list_laws.proofs.SlotLaws.{slots_number}
+use Rattle.lent_list_laws.proofs.PartLaws.{key_lent}
 use Rattle.lent_list.proofs.search.find.Statement.{statement}
 use Rattle.lent_list.proofs.search.find.Tie as tie
 
 -- where the key stands among the nodes from `i` on
 abbrev rest : List ℕ → ℕ → List ℕ → ℕ → ℕ
-rest slots count key i = index_of key (drop i (take count (slotsAt 16 slots)))
+rest slots count key i = index_of key (drop i (take count (slots_at 16 slots)))
 
 abbrev invariant-loop : tie.invariant-loop
 invariant-loop slots count key i₀ i = (i ≤ count) × (rest slots count key 0 ≡ i + rest slots count key i)
@@ -35,11 +35,11 @@ one_more c b e =
     let s = c.before.before.before.before.before.before in
     let a = s.args in
     let i = c.before.before.before.loop.i in
-    let n = slots-number 16 a.slots.now in
-    let k = key-itself a.key.now s.requires.2 in
-    let p = key-lent 16 i a.slots.now no_node (omega arith) (omega arith) c.before.key-at.result.now c.before.key-at.ensures in
-    ap (index_of a.key.now) (front-next (slotsAt 16 a.slots.now) a.count (omega arith) no_node i (omega arith))
-    ∙ index-one a.key.now _ _ b (cc c.equals.ensures)
+    let n = slots_number 16 a.slots.now in
+    let k = key_itself a.key.now s.requires.2 in
+    let p = key_lent 16 i a.slots.now no_node (omega arith) (omega arith) c.before.key-at.result.now c.before.key-at.ensures in
+    ap (index_of a.key.now) (front_next (slots_at 16 a.slots.now) a.count (omega arith) no_node i (omega arith))
+    ∙ index_one a.key.now _ _ b (cc c.equals.ensures)
 
 loop-holds : tie.Need-loop-init invariant-loop decreases-loop
 loop-holds c = (omega arith, omega arith)
@@ -72,8 +72,8 @@ returns-2 : tie.Need-returns-2 invariant-loop decreases-loop
 returns-2 c =
     let l = c.before.loop in
     let a = c.before.before.before.before.args in
-    let n = slots-number 16 a.slots.now in
-    let e = ap (index_of a.key.now) (front-end (slotsAt 16 a.slots.now) a.count (omega arith) l.i c.loop-test.false) ∙ index-none a.key.now in
+    let n = slots_number 16 a.slots.now in
+    let e = ap (index_of a.key.now) (front_end (slots_at 16 a.slots.now) a.count (omega arith) l.i c.loop-test.false) ∙ index_none a.key.now in
     let i = l.invariant.1 in
     omega arith
 

@@ -4,11 +4,11 @@ use mathlib.Core.Path.{◌∙◌, ap}
 use mathlib.Core.List.{◌∷◌, ◌++◌}
 use Prim.Native.Nat.{◌+◌}
 use lib.ListN.{take, drop}
-use Rattle.wire.proofs.Numbers.{bytes-each}
-use Rattle.lists.specs.Insert.{removeAt}
+use Rattle.wire.proofs.Numbers.{bytes_each}
+use Rattle.lists.specs.Insert.{remove_at}
 use Rattle.node.specs.declared.Node.{Node}
-use Rattle.lent_list_laws.specs.Layout.{slotsAt, slotsBytes}
-use Rattle.lent_list.proofs.ShiftLaws.{closed-bytes}
+use Rattle.lent_list_laws.specs.Layout.{slots_at, slots_bytes}
+use Rattle.lent_list.proofs.ShiftLaws.{closed_bytes}
 use Rattle.lent_list.proofs.shift.close_at.Statement.{statement}
 use Rattle.lent_list.proofs.shift.close_at.Tie as tie
 
@@ -39,9 +39,9 @@ returns c =
     let s = a.slots.now in
     let b = c.before.before.before.before.blank in
     c.before.before.write-at.ensures
-    ∙ closed-bytes s h.0 (bytes-each s (λ i. (known.slice-known.given i).fits)) a.place a.last h.1 h.2 b.result
+    ∙ closed_bytes s h.0 (bytes_each s (λ i. (known.slice-known.given i).fits)) a.place a.last h.1 h.2 b.result
     _ c.before.before.before.before.before.before.before.move-forward.ensures
-    ∙ ap (λ (n : Node). slotsBytes (take a.last (removeAt a.place (slotsAt 16 s)) ++ (n ∷ drop (a.last + 1) (slotsAt 16 s)))) b.ensures
+    ∙ ap (λ (n : Node). slots_bytes (take a.last (remove_at a.place (slots_at 16 s)) ++ (n ∷ drop (a.last + 1) (slots_at 16 s)))) b.ensures
 
 pub close-at-spec : {M : Type 1} → statement M
 close-at-spec =

@@ -4,18 +4,18 @@ use mathlib.Core.List.{List}
 use Prim.Native.Nat.{ℕ, suc, ◌+◌, ◌-◌, ◌≤◌}
 use native.Mathlib.Omega.{arith}
 use lib.ListN.{length, get_or, set, length-set}
-use Rattle.lent_list.proofs.ShiftLaws.{movedBack, back-begins, back_more}
+use Rattle.lent_list.proofs.ShiftLaws.{moved_back, back_begins, back_more}
 use Rattle.lent_list.proofs.shift.move_back.Statement.{statement}
 use Rattle.lent_list.proofs.shift.move_back.Tie as tie
 
 abbrev invariant-loop : tie.invariant-loop
-invariant-loop slots₀ start end i₀ slots i = (start ≤ i) × (i ≤ end) × (length slots ≡ length slots₀) × (slots ≡ movedBack slots₀ end i)
+invariant-loop slots₀ start end i₀ slots i = (start ≤ i) × (i ≤ end) × (length slots ≡ length slots₀) × (slots ≡ moved_back slots₀ end i)
 
 abbrev decreases-loop : tie.decreases-loop
 decreases-loop slots₀ start end i₀ slots i = i
 
 loop-holds : tie.Need-loop-init invariant-loop decreases-loop
-loop-holds c = (omega arith, omega arith, refl, back-begins c.args.slots.now c.args.end)
+loop-holds c = (omega arith, omega arith, refl, back_begins c.args.slots.now c.args.end)
 
 sub-i : tie.Need-overflow-sub-i invariant-loop decreases-loop
 sub-i c = omega arith
@@ -41,7 +41,7 @@ loop-again c =
       omega arith,
       omega arith,
       simp length-set (omega arith),
-      ap (λ (x : List ℕ). set x (j + 51) (get_or x j 0)) (l.invariant.3 ∙ ap (movedBack a.slots.now a.end) e)
+      ap (λ (x : List ℕ). set x (j + 51) (get_or x j 0)) (l.invariant.3 ∙ ap (moved_back a.slots.now a.end) e)
           ∙ back_more a.slots.now a.end j (omega arith) (omega arith),
     )
 
@@ -53,7 +53,7 @@ returns c =
     let l = c.before.loop in
     let a = c.before.before.args in
     let k : l.i ≡ a.start = omega arith in
-    l.invariant.3 ∙ ap (movedBack a.slots.now a.end) k
+    l.invariant.3 ∙ ap (moved_back a.slots.now a.end) k
 
 pub move-back-spec : {M : Type 1} → statement M
 move-back-spec =

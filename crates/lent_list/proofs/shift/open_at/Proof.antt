@@ -1,8 +1,8 @@
 -- `shift::open_at` meets its contract. Assumes nothing.
 use borrow.Author.Rules.{rules}
 use mathlib.Core.Path.{◌∙◌}
-use Rattle.wire.proofs.Numbers.{bytes-each}
-use Rattle.lent_list.proofs.ShiftLaws.{opened-bytes}
+use Rattle.wire.proofs.Numbers.{bytes_each}
+use Rattle.lent_list.proofs.ShiftLaws.{opened_bytes}
 use Rattle.lent_list.proofs.shift.open_at.Statement.{statement}
 use Rattle.lent_list.proofs.shift.open_at.Tie as tie
 
@@ -28,7 +28,7 @@ returns c =
     let a = start.args in
     let h = start.requires in
     c.before.before.write-at.ensures
-    ∙ opened-bytes a.slots.now h.0 (bytes-each a.slots.now (λ i. (known.slice-known.given i).fits)) a.place a.last h.1 h.2 a.node
+    ∙ opened_bytes a.slots.now h.0 (bytes_each a.slots.now (λ i. (known.slice-known.given i).fits)) a.place a.last h.1 h.2 a.node
     _ c.before.before.before.before.before.before.move-back.ensures
 
 pub open-at-spec : {M : Type 1} → statement M

@@ -3,11 +3,11 @@ use borrow.Author.Rules.{rules}
 use mathlib.Core.Path.{◌∙◌, ap}
 use native.Mathlib.Omega.{arith}
 use Rattle.wire.specs.Numbers.{number_of}
-use Rattle.wire.proofs.Numbers.{bytes-each}
-use Rattle.node.proofs.NodeLaws.{same-value}
+use Rattle.wire.proofs.Numbers.{bytes_each}
+use Rattle.node.proofs.NodeLaws.{same_value}
 use lib.ListN.{get_or}
 use Rattle.lent_list_laws.specs.Layout.{slot_at}
-use Rattle.lent_list_laws.proofs.SlotLaws.{port-part, port-small, key-part}
+use Rattle.lent_list_laws.proofs.SlotLaws.{port_part, port_small, key_part}
 use Rattle.lent_list.proofs.slot.read.Statement.{statement}
 use Rattle.lent_list.proofs.slot.read.Tie as tie
 
@@ -42,8 +42,8 @@ cast-t14 : tie.Need-overflow-cast-t14
 cast-t14 c =
     let s = c.before.before.before.before.before.before in
     let b = s.args.bytes.now in
-    let e = c.read_number.ensures ∙ ap number_of (port-part b s.requires) in
-    let l = port-small b s.requires (bytes-each b (λ i. (c.before.before.before.before.before.shared-slice-known.given i).fits)) in
+    let e = c.read_number.ensures ∙ ap number_of (port_part b s.requires) in
+    let l = port_small b s.requires (bytes_each b (λ i. (c.before.before.before.before.before.shared-slice-known.given i).fits)) in
     omega arith
 
 sub_read : tie.Need-overflow-sub-read
@@ -63,9 +63,9 @@ unfolding slot_at
 returns c =
     let s = c.before.before.before.before.before.before.before.before in
     let b = s.args.bytes.now in
-    same-value (get_or b 0 0) _ _ _ _ c.read.result _ c.before.before.before.before.address.ensures
-    (c.before.before.read_number.ensures ∙ ap number_of (port-part b s.requires))
-    (c.read.ensures ∙ key-part b s.requires)
+    same_value (get_or b 0 0) _ _ _ _ c.read.result _ c.before.before.before.before.address.ensures
+    (c.before.before.read_number.ensures ∙ ap number_of (port_part b s.requires))
+    (c.read.ensures ∙ key_part b s.requires)
 
 pub read_spec : {M : Type 1} → statement M
 read_spec =

@@ -7,20 +7,20 @@ use native.Mathlib.Omega.{arith}
 use lib.ListN.{length, get_or, take, drop, set, drop_of_length-le}
 use lib.Seq.{take_all}
 use Rattle.node.specs.declared.Node.{Node}
-use Rattle.node.specs.Values.{blankNode}
-use Rattle.lists.proofs.Shift.{slot-stored}
-use Rattle.lent_list_laws.specs.Layout.{slot_at, slotsAt}
-use Rattle.lent_list_laws.proofs.SlotLaws.{slot_lent, slots_at, slots-number}
+use Rattle.node.specs.Values.{blank_node}
+use Rattle.lists.proofs.Shift.{slot_stored}
+use Rattle.lent_list_laws.specs.Layout.{slot_at, slots_at}
+use Rattle.lent_list_laws.proofs.SlotLaws.{slot_lent, slots_at_lem, slots_number}
 use Rattle.lent_list.proofs.slot.read_all.Statement.{statement}
 use Rattle.lent_list.proofs.slot.read_all.Tie as tie
 
-at_slot : (b : List ℕ) (i at : ℕ) → i + 1 ≤ 16 → at ≡ i * 51 → slot_at (take (at + 51 - at) (drop at b)) ≡ get_or (slotsAt 16 b) i blankNode
+at_slot : (b : List ℕ) (i at : ℕ) → i + 1 ≤ 16 → at ≡ i * 51 → slot_at (take (at + 51 - at) (drop at b)) ≡ get_or (slots_at 16 b) i blank_node
 at_slot b i at h e =
-    ap₂ (λ (k p : ℕ). slot_at (take k (drop p b))) (let q : at + 51 - at ≡ 51 = omega arith in q) e ∙ sym (slots_at 16 i b blankNode (omega arith))
+    ap₂ (λ (k p : ℕ). slot_at (take k (drop p b))) (let q : at + 51 - at ≡ 51 = omega arith in q) e ∙ sym (slots_at_lem 16 i b blank_node (omega arith))
 
 abbrev invariant-loop : tie.invariant-loop
 invariant-loop bytes nodes₀ at₀ i₀ nodes at i =
-    (i ≤ 16) × (at ≡ i * 51) × (length nodes₀ ≡ 16) × (nodes ≡ take i (slotsAt 16 bytes) ++ drop i nodes₀)
+    (i ≤ 16) × (at ≡ i * 51) × (length nodes₀ ≡ 16) × (nodes ≡ take i (slots_at 16 bytes) ++ drop i nodes₀)
 
 abbrev decreases-loop : tie.decreases-loop
 decreases-loop bytes nodes₀ at₀ i₀ nodes at i = 16 - i
@@ -65,12 +65,12 @@ loop-again : tie.Need-loop-preserved invariant-loop decreases-loop
 loop-again c =
     let l = c.before.before.before.loop in
     let b = c.before.before.before.before.before.before.args.bytes.now in
-    let n = slots-number 16 b in
-    let e : c.read.result ≡ get_or (slotsAt 16 b) l.i blankNode = c.read.ensures ∙ at_slot b l.i l.at (omega arith) l.invariant.1 in (
+    let n = slots_number 16 b in
+    let e : c.read.result ≡ get_or (slots_at 16 b) l.i blank_node = c.read.ensures ∙ at_slot b l.i l.at (omega arith) l.invariant.1 in (
       omega arith,
       omega arith,
       l.invariant.2,
-      ap₂ (λ (x : List Node) (y : Node). set x l.i y) l.invariant.3 e ∙ slot-stored (slotsAt 16 b) _ blankNode l.i (omega arith) (omega arith),
+      ap₂ (λ (x : List Node) (y : Node). set x l.i y) l.invariant.3 e ∙ slot_stored (slots_at 16 b) _ blank_node l.i (omega arith) (omega arith),
     )
 
 returns : tie.Need-returns invariant-loop decreases-loop
@@ -78,9 +78,9 @@ returns c =
     let l = c.before.loop in
     let b = c.before.before.before.before.args.bytes.now in
     let e : l.i ≡ 16 = let h = l.invariant.0 in omega arith in
-    let n = slots-number 16 b in
-    l.invariant.3 ∙ ap₂ (λ (x y : List Node). x ++ y) (take_all l.i (slotsAt 16 b) (omega arith)) (drop_of_length-le _ {i = l.i} (omega arith))
-    ∙ append-nil (slotsAt 16 b)
+    let n = slots_number 16 b in
+    l.invariant.3 ∙ ap₂ (λ (x y : List Node). x ++ y) (take_all l.i (slots_at 16 b) (omega arith)) (drop_of_length-le _ {i = l.i} (omega arith))
+    ∙ append-nil (slots_at 16 b)
 
 pub read-all-spec : {M : Type 1} → statement M
 read-all-spec =

@@ -9,27 +9,27 @@ use lib.ListN.{length, take, drop, length-set}
 use lib.Seq.{take_all}
 use Rattle.wire.specs.Numbers.{bytes_of}
 use Rattle.node.specs.Values.{IsNode}
-use Rattle.node.proofs.Owned.{is-node}
-use Rattle.node.proofs.WriteLaws.{Fitting, lent-address, parts-fill, length-address, length-port, put-key}
-use Rattle.lent_list_laws.specs.Layout.{slotBytes}
+use Rattle.node.proofs.Owned.{is_node}
+use Rattle.node.proofs.WriteLaws.{Fitting, lent_address, parts_fill, length_address, length_port, put_key}
+use Rattle.lent_list_laws.specs.Layout.{slot_bytes}
 use Rattle.lent_list.proofs.slot.write.Statement.{statement}
 use Rattle.lent_list.proofs.slot.write.Tie as tie
 
 -- a node by value has 16 address bytes and a key of 32
 held : (s : tie.Start) → IsNode s.args.node
-held s = is-node s.args.node s.well-formed.0.0 s.well-formed.0.1.1
+held s = is_node s.args.node s.well-formed.0.0 s.well-formed.0.1.1
 
 fitting : (s : tie.Start) → Fitting s.args.out.now s.args.node.address s.args.node.key.0 16
 fitting s = let h = s.requires in record { room = h; many = (held s).long; most = omega arith; whole = (held s).key.long }
 
-all-taken : (s : tie.Start) → take 16 s.args.node.address ≡ s.args.node.address
-all-taken s = take_all 16 s.args.node.address (let h = (held s).long in omega arith)
+all_taken : (s : tie.Start) → take 16 s.args.node.address ≡ s.args.node.address
+all_taken s = take_all 16 s.args.node.address (let h = (held s).long in omega arith)
 
 -- all address bytes are copied
 copied : (s : tie.Start) (part new : List ℕ)
     → new ≡ take (length s.args.node.address) s.args.node.address ++ drop (length s.args.node.address) part
     → new ≡ take (length (take 16 s.args.node.address)) (take 16 s.args.node.address) ++ drop (length (take 16 s.args.node.address)) part
-copied s part new e = e ∙ ap (λ (a : List ℕ). take (length a) a ++ drop (length a) part) (sym (all-taken s))
+copied s part new e = e ∙ ap (λ (a : List ℕ). take (length a) a ++ drop (length a) part) (sym (all_taken s))
 
 cast-port : tie.Need-overflow-cast-port
 cast-port c = search rules
@@ -53,7 +53,7 @@ copy-requires : tie.Need-copy-requires
 copy-requires c κs =
     let s = c.before.before.before.before.before.before in
     let a = s.args in
-    let e = lent-address a.out.now a.node.address a.node.key.0 a.node.family 16 a.node.port (fitting s) ∙ ap length (all-taken s) in
+    let e = lent_address a.out.now a.node.address a.node.key.0 a.node.family 16 a.node.port (fitting s) ∙ ap length (all_taken s) in
     omega arith
 
 sub-write-number : tie.Need-overflow-sub-write-number
@@ -67,7 +67,7 @@ part-write-number-end c =
     let s = c.before.before.before.before.before.before.before.before.before in
     let a = s.args in
     let x = c.before.before.copy in
-    let e = length-address a.out.now a.node.address a.node.key.0 a.node.family 16 a.node.port (fitting s) x.new.1.0 (copied s _ _ x.ensures.1) in
+    let e = length_address a.out.now a.node.address a.node.key.0 a.node.family 16 a.node.port (fitting s) x.new.1.0 (copied s _ _ x.ensures.1) in
     let h = s.requires in
     omega arith
 
@@ -86,7 +86,7 @@ part-write-end c =
     let a = s.args in
     let x = c.before.before.before.before.before.before.copy in
     let y = c.before.before.write-number in
-    let e = length-port a.out.now a.node.address a.node.key.0 a.node.family 16 a.node.port (fitting s) x.new.1.0 (copied s _ _ x.ensures.1) y.new.1.0 y.ensures in
+    let e = length_port a.out.now a.node.address a.node.key.0 a.node.family 16 a.node.port (fitting s) x.new.1.0 (copied s _ _ x.ensures.1) y.new.1.0 y.ensures in
     let h = s.requires in
     omega arith
 
@@ -100,19 +100,19 @@ same_length c =
     let x = c.before.before.before.before.before.before.before.before.before.before.copy in
     let y = c.before.before.before.before.before.before.write-number in
     let z = c.before.before.write in
-    ap length (put-key a.out.now a.node.address a.node.key.0 a.node.family 16 a.node.port (fitting s) x.new.1.0 (copied s _ _ x.ensures.1) y.new.1.0 y.ensures z.new.1.0 z.ensures)
-    ∙ parts-fill a.out.now a.node.address a.node.key.0 a.node.family 16 a.node.port (fitting s)
+    ap length (put_key a.out.now a.node.address a.node.key.0 a.node.family 16 a.node.port (fitting s) x.new.1.0 (copied s _ _ x.ensures.1) y.new.1.0 y.ensures z.new.1.0 z.ensures)
+    ∙ parts_fill a.out.now a.node.address a.node.key.0 a.node.family 16 a.node.port (fitting s)
 
 returns : tie.Need-returns
-unfolding slotBytes
+unfolding slot_bytes
 returns c =
     let s = c.before.before.before.before.before.before.before.before.before.before.before.before.before.before.before.before.before in
     let a = s.args in
     let x = c.before.before.before.before.before.before.before.before.before.before.copy in
     let y = c.before.before.before.before.before.before.write-number in
     let z = c.before.before.write in
-    put-key a.out.now a.node.address a.node.key.0 a.node.family 16 a.node.port (fitting s) x.new.1.0 (copied s _ _ x.ensures.1) y.new.1.0 y.ensures z.new.1.0 z.ensures
-    ∙ ap (λ (l : List ℕ). a.node.family ∷ (l ++ (bytes_of 2 a.node.port ++ a.node.key.0))) (all-taken s)
+    put_key a.out.now a.node.address a.node.key.0 a.node.family 16 a.node.port (fitting s) x.new.1.0 (copied s _ _ x.ensures.1) y.new.1.0 y.ensures z.new.1.0 z.ensures
+    ∙ ap (λ (l : List ℕ). a.node.family ∷ (l ++ (bytes_of 2 a.node.port ++ a.node.key.0))) (all_taken s)
 
 pub write_spec : {M : Type 1} → statement M
 write_spec =

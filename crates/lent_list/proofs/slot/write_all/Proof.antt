@@ -6,35 +6,35 @@ use Prim.Native.Nat.{ℕ, ◌+◌, ◌*◌, ◌-◌, ◌<◌, ◌≤◌}
 use native.Mathlib.Omega.{arith}
 use lib.ListN.{length, get_or, take, drop, length-append, length-drop, drop_of_length-le}
 use lib.Seq.{take_all}
-use Rattle.wire.proofs.Copy.{written-part}
+use Rattle.wire.proofs.Copy.{written_part}
 use Rattle.node.specs.declared.Node.{Node}
 use Rattle.nearest.proofs.Front.{no_node}
-use Rattle.lent_list_laws.specs.Layout.{slotBytes, slotsBytes}
-use Rattle.lent_list_laws.proofs.SlotLaws.{slot_lent, slots-more}
+use Rattle.lent_list_laws.specs.Layout.{slot_bytes, slots_bytes}
+use Rattle.lent_list_laws.proofs.SlotLaws.{slot_lent, slots_more}
 use Rattle.lent_list.proofs.slot.write_all.Statement.{statement}
 use Rattle.lent_list.proofs.slot.write_all.Tie as tie
 
 -- one slot more
 one_more : (ns : List Node) (out l new : List ℕ) (i at : ℕ) → i < length ns → length l ≡ length out → at + 51 ≤ length out
-    → l ≡ slotsBytes (take i ns) ++ drop at out → new ≡ slotBytes (get_or ns i no_node)
-    → take at l ++ (new ++ drop (at + 51 - at) (drop at l)) ≡ slotsBytes (take (i + 1) ns) ++ drop (at + 51) out
+    → l ≡ slots_bytes (take i ns) ++ drop at out → new ≡ slot_bytes (get_or ns i no_node)
+    → take at l ++ (new ++ drop (at + 51 - at) (drop at l)) ≡ slots_bytes (take (i + 1) ns) ++ drop (at + 51) out
 one_more ns out l new i at h k room e n =
-    let w = slotsBytes (take i ns) in
+    let w = slots_bytes (take i ns) in
     let long : length w ≡ at = let x = ap length e ∙ length-append w (drop at out) in let y = length-drop at out in omega arith in
     ap (λ (x : List ℕ). take at x ++ (new ++ drop (at + 51 - at) (drop at x))) e
-    ∙ written-part w new out at (at + 51 - at) long
+    ∙ written_part w new out at (at + 51 - at) long
     ∙ ap₂ (λ (x : List ℕ) (p : ℕ). (w ++ x) ++ drop p out) n (let q : at + (at + 51 - at) ≡ at + 51 = omega arith in q)
-    ∙ ap (λ (x : List ℕ). x ++ drop (at + 51) out) (sym (slots-more ns i no_node h))
+    ∙ ap (λ (x : List ℕ). x ++ drop (at + 51) out) (sym (slots_more ns i no_node h))
 
 abbrev invariant-loop : tie.invariant-loop
 invariant-loop out₀ nodes at₀ i₀ out at i =
-    (i ≤ 16) × (at ≡ i * 51) × (length out ≡ length out₀) × (out ≡ slotsBytes (take i nodes) ++ drop at out₀)
+    (i ≤ 16) × (at ≡ i * 51) × (length out ≡ length out₀) × (out ≡ slots_bytes (take i nodes) ++ drop at out₀)
 
 abbrev decreases-loop : tie.decreases-loop
 decreases-loop out₀ nodes at₀ i₀ out at i = 16 - i
 
 loop-holds : tie.Need-loop-init invariant-loop decreases-loop
-unfolding slotsBytes
+unfolding slots_bytes
 loop-holds c = (omega arith, omega arith, refl, refl)
 
 add-end : tie.Need-overflow-add-end invariant-loop decreases-loop
@@ -84,8 +84,8 @@ returns c =
     let l = c.before.loop in
     let a = c.before.before.before.args in
     let e : l.i ≡ 16 = let h = l.invariant.0 in omega arith in
-    l.invariant.3 ∙ ap₂ (λ (x : List Node) (y : List ℕ). slotsBytes x ++ y) (take_all l.i a.t1 (omega arith)) (drop_of_length-le a.out.now {i = l.at} (omega arith))
-    ∙ append-nil (slotsBytes a.t1)
+    l.invariant.3 ∙ ap₂ (λ (x : List Node) (y : List ℕ). slots_bytes x ++ y) (take_all l.i a.t1 (omega arith)) (drop_of_length-le a.out.now {i = l.at} (omega arith))
+    ∙ append-nil (slots_bytes a.t1)
 
 pub write-all-spec : {M : Type 1} → statement M
 write-all-spec =

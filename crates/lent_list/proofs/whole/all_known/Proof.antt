@@ -7,19 +7,19 @@ use mathlib.Core.List.{List}
 use Prim.Native.Nat.{ℕ, ◌+◌, ◌-◌, ◌≤◌}
 use native.Mathlib.Omega.{arith}
 use lib.ListN.{take, drop}
-use Rattle.node.specs.Families.{knownFamily}
-use Rattle.nearest.specs.Lists.{allKnown}
-use Rattle.nearest.proofs.Front.{no_node, front-next, front-end}
-use Rattle.nearest.proofs.Steps.{known-one, known-none}
-use Rattle.lent_list_laws.specs.Layout.{slotsAt}
-use Rattle.lent_list_laws.proofs.SlotLaws.{slots-number}
-use Rattle.lent_list_laws.proofs.PartLaws.{family-in-slot}
+use Rattle.node.specs.Families.{known_family}
+use Rattle.nearest.specs.Lists.{all_known}
+use Rattle.nearest.proofs.Front.{no_node, front_next, front_end}
+use Rattle.nearest.proofs.Steps.{known_one, known_none}
+use Rattle.lent_list_laws.specs.Layout.{slots_at}
+use Rattle.lent_list_laws.proofs.SlotLaws.{slots_number}
+use Rattle.lent_list_laws.proofs.PartLaws.{family_in_slot}
 use Rattle.lent_list.proofs.whole.all_known.Statement.{statement}
 use Rattle.lent_list.proofs.whole.all_known.Tie as tie
 
 -- whether the families of the nodes from `i` on are known
 abbrev rest : List ℕ → ℕ → ℕ → Bool
-rest slots count i = allKnown (drop i (take count (slotsAt 16 slots)))
+rest slots count i = all_known (drop i (take count (slots_at 16 slots)))
 
 abbrev invariant-loop : tie.invariant-loop
 invariant-loop slots count i₀ i = (i ≤ count) × (rest slots count 0 ≡ rest slots count i)
@@ -35,9 +35,9 @@ one_more : (c : tie.After-known invariant-loop decreases-loop) (b : Bool) → c.
 one_more c b e =
     let a = c.before.before.before.before.before.args in
     let l = c.before.before.before.loop in
-    let n = slots-number 16 a.slots.now in
-    l.invariant.1 ∙ ap allKnown (front-next (slotsAt 16 a.slots.now) a.count (omega arith) no_node l.i (omega arith))
-    ∙ known-one _ _ b (ap knownFamily (family-in-slot 16 l.i a.slots.now no_node (omega arith)) ∙ sym c.known.ensures ∙ e)
+    let n = slots_number 16 a.slots.now in
+    l.invariant.1 ∙ ap all_known (front_next (slots_at 16 a.slots.now) a.count (omega arith) no_node l.i (omega arith))
+    ∙ known_one _ _ b (ap known_family (family_in_slot 16 l.i a.slots.now no_node (omega arith)) ∙ sym c.known.ensures ∙ e)
 
 loop-holds : tie.Need-loop-init invariant-loop decreases-loop
 loop-holds c = (omega arith, refl)
@@ -70,8 +70,8 @@ returns-2 : tie.Need-returns-2 invariant-loop decreases-loop
 returns-2 c =
     let l = c.before.loop in
     let a = c.before.before.before.args in
-    let n = slots-number 16 a.slots.now in
-    sym (l.invariant.1 ∙ ap allKnown (front-end (slotsAt 16 a.slots.now) a.count (omega arith) l.i c.loop-test.false) ∙ known-none)
+    let n = slots_number 16 a.slots.now in
+    sym (l.invariant.1 ∙ ap all_known (front_end (slots_at 16 a.slots.now) a.count (omega arith) l.i c.loop-test.false) ∙ known_none)
 
 pub all-known-spec : {M : Type 1} → statement M
 all-known-spec =

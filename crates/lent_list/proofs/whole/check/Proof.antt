@@ -7,47 +7,47 @@ use mathlib.Core.List.{List}
 use Prim.Native.Nat.{ℕ, ◌≤◌}
 use native.Mathlib.Omega.{arith}
 use lib.ListN.{get_or, take, drop}
-use Rattle.nearest.specs.Lists.{held, sizeRight, allKnown, rising}
-use Rattle.nearest.proofs.Judge.{size-bounds, bad-size, too_long, unknown-held, not-rising, passes}
-use Rattle.lent_list_laws.specs.Layout.{slotsAt, listAt}
-use Rattle.lent_list_laws.proofs.ChangeLaws.{slots_of, nodes-there}
+use Rattle.nearest.specs.Lists.{held, size_right, all_known, rising}
+use Rattle.nearest.proofs.Judge.{size_bounds, bad_size, too_long, unknown_held, not_rising, passes}
+use Rattle.lent_list_laws.specs.Layout.{slots_at, list_at}
+use Rattle.lent_list_laws.proofs.ChangeLaws.{slots_of, nodes_there}
 use Rattle.lent_list.proofs.whole.check.Statement.{statement}
 use Rattle.lent_list.proofs.whole.check.Tie as tie
 
 -- the nodes held are those of the slots that are lent
-held-lent : (m : List ℕ) → held (listAt m) ≡ take (get_or m 1 0) (slotsAt 16 (slots_of m))
-unfolding listAt
-held-lent m = ap (take (get_or m 1 0)) (sym (nodes-there m))
+held-lent : (m : List ℕ) → held (list_at m) ≡ take (get_or m 1 0) (slots_at 16 (slots_of m))
+unfolding list_at
+held-lent m = ap (take (get_or m 1 0)) (sym (nodes_there m))
 
 -- what the first test tells of the size
-right : (c : tie.After-size-right) (b : Bool) → c.size-right.result ≡ b → sizeRight (listAt c.before.before.before.args.memory.now).size ≡ b
-unfolding listAt
+right : (c : tie.After-size-right) (b : Bool) → c.size-right.result ≡ b → size_right (list_at c.before.before.before.args.memory.now).size ≡ b
+unfolding list_at
 right c b e = sym c.size-right.ensures ∙ e
 
-sized : (c : tie.Else1) → sizeRight (listAt c.before.before.before.before.args.memory.now).size ≡ true
+sized : (c : tie.Else1) → size_right (list_at c.before.before.before.before.args.memory.now).size ≡ true
 sized c = right c.before true (not-false _ c.if1.false)
 
 -- what the second tells of the count
-within : (c : tie.Else2) → let l = listAt c.before.before.before.before.before.before.args.memory.now in l.count ≤ l.size
-unfolding listAt
+within : (c : tie.Else2) → let l = list_at c.before.before.before.before.before.before.args.memory.now in l.count ≤ l.size
+unfolding list_at
 within c = c.if2.false
 
 few : (c : tie.Else2) → get_or c.before.before.before.before.before.before.args.memory.now 1 0 ≤ 16
-unfolding listAt
-few c = let b = size-bounds _ (sized c.before.before) in let h = within c in omega arith
+unfolding list_at
+few c = let b = size_bounds _ (sized c.before.before) in let h = within c in omega arith
 
 -- what the third tells of the families
 known : (c : tie.After-all-known) (b : Bool) → c.all_known.result ≡ b
-    → allKnown (held (listAt c.before.before.before.before.before.before.before.before.args.memory.now)) ≡ b
-known c b e = ap allKnown (held-lent _) ∙ sym c.all_known.ensures ∙ e
+    → all_known (held (list_at c.before.before.before.before.before.before.before.before.args.memory.now)) ≡ b
+known c b e = ap all_known (held-lent _) ∙ sym c.all_known.ensures ∙ e
 
-all_known : (c : tie.Else3) → allKnown (held (listAt c.before.before.before.before.before.before.before.before.before.args.memory.now)) ≡ true
+all_known : (c : tie.Else3) → all_known (held (list_at c.before.before.before.before.before.before.before.before.before.args.memory.now)) ≡ true
 all_known c = known c.before true (not-false _ c.if3.false)
 
 -- what the fourth tells of the order
 rises : (c : tie.After-rising) (b : Bool) → c.rising.result ≡ b
-    → let l = listAt c.before.before.before.before.before.before.before.before.before.before.before.args.memory.now in rising l.target.0 (held l) ≡ b
-unfolding listAt
+    → let l = list_at c.before.before.before.before.before.before.before.before.before.before.before.args.memory.now in rising l.target.0 (held l) ≡ b
+unfolding list_at
 rises c b e =
     let m = c.before.before.before.before.before.before.before.before.before.before.before.args.memory.now in
     ap (rising (take 32 (drop 2 m))) (held-lent m) ∙ sym c.rising.ensures ∙ e
@@ -62,7 +62,7 @@ size-right-requires : tie.Need-size-right-requires
 size-right-requires c κs = search rules
 
 returns : tie.Need-returns
-returns c = bad-size _ (right c.before false (not-true _ c.if1.true))
+returns c = bad_size _ (right c.before false (not-true _ c.if1.true))
 
 shared-slice-read-count : tie.Need-shared-slice-read-count
 shared-slice-read-count c = search rules
@@ -71,7 +71,7 @@ cast-count : tie.Need-overflow-cast-count
 cast-count c = omega (arith, c.shared-slice-known3.given 1)
 
 returns-2 : tie.Need-returns-2
-unfolding listAt
+unfolding list_at
 returns-2 c = too_long _ (sized c.before.before) c.if2.true
 
 sub-slots : tie.Need-overflow-sub-slots
@@ -89,7 +89,7 @@ all-known-requires c κs = (search rules, few c.before)
 returns-3 : tie.Need-returns-3
 returns-3 c =
     let d = c.before.before.before in
-    unknown-held _ (sized d.before.before) (within d) (known c.before false (not-true _ c.if3.true))
+    unknown_held _ (sized d.before.before) (within d) (known c.before false (not-true _ c.if3.true))
 
 sub-rising : tie.Need-overflow-sub-rising
 sub-rising c = search rules
@@ -107,7 +107,7 @@ returns-4 : tie.Need-returns-4
 returns-4 c =
     let f = c.before.before.before in
     let d = f.before.before.before in
-    not-rising _ (sized d.before.before) (within d) (all_known f) (rises c.before false (not-true _ c.if4.true))
+    not_rising _ (sized d.before.before) (within d) (all_known f) (rises c.before false (not-true _ c.if4.true))
 
 returns-5 : tie.Need-returns-5
 returns-5 c =

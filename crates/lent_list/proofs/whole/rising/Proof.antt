@@ -7,22 +7,22 @@ use mathlib.Core.List.{List}
 use Prim.Native.Nat.{ℕ, ◌+◌, ◌-◌, ◌<◌, ◌≤◌}
 use native.Mathlib.Omega.{arith}
 use lib.ListN.{get_or, take, drop}
-use Rattle.key.proofs.Lent.{key-itself}
-use Rattle.nearest.specs.Lists.{rising, risingAfter}
-use Rattle.nearest.proofs.Front.{no_node, front-next, front-end}
-use Rattle.nearest.proofs.Steps.{rising_none, rising-one, after_none, after_one}
-use Rattle.lent_list_laws.specs.Layout.{slotsAt}
-use Rattle.lent_list_laws.proofs.SlotLaws.{slots-number}
-use Rattle.lent_list_laws.proofs.PartLaws.{key-lent}
+use Rattle.key.proofs.Lent.{key_itself}
+use Rattle.nearest.specs.Lists.{rising, rising_after}
+use Rattle.nearest.proofs.Front.{no_node, front_next, front_end}
+use Rattle.nearest.proofs.Steps.{rising_none, rising_one, after_none, after_one}
+use Rattle.lent_list_laws.specs.Layout.{slots_at}
+use Rattle.lent_list_laws.proofs.SlotLaws.{slots_number}
+use Rattle.lent_list_laws.proofs.PartLaws.{key_lent}
 use Rattle.lent_list.proofs.whole.rising.Statement.{statement}
 use Rattle.lent_list.proofs.whole.rising.Tie as tie
 
 -- whether the nodes from `i` on rise after the node at `last`
 abbrev after : List ℕ → List ℕ → ℕ → ℕ → ℕ → Bool
-after target slots count last i = risingAfter target (get_or (slotsAt 16 slots) last no_node) (drop i (take count (slotsAt 16 slots)))
+after target slots count last i = rising_after target (get_or (slots_at 16 slots) last no_node) (drop i (take count (slots_at 16 slots)))
 
 abbrev invariant-loop : tie.invariant-loop
-invariant-loop target slots count i₀ i = (0 < i) × (i ≤ count) × (rising target (take count (slotsAt 16 slots)) ≡ after target slots count (i - 1) i)
+invariant-loop target slots count i₀ i = (0 < i) × (i ≤ count) × (rising target (take count (slots_at 16 slots)) ≡ after target slots count (i - 1) i)
 
 abbrev decreases-loop : tie.decreases-loop
 decreases-loop target slots count i₀ i = count - i
@@ -31,30 +31,30 @@ decreases-loop target slots count i₀ i = count - i
 one_more : (c : tie.After-nearer invariant-loop decreases-loop) (b : Bool) → c.nearer.result ≡ b →
     let a = c.before.before.before.before.before.before.before.before.args in
     let i = c.before.before.before.before.loop.i in
-    rising a.target.now (take a.count (slotsAt 16 a.slots.now)) ≡ (b && after a.target.now a.slots.now a.count i (i + 1))
+    rising a.target.now (take a.count (slots_at 16 a.slots.now)) ≡ (b && after a.target.now a.slots.now a.count i (i + 1))
 one_more c b e =
     let s = c.before.before.before.before.before.before.before.before in
     let a = s.args in
     let l = c.before.before.before.before.loop in
-    let n = slots-number 16 a.slots.now in
-    let t = key-itself a.target.now s.requires.0 in
-    let p = key-lent 16 (l.i - 1) a.slots.now no_node (omega arith) (omega arith) c.before.before.key-at.result.now c.before.before.key-at.ensures in
-    let q = key-lent 16 l.i a.slots.now no_node (omega arith) (omega arith) c.before.key-at2.result.now c.before.key-at2.ensures in
+    let n = slots_number 16 a.slots.now in
+    let t = key_itself a.target.now s.requires.0 in
+    let p = key_lent 16 (l.i - 1) a.slots.now no_node (omega arith) (omega arith) c.before.before.key-at.result.now c.before.before.key-at.ensures in
+    let q = key_lent 16 l.i a.slots.now no_node (omega arith) (omega arith) c.before.key-at2.result.now c.before.key-at2.ensures in
     l.invariant.2
-    ∙ ap (risingAfter a.target.now (get_or (slotsAt 16 a.slots.now) (l.i - 1) no_node))
-    (front-next (slotsAt 16 a.slots.now) a.count (omega arith) no_node l.i (omega arith))
+    ∙ ap (rising_after a.target.now (get_or (slots_at 16 a.slots.now) (l.i - 1) no_node))
+    (front_next (slots_at 16 a.slots.now) a.count (omega arith) no_node l.i (omega arith))
     ∙ after_one a.target.now _ _ _ b (cc c.nearer.ensures.answers)
 
 returns : tie.Need-returns invariant-loop decreases-loop
 returns c =
     let a = c.before.before.before.args in
-    sym (ap (λ (n : ℕ). rising a.target.now (take n (slotsAt 16 a.slots.now))) c.if1.true ∙ rising_none a.target.now)
+    sym (ap (λ (n : ℕ). rising a.target.now (take n (slots_at 16 a.slots.now))) c.if1.true ∙ rising_none a.target.now)
 
 loop-holds : tie.Need-loop-init invariant-loop decreases-loop
 loop-holds c =
     let a = c.before.before.before.args in
-    let n = slots-number 16 a.slots.now in
-    (omega arith, omega arith, ap (rising a.target.now) (front-next (slotsAt 16 a.slots.now) a.count (omega arith) no_node 0 (omega arith)) ∙ rising-one a.target.now _ _)
+    let n = slots_number 16 a.slots.now in
+    (omega arith, omega arith, ap (rising a.target.now) (front_next (slots_at 16 a.slots.now) a.count (omega arith) no_node 0 (omega arith)) ∙ rising_one a.target.now _ _)
 
 sub-key-at : tie.Need-overflow-sub-key-at invariant-loop decreases-loop
 sub-key-at c = search rules
@@ -87,9 +87,9 @@ returns-3 : tie.Need-returns-3 invariant-loop decreases-loop
 returns-3 c =
     let l = c.before.loop in
     let a = c.before.before.before.before.before.args in
-    let n = slots-number 16 a.slots.now in
+    let n = slots_number 16 a.slots.now in
     sym (l.invariant.2
-    ∙ ap (risingAfter a.target.now (get_or (slotsAt 16 a.slots.now) (l.i - 1) no_node)) (front-end (slotsAt 16 a.slots.now) a.count (omega arith) l.i c.loop-test.false)
+    ∙ ap (rising_after a.target.now (get_or (slots_at 16 a.slots.now) (l.i - 1) no_node)) (front_end (slots_at 16 a.slots.now) a.count (omega arith) l.i c.loop-test.false)
     ∙ after_none a.target.now _)
 
 pub rising-spec : {M : Type 1} → statement M

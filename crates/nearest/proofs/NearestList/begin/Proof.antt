@@ -9,19 +9,19 @@ use Rattle.refusal.specs.declared.Refusal.TheVariants.{ListSize}
 use Rattle.nearest.specs.declared.NearestList.{NearestList}
 use Rattle.nearest.specs.declared.Answer.TheVariants.{Done, Refused}
 use Rattle.nearest.specs.declared.Begun.{Begun}
-use Rattle.nearest.specs.Lists.{emptyOf, sizeRight}
+use Rattle.nearest.specs.Lists.{empty_of, size_right}
 use Rattle.nearest.specs.Calls.{begun}
 use Rattle.nearest.proofs.NearestList.begin.Statement.{statement}
 use Rattle.nearest.proofs.NearestList.begin.Tie as tie
 
 module _ (t : Key) (size : ℕ) where
-  bad : (l : NearestList) → l ≡ emptyOf t 8 → sizeRight size ≡ false → ◌≡◌ {A = Begun} (record { list = l; answer = Refused ListSize }) (begun t size)
+  bad : (l : NearestList) → l ≡ empty_of t 8 → size_right size ≡ false → ◌≡◌ {A = Begun} (record { list = l; answer = Refused ListSize }) (begun t size)
   unfolding begun
   bad l e h = simp (h, e)
 
-  good : (l : NearestList) → l ≡ emptyOf t 8 → sizeRight size ≡ true
+  good : (l : NearestList) → l ≡ empty_of t 8 → size_right size ≡ true
       → ◌≡◌ {A = Begun} (record { list = record { target = l.target; size = size; count = l.count; nodes = l.nodes }; answer = Done }) (begun t size)
-  unfolding begun emptyOf
+  unfolding begun empty_of
   good l e h = simp (h, e)
 
 empty-requires : tie.Need-empty-requires

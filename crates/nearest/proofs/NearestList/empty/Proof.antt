@@ -3,7 +3,7 @@ use borrow.Author.Rules.{rules}
 use mathlib.Core.Path.{ap}
 use lib.ListN.{replicate}
 use Rattle.node.specs.declared.Node.{Node}
-use Rattle.nearest.specs.Lists.{emptyOf}
+use Rattle.nearest.specs.Lists.{empty_of}
 use Rattle.nearest.proofs.NearestList.empty.Statement.{statement}
 use Rattle.nearest.proofs.NearestList.empty.Tie as tie
 
@@ -11,7 +11,7 @@ blank-requires : tie.Need-blank-requires
 blank-requires c κs = search rules
 
 returns : tie.Need-returns
-unfolding emptyOf
+unfolding empty_of
 returns c = ap (λ (n : Node). record { target = c.before.args.target; size = 8; count = 0; nodes = replicate 16 n }) c.blank.ensures
 
 pub empty-spec : {M : Type 1} → statement M

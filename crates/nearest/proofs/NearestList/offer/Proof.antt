@@ -7,16 +7,16 @@ use mathlib.Core.Logic.{◌⊎◌, inl, inr, ⊎_elim}
 use Prim.Native.Nat.{◌≤◌}
 use native.Mathlib.Omega.{arith}
 use lib.ListN.{get_or, length-map}
-use Rattle.key.specs.Keys.{sameKey}
-use Rattle.key.proofs.Owned.{each-byte}
+use Rattle.key.specs.Keys.{same_key}
+use Rattle.key.proofs.Owned.{each_byte}
 use Rattle.node.specs.declared.Node.{Node}
 use Rattle.nearest.specs.declared.NearestList.{NearestList}
-use Rattle.nearest.specs.Lists.{nodeKey}
+use Rattle.nearest.specs.Lists.{node_key}
 use Rattle.nearest.proofs.Front.{no_node}
 use Rattle.nearest.proofs.Members.{in_take}
 use Rattle.nearest.proofs.Judge.{whole}
-use Rattle.nearest.proofs.Owned.{each-key}
-use Rattle.nearest.proofs.OfferLaws.{AtPlace, count_small, place-within, offer-refused, offer-unknown, offer-replaced, offer-added, offer-put-out, offer-too-far}
+use Rattle.nearest.proofs.Owned.{each_key}
+use Rattle.nearest.proofs.OfferLaws.{AtPlace, count_small, place_within, offer_refused, offer_unknown, offer_replaced, offer_added, offer_put_out, offer_too_far}
 use Rattle.nearest.proofs.NearestList.offer.Statement.{statement}
 use Rattle.nearest.proofs.NearestList.offer.Tie as tie
 
@@ -37,9 +37,9 @@ module _ (c : tie.After-place) where
         stands = sym c.before.before.before.before.before.before.before.before.check.ensures ∙ c.before.before.before.before.before.before.enum_told.given.1;
         family = sym c.before.before.before.before.before.known.ensures ∙ not-false _ c.before.before.before.before.if1.false;
         slots = sym (length-map list.nodes _) ∙ g.1.0.1;
-        target-key = record { long = sym (length-map list.target.0 _) ∙ t.1.0.1; bytes = each-byte list.target.0 t.0 t.1.1 };
-        new-key = record { long = sym (length-map (nodeKey new) _) ∙ k.1.0.1; bytes = each-byte (nodeKey new) k.0 k.1.1 };
-        held-keys = λ x i. each-key list.nodes g.0 g.1.1 x (in_take list.count list.nodes x i);
+        target_key = record { long = sym (length-map list.target.0 _) ∙ t.1.0.1; bytes = each_byte list.target.0 t.0 t.1.1 };
+        new_key = record { long = sym (length-map (node_key new) _) ∙ k.1.0.1; bytes = each_byte (node_key new) k.0 k.1.1 };
+        held_keys = λ x i. each_key list.nodes g.0 g.1.1 x (in_take list.count list.nodes x i);
         place = c.place.ensures;
       }
 
@@ -48,7 +48,7 @@ module _ (c : tie.After-place) where
 
 -- the key does not stand at the place
 fresh : (c : tie.Joined2) → ((list c.before).count ≤ c.before.place.result)
-    ⊎ (sameKey (nodeKey (get_or (list c.before).nodes c.before.place.result no_node)) (nodeKey (new c.before)) ≡ false)
+    ⊎ (same_key (node_key (get_or (list c.before).nodes c.before.place.result no_node)) (node_key (new c.before)) ≡ false)
 fresh c = ⊎_elim (λ w. inr (sym w.3.ensures ∙ w.4.left)) (λ w. inl w.left) c.if2.branch
 
 check-requires : tie.Need-check-requires
@@ -59,7 +59,7 @@ enum-known-standing c = search rules
 
 returns : tie.Need-returns
 returns c =
-    offer-refused _ c.before.before.before.before.args.node _ (sym c.before.before.before.check.ensures ∙ c.before.standing.given.1)
+    offer_refused _ c.before.before.before.before.args.node _ (sym c.before.before.before.check.ensures ∙ c.before.standing.given.1)
 
 enum_told : tie.Need-enum-told
 enum_told c = search rules
@@ -69,7 +69,7 @@ known-requires c κs = search rules
 
 returns-2 : tie.Need-returns-2
 returns-2 c =
-    offer-unknown _ c.before.before.before.before.before.args.node (sym c.before.before.before.before.check.ensures ∙ c.before.before.enum_told.given.1)
+    offer_unknown _ c.before.before.before.before.before.args.node (sym c.before.before.before.before.check.ensures ∙ c.before.before.enum_told.given.1)
     (sym c.before.known.ensures ∙ not-true _ c.if1.true)
 
 place-requires : tie.Need-place-requires
@@ -103,7 +103,7 @@ element-set-from-node c =
 returns-3 : tie.Need-returns-3
 returns-3 c =
     let p = c.before.before.before.before.before in
-    offer-replaced (list p) (new p) _ (at p) c.before.before.before.before.if2.true (sym c.before.equals.ensures ∙ c.if3.true)
+    offer_replaced (list p) (new p) _ (at p) c.before.before.before.before.if2.true (sym c.before.equals.ensures ∙ c.if3.true)
 
 open-at-requires : tie.Need-open-at-requires
 open-at-requires c κs =
@@ -111,7 +111,7 @@ open-at-requires c κs =
     let w = whole (list p) (at p).stands in
     let b = w.small in
     let d = c.if4.true in
-    (place-within (list p) (new p) _ (at p), omega arith)
+    (place_within (list p) (new p) _ (at p), omega arith)
 
 add-self : tie.Need-overflow-add-self
 add-self c = search rules
@@ -120,7 +120,7 @@ returns-4 : tie.Need-returns-4
 returns-4 c =
     let j = c.before.before in
     let p = j.before in
-    offer-added (list p) (new p) _ (at p) (fresh j) c.before.if4.true _ c.open_at.ensures
+    offer_added (list p) (new p) _ (at p) (fresh j) c.before.if4.true _ c.open_at.ensures
 
 sub-open-at : tie.Need-overflow-sub-open-at
 sub-open-at c = search rules
@@ -132,13 +132,13 @@ returns-5 : tie.Need-returns-5
 returns-5 c =
     let j = c.before.before.before in
     let p = j.before in
-    offer-put-out (list p) (new p) _ (at p) (fresh j) c.before.before.if4.false c.before.if5.true _ c.open-at2.ensures
+    offer_put_out (list p) (new p) _ (at p) (fresh j) c.before.before.if4.false c.before.if5.true _ c.open-at2.ensures
 
 returns-6 : tie.Need-returns-6
 returns-6 c =
     let j = c.before.before in
     let p = j.before in
-    offer-too-far (list p) (new p) _ (at p) (fresh j) c.before.if4.false c.if5.false
+    offer_too_far (list p) (new p) _ (at p) (fresh j) c.before.if4.false c.if5.false
 
 pub offer-spec : {M : Type 1} → statement M
 offer-spec =

@@ -8,7 +8,7 @@ use Rattle.nearest.specs.declared.NearestList.{NearestList}
 use Rattle.nearest.specs.declared.Answer.TheVariants.{Done}
 use Rattle.nearest.specs.Calls.{checked}
 use Rattle.nearest.proofs.Judge.{whole}
-use Rattle.nearest.proofs.RemoveLaws.{remove-refused, remove-not-held, remove-done}
+use Rattle.nearest.proofs.RemoveLaws.{remove_refused, remove_not_held, remove_done}
 use Rattle.nearest.proofs.NearestList.remove.Statement.{statement}
 use Rattle.nearest.proofs.NearestList.remove.Tie as tie
 
@@ -34,7 +34,7 @@ enum-known-standing c = search rules
 
 returns : tie.Need-returns
 returns c =
-    remove-refused _ c.before.before.before.before.args.key _ (sym c.before.before.before.check.ensures ∙ c.before.standing.given.1)
+    remove_refused _ c.before.before.before.before.args.key _ (sym c.before.before.before.check.ensures ∙ c.before.standing.given.1)
 
 enum_told : tie.Need-enum-told
 enum_told c = search rules
@@ -49,7 +49,7 @@ find-requires c κs =
 returns-2 : tie.Need-returns-2
 returns-2 c =
     let f = c.before in
-    remove-not-held (list f) (key f) (stands f) (slots f) f.find.result f.find.ensures c.if1.true
+    remove_not_held (list f) (key f) (stands f) (slots f) f.find.result f.find.ensures c.if1.true
 
 sub-close-at : tie.Need-overflow-sub-close-at
 sub-close-at c = search rules
@@ -67,7 +67,7 @@ sub_self c = search rules
 returns-3 : tie.Need-returns-3
 returns-3 c =
     let f = c.before.before in
-    remove-done (list f) (key f) (stands f) (slots f) f.find.result f.find.ensures c.before.if1.false _ c.close_at.ensures
+    remove_done (list f) (key f) (stands f) (slots f) f.find.result f.find.ensures c.before.if1.false _ c.close_at.ensures
 
 pub remove-spec : {M : Type 1} → statement M
 remove-spec =

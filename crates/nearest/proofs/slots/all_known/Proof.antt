@@ -6,14 +6,14 @@ use mathlib.Core.Bool.{true, false}
 use Prim.Native.Nat.{◌-◌, ◌≤◌}
 use native.Mathlib.Omega.{arith}
 use lib.ListN.{length, take, drop}
-use Rattle.nearest.specs.Lists.{allKnown}
-use Rattle.nearest.proofs.Front.{front-next, front-end}
-use Rattle.nearest.proofs.Steps.{known-one, known-none}
+use Rattle.nearest.specs.Lists.{all_known}
+use Rattle.nearest.proofs.Front.{front_next, front_end}
+use Rattle.nearest.proofs.Steps.{known_one, known_none}
 use Rattle.nearest.proofs.slots.all_known.Statement.{statement}
 use Rattle.nearest.proofs.slots.all_known.Tie as tie
 
 abbrev invariant-loop : tie.invariant-loop
-invariant-loop count nodes i₀ i = (i ≤ count) × (allKnown (take count nodes) ≡ allKnown (drop i (take count nodes)))
+invariant-loop count nodes i₀ i = (i ≤ count) × (all_known (take count nodes) ≡ all_known (drop i (take count nodes)))
 
 abbrev decreases-loop : tie.decreases-loop
 decreases-loop count nodes i₀ i = count - i
@@ -35,8 +35,8 @@ returns c =
     let l = c.before.before.before.before.loop in
     let s = c.before.before.before.before.before in
     let h : s.args.count ≤ length s.args.t1 = omega arith in
-    sym (l.invariant.1 ∙ ap allKnown (front-next s.args.t1 s.args.count h _ l.i c.before.before.before.loop-test.true)
-    ∙ known-one _ _ false (sym c.before.known.ensures ∙ not-true _ c.if1.true))
+    sym (l.invariant.1 ∙ ap all_known (front_next s.args.t1 s.args.count h _ l.i c.before.before.before.loop-test.true)
+    ∙ known_one _ _ false (sym c.before.known.ensures ∙ not-true _ c.if1.true))
 
 add-i : tie.Need-overflow-add-i invariant-loop decreases-loop
 add-i c = search rules
@@ -50,8 +50,8 @@ loop-again c =
     let s = c.before.before.before.before.before in
     let h : s.args.count ≤ length s.args.t1 = omega arith in (
       omega arith,
-      l.invariant.1 ∙ ap allKnown (front-next s.args.t1 s.args.count h _ l.i c.before.before.before.loop-test.true)
-          ∙ known-one _ _ true (sym c.before.known.ensures ∙ not-false _ c.if1.false),
+      l.invariant.1 ∙ ap all_known (front_next s.args.t1 s.args.count h _ l.i c.before.before.before.loop-test.true)
+          ∙ known_one _ _ true (sym c.before.known.ensures ∙ not-false _ c.if1.false),
     )
 
 returns-2 : tie.Need-returns-2 invariant-loop decreases-loop
@@ -59,7 +59,7 @@ returns-2 c =
     let l = c.before.loop in
     let s = c.before.before in
     let h : s.args.count ≤ length s.args.t1 = omega arith in
-    sym (l.invariant.1 ∙ ap allKnown (front-end s.args.t1 s.args.count h l.i c.loop-test.false) ∙ known-none)
+    sym (l.invariant.1 ∙ ap all_known (front_end s.args.t1 s.args.count h l.i c.loop-test.false) ∙ known_none)
 
 pub all-known-spec : {M : Type 1} → statement M
 all-known-spec =

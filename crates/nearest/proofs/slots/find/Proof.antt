@@ -6,8 +6,8 @@ use Prim.Native.Nat.{◌+◌, ◌-◌, ◌≤◌}
 use native.Mathlib.Omega.{arith}
 use lib.ListN.{length, take, drop}
 use Rattle.nearest.specs.Slots.{index_of}
-use Rattle.nearest.proofs.Front.{front-next, front-end}
-use Rattle.nearest.proofs.Steps.{index-one, index-none}
+use Rattle.nearest.proofs.Front.{front_next, front_end}
+use Rattle.nearest.proofs.Steps.{index_one, index_none}
 use Rattle.nearest.proofs.slots.find.Statement.{statement}
 use Rattle.nearest.proofs.slots.find.Tie as tie
 
@@ -34,8 +34,8 @@ returns c =
     let l = c.before.before.before.before.before.loop in
     let s = c.before.before.before.before.before.before in
     let h : s.args.count ≤ length s.args.t1 = omega arith in
-    let e = ap (index_of s.args.key.0) (front-next s.args.t1 s.args.count h _ l.i c.before.before.before.before.loop-test.true)
-    ∙ index-one s.args.key.0 _ _ true (sym c.before.equals.ensures ∙ c.if1.true) in
+    let e = ap (index_of s.args.key.0) (front_next s.args.t1 s.args.count h _ l.i c.before.before.before.before.loop-test.true)
+    ∙ index_one s.args.key.0 _ _ true (sym c.before.equals.ensures ∙ c.if1.true) in
     let i = l.invariant.1 in
     omega arith
 
@@ -50,8 +50,8 @@ loop-again c =
     let l = c.before.before.before.before.before.loop in
     let s = c.before.before.before.before.before.before in
     let h : s.args.count ≤ length s.args.t1 = omega arith in
-    let e = ap (index_of s.args.key.0) (front-next s.args.t1 s.args.count h _ l.i c.before.before.before.before.loop-test.true)
-    ∙ index-one s.args.key.0 _ _ false (sym c.before.equals.ensures ∙ c.if1.false) in
+    let e = ap (index_of s.args.key.0) (front_next s.args.t1 s.args.count h _ l.i c.before.before.before.before.loop-test.true)
+    ∙ index_one s.args.key.0 _ _ false (sym c.before.equals.ensures ∙ c.if1.false) in
     let i = l.invariant.1 in
     (omega arith, omega arith)
 
@@ -60,7 +60,7 @@ returns-2 c =
     let l = c.before.loop in
     let s = c.before.before in
     let h : s.args.count ≤ length s.args.t1 = omega arith in
-    let e = ap (index_of s.args.key.0) (front-end s.args.t1 s.args.count h l.i c.loop-test.false) ∙ index-none s.args.key.0 in
+    let e = ap (index_of s.args.key.0) (front_end s.args.t1 s.args.count h l.i c.loop-test.false) ∙ index_none s.args.key.0 in
     let i = l.invariant.1 in
     omega arith
 

@@ -6,8 +6,8 @@ use mathlib.Core.List.{List, ◌++◌}
 use Prim.Native.Nat.{ℕ, ◌+◌, ◌-◌, ◌<◌, ◌≤◌}
 use native.Mathlib.Omega.{arith}
 use lib.ListN.{length, get_or, take, drop, set}
-use Rattle.lists.specs.Insert.{insertAt}
-use Rattle.lists.proofs.Shift.{at_in, open-begins, open-stored, open-carried}
+use Rattle.lists.specs.Insert.{insert_at}
+use Rattle.lists.proofs.Shift.{at_in, open_begins, open_stored, open_carried}
 use Rattle.node.specs.declared.Node.{Node}
 use Rattle.nearest.proofs.Front.{no_node}
 use Rattle.nearest.proofs.slots.open_at.Statement.{statement}
@@ -15,7 +15,7 @@ use Rattle.nearest.proofs.slots.open_at.Tie as tie
 
 abbrev invariant-loop : tie.invariant-loop
 invariant-loop place last out₀ carried₀ i₀ out carried i =
-    (place ≤ i) × (i ≤ last + 1) × (out ≡ take i (insertAt place carried₀ out₀) ++ drop i out₀) × (carried ≡ get_or (insertAt place carried₀ out₀) i no_node)
+    (place ≤ i) × (i ≤ last + 1) × (out ≡ take i (insert_at place carried₀ out₀) ++ drop i out₀) × (carried ≡ get_or (insert_at place carried₀ out₀) i no_node)
 
 abbrev decreases-loop : tie.decreases-loop
 decreases-loop place last out₀ carried₀ i₀ out carried i = last + 1 - i
@@ -26,7 +26,7 @@ loop-holds c =
     let h : a.place ≤ length a.nodes = omega arith in (
       omega arith,
       omega arith,
-      open-begins a.place a.node a.nodes h,
+      open_begins a.place a.node a.nodes h,
       sym (at_in a.place a.node a.nodes no_node h),
     )
 
@@ -56,8 +56,8 @@ loop-again c =
       omega arith,
       omega arith,
       ap₂ (λ (x : List Node) (y : Node). set x l.i y) l.invariant.2 l.invariant.3
-          ∙ open-stored a.place a.node a.nodes no_node l.i l.invariant.0 h,
-      ap (λ (x : List Node). get_or x l.i no_node) l.invariant.2 ∙ open-carried a.place a.node a.nodes no_node l.i l.invariant.0 h,
+          ∙ open_stored a.place a.node a.nodes no_node l.i l.invariant.0 h,
+      ap (λ (x : List Node). get_or x l.i no_node) l.invariant.2 ∙ open_carried a.place a.node a.nodes no_node l.i l.invariant.0 h,
     )
 
 returns : tie.Need-returns invariant-loop decreases-loop
@@ -65,7 +65,7 @@ returns c =
     let l = c.before.loop in
     let a = c.before.before.args in
     let k : l.i ≡ a.last + 1 = let i = l.invariant.1 in omega arith in
-    l.invariant.2 ∙ ap (λ (x : ℕ). take x (insertAt a.place a.node a.nodes) ++ drop x a.nodes) k
+    l.invariant.2 ∙ ap (λ (x : ℕ). take x (insert_at a.place a.node a.nodes) ++ drop x a.nodes) k
 
 pub open-at-spec : {M : Type 1} → statement M
 open-at-spec =

@@ -7,8 +7,8 @@ use Prim.Native.Nat.{◌+◌, ◌-◌, ◌≤◌}
 use native.Mathlib.Omega.{arith}
 use lib.ListN.{length, take, drop}
 use Rattle.nearest.specs.Slots.{position}
-use Rattle.nearest.proofs.Front.{front-next, front-end}
-use Rattle.nearest.proofs.Steps.{position-one, position-none}
+use Rattle.nearest.proofs.Front.{front_next, front_end}
+use Rattle.nearest.proofs.Steps.{position_one, position_none}
 use Rattle.nearest.proofs.slots.place.Statement.{statement}
 use Rattle.nearest.proofs.slots.place.Tie as tie
 
@@ -35,8 +35,8 @@ returns c =
     let l = c.before.before.before.before.before.loop in
     let s = c.before.before.before.before.before.before in
     let h : s.args.count ≤ length s.args.t2 = omega arith in
-    let e = ap (position s.args.target.0 s.args.key.0) (front-next s.args.t2 s.args.count h _ l.i c.before.before.before.before.loop-test.true)
-    ∙ position-one s.args.target.0 s.args.key.0 _ _ false (sym c.before.nearer.ensures.answers ∙ not-true _ c.if1.true) in
+    let e = ap (position s.args.target.0 s.args.key.0) (front_next s.args.t2 s.args.count h _ l.i c.before.before.before.before.loop-test.true)
+    ∙ position_one s.args.target.0 s.args.key.0 _ _ false (sym c.before.nearer.ensures.answers ∙ not-true _ c.if1.true) in
     let i = l.invariant.1 in
     omega arith
 
@@ -51,8 +51,8 @@ loop-again c =
     let l = c.before.before.before.before.before.loop in
     let s = c.before.before.before.before.before.before in
     let h : s.args.count ≤ length s.args.t2 = omega arith in
-    let e = ap (position s.args.target.0 s.args.key.0) (front-next s.args.t2 s.args.count h _ l.i c.before.before.before.before.loop-test.true)
-    ∙ position-one s.args.target.0 s.args.key.0 _ _ true (sym c.before.nearer.ensures.answers ∙ not-false _ c.if1.false) in
+    let e = ap (position s.args.target.0 s.args.key.0) (front_next s.args.t2 s.args.count h _ l.i c.before.before.before.before.loop-test.true)
+    ∙ position_one s.args.target.0 s.args.key.0 _ _ true (sym c.before.nearer.ensures.answers ∙ not-false _ c.if1.false) in
     let i = l.invariant.1 in
     (omega arith, omega arith)
 
@@ -61,7 +61,7 @@ returns-2 c =
     let l = c.before.loop in
     let s = c.before.before in
     let h : s.args.count ≤ length s.args.t2 = omega arith in
-    let e = ap (position s.args.target.0 s.args.key.0) (front-end s.args.t2 s.args.count h l.i c.loop-test.false) ∙ position-none s.args.target.0 s.args.key.0 in
+    let e = ap (position s.args.target.0 s.args.key.0) (front_end s.args.t2 s.args.count h l.i c.loop-test.false) ∙ position_none s.args.target.0 s.args.key.0 in
     let i = l.invariant.1 in
     omega arith
 

@@ -7,10 +7,10 @@ use Prim.Native.Nat.{ℕ, ◌+◌, ◌≤◌}
 use native.Mathlib.Omega.{arith}
 use lib.ListN.{length, get_or, drop}
 use Rattle.node.specs.declared.reader.Found.TheVariants as found
-use Rattle.node.specs.Families.{packedLength}
+use Rattle.node.specs.Families.{packed_length}
 use Rattle.node.specs.Nodes.{node_of}
 use Rattle.node.specs.Values.{value_of}
-use Rattle.node.proofs.ReadLaws.{reads_nothing, from-part, left-long, reads-unknown, reads-cut, reads_whole}
+use Rattle.node.proofs.ReadLaws.{reads_nothing, from_part, left_long, reads_unknown, reads_cut, reads_whole}
 use Rattle.node.proofs.reader.read.Statement.{statement}
 use Rattle.node.proofs.reader.read.Tie as tie
 
@@ -32,7 +32,7 @@ refused-requires-2 c κs = search rules
 returns-2 : tie.Need-returns-2
 returns-2 c =
     let a = c.before.before.before.before.before.before.args in
-    reads-unknown a.bytes.now a.at c.refused2.result c.before.before.before.before.if1.false
+    reads_unknown a.bytes.now a.at c.refused2.result c.before.before.before.before.if1.false
     (sym c.before.before.known.ensures ∙ not-true _ c.before.if2.true) c.refused2.ensures
 
 packed-length-requires : tie.Need-packed-length-requires
@@ -47,8 +47,8 @@ refused-requires-3 c κs = search rules
 returns-3 : tie.Need-returns-3
 returns-3 c =
     let a = c.before.before.before.before.before.before.before.before.args in
-    let e = c.before.before.packed-length.ensures in
-    reads-cut a.bytes.now a.at c.refused3.result c.before.before.before.before.before.before.if1.false
+    let e = c.before.before.packed_length.ensures in
+    reads_cut a.bytes.now a.at c.refused3.result c.before.before.before.before.before.before.if1.false
     (sym c.before.before.before.before.known.ensures ∙ not-false _ c.before.before.before.if2.false) (omega arith) c.refused3.ensures
 
 add-t5 : tie.Need-overflow-add-t5
@@ -68,18 +68,18 @@ unpacked-requires c κs =
     let a = c.before.before.before.before.before.before.before.before.args in
     let b = a.bytes.now in
     let h = c.before.before.before.before.before.before.if1.false in
-    let e = c.before.before.packed-length.ensures in
-    let l = left-long b a.at h in
-    subst (λ (p : List ℕ). packedLength (get_or p 0 0) ≤ length p) (sym (from-part b a.at h)) (omega arith)
+    let e = c.before.before.packed_length.ensures in
+    let l = left_long b a.at h in
+    subst (λ (p : List ℕ). packed_length (get_or p 0 0) ≤ length p) (sym (from_part b a.at h)) (omega arith)
 
 returns-4 : tie.Need-returns-4
 returns-4 c =
     let a = c.before.before.before.before.before.before.before.before.before.args in
     let b = a.bytes.now in
     let h = c.before.before.before.before.before.before.before.if1.false in
-    let e = c.before.before.before.packed-length.ensures in
+    let e = c.before.before.before.packed_length.ensures in
     reads_whole b a.at _ h (sym c.before.before.before.before.before.known.ensures ∙ not-false _ c.before.before.before.before.if2.false)
-    (omega arith) (ap (λ (k : ℕ). found.Node (a.at + k)) e) (c.unpacked.ensures ∙ ap (λ (l : List ℕ). value_of (node_of (get_or l 0 0) (drop 1 l))) (from-part b a.at h))
+    (omega arith) (ap (λ (k : ℕ). found.Node (a.at + k)) e) (c.unpacked.ensures ∙ ap (λ (l : List ℕ). value_of (node_of (get_or l 0 0) (drop 1 l))) (from_part b a.at h))
 
 pub read_spec : {M : Type 1} → statement M
 read_spec =

@@ -7,11 +7,11 @@ use mathlib.Core.List.{List, ◌++◌}
 use lib.ListN.{length, get_or, take, drop, replicate, length-drop}
 use lib.Seq.{length-take-le}
 use Rattle.wire.specs.Numbers.{number_of}
-use Rattle.wire.proofs.Numbers.{bytes-each}
+use Rattle.wire.proofs.Numbers.{bytes_each}
 use Rattle.node.specs.Nodes.{node_of}
 use Rattle.node.specs.Values.{value_of}
-use Rattle.node.proofs.FamilyLaws.{packed-length, address-fits}
-use Rattle.node.proofs.NodeLaws.{address-part, port-part, port-small, key-part, same-value}
+use Rattle.node.proofs.FamilyLaws.{packed_length_lem, address_fits}
+use Rattle.node.proofs.NodeLaws.{address_part, port_part, port_small, key_part, same_value}
 use Rattle.node.proofs.reader.unpacked.Statement.{statement}
 use Rattle.node.proofs.reader.unpacked.Tie as tie
 
@@ -19,14 +19,14 @@ use Rattle.node.proofs.reader.unpacked.Tie as tie
 sizes : (c : tie.After-address-length) → (35 + c.address-length.result ≤ length c.before.before.before.args.packed.now) × (c.address-length.result ≤ 16)
 sizes c =
     let f = get_or c.before.before.before.args.packed.now 0 0 in
-    let p = packed-length f in
-    let q = address-fits f in
+    let p = packed_length_lem f in
+    let q = address_fits f in
     let e = c.address-length.ensures in
     let h = c.before.before.before.requires in
     (omega arith, omega arith)
 
 shared-slice-read-family : tie.Need-shared-slice-read-family
-shared-slice-read-family c = let p = packed-length (get_or c.before.before.args.packed.now 0 0) in let h = c.before.before.requires in omega arith
+shared-slice-read-family c = let p = packed_length_lem (get_or c.before.before.args.packed.now 0 0) in let h = c.before.before.requires in omega arith
 
 address-length-requires : tie.Need-address-length-requires
 address-length-requires c κs = search rules
@@ -70,8 +70,8 @@ narrow-requires c κs =
     let p = c.before.before.before.before.before.before.before.args.packed.now in
     let a = c.before.before.before.before.address-length.result in
     let h = sizes c.before.before.before.before in
-    let e = c.read_number.ensures ∙ ap number_of (port-part p a h.0) in
-    let l = port-small p a h.0 (bytes-each p (λ i. (c.before.before.before.before.before.before.shared-slice-known.given i).fits)) in
+    let e = c.read_number.ensures ∙ ap number_of (port_part p a h.0) in
+    let l = port_small p a h.0 (bytes_each p (λ i. (c.before.before.before.before.before.before.shared-slice-known.given i).fits)) in
     omega arith
 
 sub_read : tie.Need-overflow-sub-read
@@ -94,11 +94,11 @@ returns c =
     let h = sizes s in
     let e = s.address-length.ensures in
     let a = s.address-length.result in
-    same-value (get_or p 0 0) _ _ _ _ c.read.result _
+    same_value (get_or p 0 0) _ _ _ _ c.read.result _
     (c.before.before.before.before.before.padded.ensures
-    ∙ ap (λ (l : List ℕ). l ++ replicate (16 - length l) 0) (address-part p a h.0 ∙ ap (λ (n : ℕ). take n (drop 1 p)) e))
-    (c.before.before.narrow.ensures ∙ c.before.before.before.read_number.ensures ∙ ap number_of (port-part p a h.0 ∙ ap (λ (n : ℕ). take 2 (drop n (drop 1 p))) e))
-    (c.read.ensures ∙ key-part p a h.0 ∙ ap (λ (n : ℕ). take 32 (drop 2 (drop n (drop 1 p)))) e)
+    ∙ ap (λ (l : List ℕ). l ++ replicate (16 - length l) 0) (address_part p a h.0 ∙ ap (λ (n : ℕ). take n (drop 1 p)) e))
+    (c.before.before.narrow.ensures ∙ c.before.before.before.read_number.ensures ∙ ap number_of (port_part p a h.0 ∙ ap (λ (n : ℕ). take 2 (drop n (drop 1 p))) e))
+    (c.read.ensures ∙ key_part p a h.0 ∙ ap (λ (n : ℕ). take 32 (drop 2 (drop n (drop 1 p)))) e)
 
 pub unpacked-spec : {M : Type 1} → statement M
 unpacked-spec =

@@ -7,17 +7,17 @@ use native.Mathlib.Omega.{arith}
 use lib.ListN.{length, take, length-set}
 use lib.Seq.{length-take-le}
 use Rattle.wire.specs.Numbers.{bytes_of}
-use Rattle.node.specs.Nodes.{packedNode}
-use Rattle.node.specs.Values.{infoOf, IsNode}
-use Rattle.node.proofs.FamilyLaws.{packed-length, address-fits}
-use Rattle.node.proofs.Owned.{is-node}
-use Rattle.node.proofs.WriteLaws.{Fitting, lent-address, parts-fill, length-address, length-port, put-key}
+use Rattle.node.specs.Nodes.{packed_node}
+use Rattle.node.specs.Values.{info_of, IsNode}
+use Rattle.node.proofs.FamilyLaws.{packed_length_lem, address_fits}
+use Rattle.node.proofs.Owned.{is_node}
+use Rattle.node.proofs.WriteLaws.{Fitting, lent_address, parts_fill, length_address, length_port, put_key}
 use Rattle.node.proofs.writer.put.Statement.{statement}
 use Rattle.node.proofs.writer.put.Tie as tie
 
 -- a node by value has 16 address bytes and a key of 32
 held : (s : tie.Start) → IsNode s.args.node
-held s = is-node s.args.node s.well-formed.0.0 s.well-formed.0.1.1
+held s = is_node s.args.node s.well-formed.0.0 s.well-formed.0.1.1
 
 -- the output is as long as the parts
 fitting : (c : tie.After-address-length)
@@ -25,8 +25,8 @@ fitting : (c : tie.After-address-length)
     c.before.before.before.before.before.args.node.key.0 c.address-length.result
 fitting c =
     let s = c.before.before.before.before.before in
-    let p = packed-length s.args.node.family in
-    let q = address-fits s.args.node.family in
+    let p = packed_length_lem s.args.node.family in
+    let q = address_fits s.args.node.family in
     let e = c.address-length.ensures in
     let h = s.requires in
     record { room = omega arith; many = (held s).long; most = omega arith; whole = (held s).key.long }
@@ -70,7 +70,7 @@ copy-requires : tie.Need-copy-requires
 copy-requires c κs =
     let l = c.before.before in
     let a = l.before.before.before.before.before.args in
-    let e = lent-address a.out.now a.node.address a.node.key.0 a.node.family l.address-length.result a.node.port (fitting l) in
+    let e = lent_address a.out.now a.node.address a.node.key.0 a.node.family l.address-length.result a.node.port (fitting l) in
     omega arith
 
 sub-write-number : tie.Need-overflow-sub-write-number
@@ -84,7 +84,7 @@ part-write-number-end c =
     let l = c.before.before.before.before.before in
     let a = l.before.before.before.before.before.args in
     let x = c.before.before.copy in
-    let e = length-address a.out.now a.node.address a.node.key.0 a.node.family l.address-length.result a.node.port (fitting l) x.new.1.0 x.ensures.1 in
+    let e = length_address a.out.now a.node.address a.node.key.0 a.node.family l.address-length.result a.node.port (fitting l) x.new.1.0 x.ensures.1 in
     let h = (fitting l).room in
     omega arith
 
@@ -103,7 +103,7 @@ part-write-end c =
     let a = l.before.before.before.before.before.args in
     let x = c.before.before.before.before.before.before.copy in
     let y = c.before.before.write-number in
-    let e = length-port a.out.now a.node.address a.node.key.0 a.node.family l.address-length.result a.node.port (fitting l)
+    let e = length_port a.out.now a.node.address a.node.key.0 a.node.family l.address-length.result a.node.port (fitting l)
     x.new.1.0 x.ensures.1 y.new.1.0 y.ensures in
     let h = (fitting l).room in
     omega arith
@@ -119,19 +119,19 @@ same_length c =
     let y = c.before.before.before.before.before.before.write-number in
     let z = c.before.before.write in
     ap length
-    (put-key a.out.now a.node.address a.node.key.0 a.node.family l.address-length.result a.node.port (fitting l)
+    (put_key a.out.now a.node.address a.node.key.0 a.node.family l.address-length.result a.node.port (fitting l)
     x.new.1.0 x.ensures.1 y.new.1.0 y.ensures z.new.1.0 z.ensures)
-    ∙ parts-fill a.out.now a.node.address a.node.key.0 a.node.family l.address-length.result a.node.port (fitting l)
+    ∙ parts_fill a.out.now a.node.address a.node.key.0 a.node.family l.address-length.result a.node.port (fitting l)
 
 returns : tie.Need-returns
-unfolding packedNode infoOf
+unfolding packed_node info_of
 returns c =
     let l = c.before.before.before.before.before.before.before.before.before.before.before.before.before in
     let a = l.before.before.before.before.before.args in
     let x = c.before.before.before.before.before.before.before.before.before.before.copy in
     let y = c.before.before.before.before.before.before.write-number in
     let z = c.before.before.write in
-    put-key a.out.now a.node.address a.node.key.0 a.node.family l.address-length.result a.node.port (fitting l)
+    put_key a.out.now a.node.address a.node.key.0 a.node.family l.address-length.result a.node.port (fitting l)
     x.new.1.0 x.ensures.1 y.new.1.0 y.ensures z.new.1.0 z.ensures
     ∙ ap (λ (k : ℕ). a.node.family ∷ (take k a.node.address ++ (bytes_of 2 a.node.port ++ a.node.key.0))) l.address-length.ensures
 

@@ -8,15 +8,15 @@ use types.Run.{OneOf, miss}
 use denote.Enum.Declared.{tag_of}
 use Rattle.packet.specs.declared.client.RelayPacket.{RelayPacket}
 use Rattle.packet.specs.declared.client.RelayPacket.TheVariants.{RoutingResponse, ConnectNotification, DisconnectNotification, Ping, Pong, OobReceived, Data}
-use Rattle.packet.specs.ClientReads.{relayPacketOf}
-use Rattle.packet_laws.specs.FromRelay.{keyFromRelay}
+use Rattle.packet.specs.ClientReads.{relay_packet_of}
+use Rattle.packet_laws.specs.FromRelay.{key_from_relay}
 use Rattle.packet.specs.contracts.client.RelayPacket as enum
 use Rattle.packet.proofs.client.key.Statement.{statement}
 use Rattle.packet.proofs.client.key.Tie as tie
 
 -- the kinds of the last arm have no key
-none : (bytes : List ℕ) (p : RelayPacket) → OneOf (1 ∷ 2 ∷ 3 ∷ 4 ∷ 6 ∷ []) (tag_of enum.the_type p) → replicate 32 0 ≡ keyFromRelay (relayPacketOf bytes p)
-unfolding keyFromRelay relayPacketOf
+none : (bytes : List ℕ) (p : RelayPacket) → OneOf (1 ∷ 2 ∷ 3 ∷ 4 ∷ 6 ∷ []) (tag_of enum.the_type p) → replicate 32 0 ≡ key_from_relay (relay_packet_of bytes p)
+unfolding key_from_relay relay_packet_of
 none bytes (RoutingResponse number key) h = absurd (miss (1 ∷ 2 ∷ 3 ∷ 4 ∷ 6 ∷ []) 0 tt h)
 none bytes (ConnectNotification number) h = refl
 none bytes (DisconnectNotification number) h = refl
@@ -38,16 +38,16 @@ key-at-requires-2 : tie.Need-key-at-requires-2
 key-at-requires-2 c κs = search rules
 
 returns : tie.Need-returns
-unfolding keyFromRelay relayPacketOf
+unfolding key_from_relay relay_packet_of
 returns c =
     let bytes = c.before.before.before.before.before.args.packet.now in
-    c.key-at.ensures ∙ ap (λ (p : RelayPacket). keyFromRelay (relayPacketOf bytes p)) (sym c.before.before.shown.given.1)
+    c.key-at.ensures ∙ ap (λ (p : RelayPacket). key_from_relay (relay_packet_of bytes p)) (sym c.before.before.shown.given.1)
 
 returns-2 : tie.Need-returns-2
-unfolding keyFromRelay relayPacketOf
+unfolding key_from_relay relay_packet_of
 returns-2 c =
     let bytes = c.before.before.before.before.before.args.packet.now in
-    c.key-at2.ensures ∙ ap (λ (p : RelayPacket). keyFromRelay (relayPacketOf bytes p)) (sym c.before.before.shown2.given.1)
+    c.key-at2.ensures ∙ ap (λ (p : RelayPacket). key_from_relay (relay_packet_of bytes p)) (sym c.before.before.shown2.given.1)
 
 returns-3 : tie.Need-returns-3
 returns-3 c = none c.before.before.args.packet.now c.before.before.args.shown c.match.keys3

@@ -9,9 +9,9 @@ use lib.ListN.{length, take, drop, length-drop}
 use lib.Seq.{take_all, get_or-drop}
 use Rattle.wire.specs.Numbers.{number_of}
 use Rattle.packet.specs.declared.client.RelayPacket.TheVariants.{RoutingResponse, ConnectNotification, DisconnectNotification, Ping, Pong, OobReceived, Data}
-use Rattle.packet_laws.specs.FromRelay.{fromRelay}
-use Rattle.packet.specs.ClientReads.{shownRelay}
-use Rattle.packet_laws.proofs.KindLaws.{length_two, length-oob-received, from-relay-other}
+use Rattle.packet_laws.specs.FromRelay.{from_relay}
+use Rattle.packet.specs.ClientReads.{shown_relay}
+use Rattle.packet_laws.proofs.KindLaws.{length_two, length_oob_received, from_relay_other}
 use Rattle.packet.proofs.client.shown.Statement.{statement}
 use Rattle.packet.proofs.client.shown.Tie as tie
 
@@ -49,57 +49,57 @@ read-number-requires-2 : tie.Need-read-number-requires-2
 read-number-requires-2 c κs = search rules
 
 sub-t24 : tie.Need-overflow-sub-t24
-sub-t24 c = let h = length-oob-received _ _ c.before.before.requires c.match.keys6 in omega arith
+sub-t24 c = let h = length_oob_received _ _ c.before.before.requires c.match.keys6 in omega arith
 
 sub-t28 : tie.Need-overflow-sub-t28
 sub-t28 c = let h = length_two _ _ c.before.before.requires in omega arith
 
 returns : tie.Need-returns
-unfolding fromRelay shownRelay
-returns c = sym (ap (λ (k : ℕ). shownRelay (fromRelay k (drop 1 c.before.before.before.args.packet.now))) c.before.match.keys1 ∙ ap (λ (n : ℕ). RoutingResponse (record { 0 = n }) 2) (get_or-drop 1 c.before.before.before.args.packet.now 0 0))
+unfolding from_relay shown_relay
+returns c = sym (ap (λ (k : ℕ). shown_relay (from_relay k (drop 1 c.before.before.before.args.packet.now))) c.before.match.keys1 ∙ ap (λ (n : ℕ). RoutingResponse (record { 0 = n }) 2) (get_or-drop 1 c.before.before.before.args.packet.now 0 0))
 
 returns-2 : tie.Need-returns-2
-unfolding fromRelay shownRelay
-returns-2 c = sym (ap (λ (k : ℕ). shownRelay (fromRelay k (drop 1 c.before.before.before.args.packet.now))) c.before.match.keys2 ∙ ap (λ (n : ℕ). ConnectNotification (record { 0 = n })) (get_or-drop 1 c.before.before.before.args.packet.now 0 0))
+unfolding from_relay shown_relay
+returns-2 c = sym (ap (λ (k : ℕ). shown_relay (from_relay k (drop 1 c.before.before.before.args.packet.now))) c.before.match.keys2 ∙ ap (λ (n : ℕ). ConnectNotification (record { 0 = n })) (get_or-drop 1 c.before.before.before.args.packet.now 0 0))
 
 returns-3 : tie.Need-returns-3
-unfolding fromRelay shownRelay
-returns-3 c = sym (ap (λ (k : ℕ). shownRelay (fromRelay k (drop 1 c.before.before.before.args.packet.now))) c.before.match.keys3 ∙ ap (λ (n : ℕ). DisconnectNotification (record { 0 = n })) (get_or-drop 1 c.before.before.before.args.packet.now 0 0))
+unfolding from_relay shown_relay
+returns-3 c = sym (ap (λ (k : ℕ). shown_relay (from_relay k (drop 1 c.before.before.before.args.packet.now))) c.before.match.keys3 ∙ ap (λ (n : ℕ). DisconnectNotification (record { 0 = n })) (get_or-drop 1 c.before.before.before.args.packet.now 0 0))
 
 returns-4 : tie.Need-returns-4
-unfolding fromRelay shownRelay
+unfolding from_relay shown_relay
 returns-4 c =
     let a = c.before.before.before.before.args in
     ap Ping (
     c.read_number.ensures
     ∙ ap (λ (l : List ℕ). number_of (take 8 l)) (take_all (length a.packet.now - 1) (drop 1 a.packet.now) (let e = length-drop 1 a.packet.now in omega arith)))
-    ∙ sym (ap (λ (k : ℕ). shownRelay (fromRelay k (drop 1 c.before.before.before.before.args.packet.now))) c.before.before.match.keys4)
+    ∙ sym (ap (λ (k : ℕ). shown_relay (from_relay k (drop 1 c.before.before.before.before.args.packet.now))) c.before.before.match.keys4)
 
 returns-5 : tie.Need-returns-5
-unfolding fromRelay shownRelay
+unfolding from_relay shown_relay
 returns-5 c =
     let a = c.before.before.before.before.args in
     ap Pong (
     c.read-number2.ensures
     ∙ ap (λ (l : List ℕ). number_of (take 8 l)) (take_all (length a.packet.now - 1) (drop 1 a.packet.now) (let e = length-drop 1 a.packet.now in omega arith)))
-    ∙ sym (ap (λ (k : ℕ). shownRelay (fromRelay k (drop 1 c.before.before.before.before.args.packet.now))) c.before.before.match.keys5)
+    ∙ sym (ap (λ (k : ℕ). shown_relay (from_relay k (drop 1 c.before.before.before.before.args.packet.now))) c.before.before.match.keys5)
 
 returns-6 : tie.Need-returns-6
-unfolding fromRelay shownRelay
+unfolding from_relay shown_relay
 returns-6 c =
     let a = c.before.before.args in
     let d = length-drop 32 (drop 1 a.packet.now) in
     let e = length-drop 1 a.packet.now in
     ap (λ (n : ℕ). OobReceived 1 (record { start = 33; length = n })) (omega arith)
-    ∙ sym (ap (λ (k : ℕ). shownRelay (fromRelay k (drop 1 a.packet.now))) c.match.keys6)
+    ∙ sym (ap (λ (k : ℕ). shown_relay (from_relay k (drop 1 a.packet.now))) c.match.keys6)
 
 returns-7 : tie.Need-returns-7
-unfolding shownRelay
+unfolding shown_relay
 returns-7 c =
     let a = c.before.before.args in
     let r = c.match.rest in
     ap (λ (n : ℕ). Data (record { 0 = a.kind }) (record { start = 1; length = n })) (sym (length-drop 1 a.packet.now))
-    ∙ sym (ap shownRelay (from-relay-other a.kind (drop 1 a.packet.now) r.0.0.0.0.0.1 r.0.0.0.0.1 r.0.0.0.1 r.0.0.1 r.0.1 r.1))
+    ∙ sym (ap shown_relay (from_relay_other a.kind (drop 1 a.packet.now) r.0.0.0.0.0.1 r.0.0.0.0.1 r.0.0.0.1 r.0.0.1 r.0.1 r.1))
 
 pub shown-spec : {M : Type 1} → statement M
 shown-spec =

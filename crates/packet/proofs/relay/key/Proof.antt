@@ -8,15 +8,15 @@ use types.Run.{OneOf, miss}
 use denote.Enum.Declared.{tag_of}
 use Rattle.packet.specs.declared.relay.ClientPacket.{ClientPacket}
 use Rattle.packet.specs.declared.relay.ClientPacket.TheVariants.{RoutingRequest, DropRoute, Ping, Pong, OobSend, Data}
-use Rattle.packet.specs.RelayReads.{clientPacketOf}
-use Rattle.packet_laws.specs.FromClient.{keyFromClient}
+use Rattle.packet.specs.RelayReads.{client_packet_of}
+use Rattle.packet_laws.specs.FromClient.{key_from_client}
 use Rattle.packet.specs.contracts.relay.ClientPacket as enum
 use Rattle.packet.proofs.relay.key.Statement.{statement}
 use Rattle.packet.proofs.relay.key.Tie as tie
 
 -- the kinds of the last arm have no key
-none : (bytes : List ℕ) (p : ClientPacket) → OneOf (1 ∷ 2 ∷ 3 ∷ 5 ∷ []) (tag_of enum.the_type p) → replicate 32 0 ≡ keyFromClient (clientPacketOf bytes p)
-unfolding keyFromClient clientPacketOf
+none : (bytes : List ℕ) (p : ClientPacket) → OneOf (1 ∷ 2 ∷ 3 ∷ 5 ∷ []) (tag_of enum.the_type p) → replicate 32 0 ≡ key_from_client (client_packet_of bytes p)
+unfolding key_from_client client_packet_of
 none bytes (RoutingRequest key) h = absurd (miss (1 ∷ 2 ∷ 3 ∷ 5 ∷ []) 0 tt h)
 none bytes (DropRoute number) h = refl
 none bytes (Ping n) h = refl
@@ -37,16 +37,16 @@ key-at-requires-2 : tie.Need-key-at-requires-2
 key-at-requires-2 c κs = search rules
 
 returns : tie.Need-returns
-unfolding keyFromClient clientPacketOf
+unfolding key_from_client client_packet_of
 returns c =
     let bytes = c.before.before.before.before.before.args.packet.now in
-    c.key-at.ensures ∙ ap (λ (p : ClientPacket). keyFromClient (clientPacketOf bytes p)) (sym c.before.before.shown.given.1)
+    c.key-at.ensures ∙ ap (λ (p : ClientPacket). key_from_client (client_packet_of bytes p)) (sym c.before.before.shown.given.1)
 
 returns-2 : tie.Need-returns-2
-unfolding keyFromClient clientPacketOf
+unfolding key_from_client client_packet_of
 returns-2 c =
     let bytes = c.before.before.before.before.before.args.packet.now in
-    c.key-at2.ensures ∙ ap (λ (p : ClientPacket). keyFromClient (clientPacketOf bytes p)) (sym c.before.before.shown2.given.1)
+    c.key-at2.ensures ∙ ap (λ (p : ClientPacket). key_from_client (client_packet_of bytes p)) (sym c.before.before.shown2.given.1)
 
 returns-3 : tie.Need-returns-3
 returns-3 c = none c.before.before.args.packet.now c.before.before.args.shown c.match.keys3

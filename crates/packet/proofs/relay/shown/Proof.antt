@@ -9,9 +9,9 @@ use lib.ListN.{length, take, drop, length-drop}
 use lib.Seq.{take_all, get_or-drop}
 use Rattle.wire.specs.Numbers.{number_of}
 use Rattle.packet.specs.declared.relay.ClientPacket.TheVariants.{DropRoute, Ping, Pong, OobSend, Data}
-use Rattle.packet_laws.specs.FromClient.{fromClient}
-use Rattle.packet.specs.RelayReads.{shownClient}
-use Rattle.packet_laws.proofs.KindLaws.{length_two, length-oob-send, from-client-other}
+use Rattle.packet_laws.specs.FromClient.{from_client}
+use Rattle.packet.specs.RelayReads.{shown_client}
+use Rattle.packet_laws.proofs.KindLaws.{length_two, length_oob_send, from_client_other}
 use Rattle.packet.proofs.relay.shown.Statement.{statement}
 use Rattle.packet.proofs.relay.shown.Tie as tie
 
@@ -43,53 +43,53 @@ read-number-requires-2 : tie.Need-read-number-requires-2
 read-number-requires-2 c κs = search rules
 
 sub-t18 : tie.Need-overflow-sub-t18
-sub-t18 c = let h = length-oob-send _ _ c.before.before.requires c.match.keys5 in omega arith
+sub-t18 c = let h = length_oob_send _ _ c.before.before.requires c.match.keys5 in omega arith
 
 sub-t22 : tie.Need-overflow-sub-t22
 sub-t22 c = let h = length_two _ _ c.before.before.requires in omega arith
 
 returns : tie.Need-returns
-unfolding fromClient shownClient
-returns c = sym (ap (λ (k : ℕ). shownClient (fromClient k (drop 1 c.before.before.args.packet.now))) c.match.keys1)
+unfolding from_client shown_client
+returns c = sym (ap (λ (k : ℕ). shown_client (from_client k (drop 1 c.before.before.args.packet.now))) c.match.keys1)
 
 returns-2 : tie.Need-returns-2
-unfolding fromClient shownClient
-returns-2 c = sym (ap (λ (k : ℕ). shownClient (fromClient k (drop 1 c.before.before.before.args.packet.now))) c.before.match.keys2 ∙ ap (λ (n : ℕ). DropRoute (record { 0 = n })) (get_or-drop 1 c.before.before.before.args.packet.now 0 0))
+unfolding from_client shown_client
+returns-2 c = sym (ap (λ (k : ℕ). shown_client (from_client k (drop 1 c.before.before.before.args.packet.now))) c.before.match.keys2 ∙ ap (λ (n : ℕ). DropRoute (record { 0 = n })) (get_or-drop 1 c.before.before.before.args.packet.now 0 0))
 
 returns-3 : tie.Need-returns-3
-unfolding fromClient shownClient
+unfolding from_client shown_client
 returns-3 c =
     let a = c.before.before.before.before.args in
     ap Ping (
     c.read_number.ensures
     ∙ ap (λ (l : List ℕ). number_of (take 8 l)) (take_all (length a.packet.now - 1) (drop 1 a.packet.now) (let e = length-drop 1 a.packet.now in omega arith)))
-    ∙ sym (ap (λ (k : ℕ). shownClient (fromClient k (drop 1 c.before.before.before.before.args.packet.now))) c.before.before.match.keys3)
+    ∙ sym (ap (λ (k : ℕ). shown_client (from_client k (drop 1 c.before.before.before.before.args.packet.now))) c.before.before.match.keys3)
 
 returns-4 : tie.Need-returns-4
-unfolding fromClient shownClient
+unfolding from_client shown_client
 returns-4 c =
     let a = c.before.before.before.before.args in
     ap Pong (
     c.read-number2.ensures
     ∙ ap (λ (l : List ℕ). number_of (take 8 l)) (take_all (length a.packet.now - 1) (drop 1 a.packet.now) (let e = length-drop 1 a.packet.now in omega arith)))
-    ∙ sym (ap (λ (k : ℕ). shownClient (fromClient k (drop 1 c.before.before.before.before.args.packet.now))) c.before.before.match.keys4)
+    ∙ sym (ap (λ (k : ℕ). shown_client (from_client k (drop 1 c.before.before.before.before.args.packet.now))) c.before.before.match.keys4)
 
 returns-5 : tie.Need-returns-5
-unfolding fromClient shownClient
+unfolding from_client shown_client
 returns-5 c =
     let a = c.before.before.args in
     let d = length-drop 32 (drop 1 a.packet.now) in
     let e = length-drop 1 a.packet.now in
     ap (λ (n : ℕ). OobSend 1 (record { start = 33; length = n })) (omega arith)
-    ∙ sym (ap (λ (k : ℕ). shownClient (fromClient k (drop 1 a.packet.now))) c.match.keys5)
+    ∙ sym (ap (λ (k : ℕ). shown_client (from_client k (drop 1 a.packet.now))) c.match.keys5)
 
 returns-6 : tie.Need-returns-6
-unfolding shownClient
+unfolding shown_client
 returns-6 c =
     let a = c.before.before.args in
     let r = c.match.rest in
     ap (λ (n : ℕ). Data (record { 0 = a.kind }) (record { start = 1; length = n })) (sym (length-drop 1 a.packet.now))
-    ∙ sym (ap shownClient (from-client-other a.kind (drop 1 a.packet.now) r.0.0.0.0.1 r.0.0.0.1 r.0.0.1 r.0.1 r.1))
+    ∙ sym (ap shown_client (from_client_other a.kind (drop 1 a.packet.now) r.0.0.0.0.1 r.0.0.0.1 r.0.0.1 r.0.1 r.1))
 
 pub shown-spec : {M : Type 1} → statement M
 shown-spec =

@@ -7,14 +7,14 @@ use Prim.Native.Nat.{ℕ, ◌-◌}
 use native.Mathlib.Omega.{arith}
 use lib.ListN.{set, length-set}
 use Rattle.wire.specs.Numbers.{bytes_of}
-use Rattle.records.proofs.EntryLaws.{entry-head-written, head-fits, head-left-out}
+use Rattle.records.proofs.EntryLaws.{entry_head_written, head_fits, head_left_out}
 use Rattle.records.proofs.entry.head.Statement.{statement}
 use Rattle.records.proofs.entry.head.Tie as tie
 
 returns : tie.Need-returns
 returns c =
     let a = c.before.before.args in
-    head-left-out (a.refusal ∷ a.seat.0 ∷ bytes_of 2 a.size) a.size a.out.now (omega (arith, c.if1.true))
+    head_left_out (a.refusal ∷ a.seat.0 ∷ bytes_of 2 a.size) a.size a.out.now (omega (arith, c.if1.true))
 
 sub-if2 : tie.Need-overflow-sub-if2
 sub-if2 c = search rules
@@ -22,7 +22,7 @@ sub-if2 c = search rules
 returns-2 : tie.Need-returns-2
 returns-2 c =
     let a = c.before.before.before.args in
-    head-left-out (a.refusal ∷ a.seat.0 ∷ bytes_of 2 a.size) a.size a.out.now (omega (arith, c.if2.true, c.before.if1.false))
+    head_left_out (a.refusal ∷ a.seat.0 ∷ bytes_of 2 a.size) a.size a.out.now (omega (arith, c.if2.true, c.before.if1.false))
 
 slice-write-out : tie.Need-slice-write-out
 slice-write-out c = search rules
@@ -58,8 +58,8 @@ returns-3 c =
     let w = c.before.before.write-number in
     let long = c.before.before.before.before.before.if1.false in
     let fits = c.before.before.before.before.if2.false in
-    head-fits (a.refusal ∷ a.seat.0 ∷ bytes_of 2 a.size) a.size a.out.now _ (omega arith)
-    (entry-head-written a.out.now w.new.1.0 a.refusal a.seat.0 a.size (omega arith) w.ensures)
+    head_fits (a.refusal ∷ a.seat.0 ∷ bytes_of 2 a.size) a.size a.out.now _ (omega arith)
+    (entry_head_written a.out.now w.new.1.0 a.refusal a.seat.0 a.size (omega arith) w.ensures)
 
 pub head_spec : {M : Type 1} → statement M
 head_spec =

@@ -5,7 +5,7 @@ use mathlib.Core.List.{◌∷◌}
 use Prim.Native.Nat.{ℕ}
 use Rattle.wire.specs.Numbers.{bytes_of}
 use Rattle.records.specs.declared.Answer.{Answer}
-use Rattle.records.specs.Entry.{answer_of, written, entryHead, WritesHead, WritesEntry}
+use Rattle.records.specs.Entry.{answer_of, written, entry_head, WritesHead, WritesEntry}
 use Rattle.records.proofs.entry.write.Statement.{statement}
 use Rattle.records.proofs.entry.write.Tie as tie
 
@@ -28,7 +28,7 @@ same_length : tie.Need-same-length
 same_length c = search rules
 
 returns : tie.Need-returns
-unfolding written answer_of entryHead
+unfolding written answer_of entry_head
 returns c =
     let a = c.before.before.before.before.before.before.before.before.args in
     let head = c.before.before.head in
@@ -39,7 +39,7 @@ same-length-2 : tie.Need-same-length-2
 same-length-2 c = search rules
 
 returns-2 : tie.Need-returns-2
-unfolding written answer_of entryHead
+unfolding written answer_of entry_head
 returns-2 c =
     let a = c.before.before.before.before.before.before.before.before.before.args in
     let head = c.before.before.head2 in

@@ -4,7 +4,7 @@ use borrow.Rule.Slice.PartMut.{same_len_mid}
 use Prim.Native.Nat.{ℕ, ◌-◌}
 use lib.ListN.{length}
 use Rattle.packet_laws.specs.FromRelay.{pong}
-use Rattle.records.proofs.WriteLaws.{behind-le, head-asked, record-written}
+use Rattle.records.proofs.WriteLaws.{behind_le, head_asked, record_written}
 use Rattle.records.proofs.record.answered.Statement.{statement}
 use Rattle.records.proofs.record.answered.Tie as tie
 
@@ -14,12 +14,12 @@ behind-head-requires c κs = search rules
 sub-pong : tie.Need-overflow-sub-pong
 sub-pong c =
     let a = c.before.before.args in
-    behind-le (length a.out.now) a.at c.behind-head.result c.behind-head.ensures
+    behind_le (length a.out.now) a.at c.behind-head.result c.behind-head.ensures
 
 part-pong-start : tie.Need-slice-bounds-pong-start
 part-pong-start c =
     let a = c.before.before.args in
-    behind-le (length a.out.now) a.at c.behind-head.result c.behind-head.ensures
+    behind_le (length a.out.now) a.at c.behind-head.result c.behind-head.ensures
 
 part-pong-end : tie.Need-slice-bounds-pong-end
 part-pong-end c = search rules
@@ -32,8 +32,8 @@ head-requires c κs =
     let a = c.before.before.before.before.before.before.before.args in
     let place = c.before.before.before.before.before.behind-head in
     let w = c.before.before.before.pong in
-    head-asked (pong a.ping) a.seat.0 a.at place.result a.out.now
-    w.new.1.0 w.result place.ensures w.ensures.asRelay _
+    head_asked (pong a.ping) a.seat.0 a.at place.result a.out.now
+    w.new.1.0 w.result place.ensures w.ensures.as_relay _
     (same_len_mid {X = ℕ} place.result (length a.out.now - place.result) a.out.now
     w.new.1.0 w.auto.1.0)
 
@@ -45,8 +45,8 @@ returns c =
     let a = c.before.before.before.before.before.before.before.before.before.before.args in
     let w = c.before.before.before.before.before.before.pong in
     let place = c.before.before.before.before.before.before.before.before.behind-head in
-    record-written (pong a.ping) a.seat.0 a.at place.result a.out.now
-    w.new.1.0 w.result place.ensures w.ensures.asRelay _ _ c.before.before.head.ensures
+    record_written (pong a.ping) a.seat.0 a.at place.result a.out.now
+    w.new.1.0 w.result place.ensures w.ensures.as_relay _ _ c.before.before.head.ensures
 
 pub answered-spec : {M : Type 1} → statement M
 answered-spec =

@@ -6,8 +6,8 @@ use mathlib.Core.List.{List}
 use Prim.Native.Nat.{ℕ, ◌+◌, ◌-◌, ◌≤◌}
 use native.Mathlib.Omega.{arith}
 use lib.ListN.{length, set, length-set}
-use Rattle.records.proofs.AppendLaws.{head-written}
-use Rattle.records.proofs.WriteLaws.{head-refused, head_done}
+use Rattle.records.proofs.AppendLaws.{head_written}
+use Rattle.records.proofs.WriteLaws.{head_refused, head_done}
 use Rattle.records.proofs.record.head.Statement.{statement}
 use Rattle.records.proofs.record.head.Tie as tie
 
@@ -24,7 +24,7 @@ enum_told c = search rules
 returns : tie.Need-returns
 returns c =
     let a = c.before.before.before.args in
-    head-refused a.written a.seat.0 a.at a.out.now c.enum_told.given.0.0 c.enum_told.given.1
+    head_refused a.written a.seat.0 a.at a.out.now c.enum_told.given.0.0 c.enum_told.given.1
 
 add_start : tie.Need-overflow-add-start
 add_start c = let room = c.before.before.before.before.requires c.before.written.given.0.0 c.before.written.given.1 in search rules
@@ -71,7 +71,7 @@ returns-2 c =
     let told = c.before.before.before.before.before.written.given.1 in
     let room = s.requires size told in
     head_done a.written a.seat.0 a.at size a.out.now _ told
-    (head-written a.out.now c.before.before.write-number.new.1.0 a.at a.seat.0 size (omega arith)
+    (head_written a.out.now c.before.before.write-number.new.1.0 a.at a.seat.0 size (omega arith)
     c.before.before.write-number.ensures)
 
 pub head_spec : {M : Type 1} → statement M

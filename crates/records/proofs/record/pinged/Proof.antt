@@ -4,7 +4,7 @@ use borrow.Rule.Slice.PartMut.{same_len_mid}
 use Prim.Native.Nat.{ℕ, ◌-◌}
 use lib.ListN.{length}
 use Rattle.packet_laws.specs.FromRelay.{ping}
-use Rattle.records.proofs.WriteLaws.{behind-le, head-asked, record-written}
+use Rattle.records.proofs.WriteLaws.{behind_le, head_asked, record_written}
 use Rattle.records.proofs.record.pinged.Statement.{statement}
 use Rattle.records.proofs.record.pinged.Tie as tie
 
@@ -14,12 +14,12 @@ behind-head-requires c κs = search rules
 sub-ping : tie.Need-overflow-sub-ping
 sub-ping c =
     let a = c.before.before.args in
-    behind-le (length a.out.now) a.at c.behind-head.result c.behind-head.ensures
+    behind_le (length a.out.now) a.at c.behind-head.result c.behind-head.ensures
 
 part-ping-start : tie.Need-slice-bounds-ping-start
 part-ping-start c =
     let a = c.before.before.args in
-    behind-le (length a.out.now) a.at c.behind-head.result c.behind-head.ensures
+    behind_le (length a.out.now) a.at c.behind-head.result c.behind-head.ensures
 
 part-ping-end : tie.Need-slice-bounds-ping-end
 part-ping-end c = search rules
@@ -32,8 +32,8 @@ head-requires c κs =
     let a = c.before.before.before.before.before.before.before.args in
     let place = c.before.before.before.before.before.behind-head in
     let w = c.before.before.before.ping in
-    head-asked (ping a.number) a.seat.0 a.at place.result a.out.now
-    w.new.1.0 w.result place.ensures w.ensures.asRelay _
+    head_asked (ping a.number) a.seat.0 a.at place.result a.out.now
+    w.new.1.0 w.result place.ensures w.ensures.as_relay _
     (same_len_mid {X = ℕ} place.result (length a.out.now - place.result) a.out.now
     w.new.1.0 w.auto.1.0)
 
@@ -45,8 +45,8 @@ returns c =
     let a = c.before.before.before.before.before.before.before.before.before.before.args in
     let w = c.before.before.before.before.before.before.ping in
     let place = c.before.before.before.before.before.before.before.before.behind-head in
-    record-written (ping a.number) a.seat.0 a.at place.result a.out.now
-    w.new.1.0 w.result place.ensures w.ensures.asRelay _ _ c.before.before.head.ensures
+    record_written (ping a.number) a.seat.0 a.at place.result a.out.now
+    w.new.1.0 w.result place.ensures w.ensures.as_relay _ _ c.before.before.head.ensures
 
 pub pinged-spec : {M : Type 1} → statement M
 pinged-spec =

@@ -3,8 +3,8 @@ use borrow.Author.Rules.{rules}
 use borrow.Rule.Slice.PartMut.{same_len_mid}
 use Prim.Native.Nat.{ℕ, ◌-◌}
 use lib.ListN.{length}
-use Rattle.packet_laws.specs.FromRelay.{routingResponse}
-use Rattle.records.proofs.WriteLaws.{behind-le, head-asked, record-written}
+use Rattle.packet_laws.specs.FromRelay.{routing_response}
+use Rattle.records.proofs.WriteLaws.{behind_le, head_asked, record_written}
 use Rattle.records.proofs.record.response.Statement.{statement}
 use Rattle.records.proofs.record.response.Tie as tie
 
@@ -14,12 +14,12 @@ behind-head-requires c κs = search rules
 sub-routing-response : tie.Need-overflow-sub-routing-response
 sub-routing-response c =
     let a = c.before.before.args in
-    behind-le (length a.out.now) a.at c.behind-head.result c.behind-head.ensures
+    behind_le (length a.out.now) a.at c.behind-head.result c.behind-head.ensures
 
 part-routing-response-start : tie.Need-slice-bounds-routing-response-start
 part-routing-response-start c =
     let a = c.before.before.args in
-    behind-le (length a.out.now) a.at c.behind-head.result c.behind-head.ensures
+    behind_le (length a.out.now) a.at c.behind-head.result c.behind-head.ensures
 
 part-routing-response-end : tie.Need-slice-bounds-routing-response-end
 part-routing-response-end c = search rules
@@ -32,7 +32,7 @@ head-requires c κs =
     let a = c.before.before.before.before.before.before.before.args in
     let place = c.before.before.before.before.before.behind-head in
     let w = c.before.before.before.routing-response in
-    head-asked (routingResponse a.number.0 a.key.0) a.seat.0 a.at place.result a.out.now
+    head_asked (routing_response a.number.0 a.key.0) a.seat.0 a.at place.result a.out.now
     w.new.1.1.0 w.result place.ensures w.ensures _
     (same_len_mid {X = ℕ} place.result (length a.out.now - place.result) a.out.now
     w.new.1.1.0 w.auto.1.1.0)
@@ -45,7 +45,7 @@ returns c =
     let a = c.before.before.before.before.before.before.before.before.before.before.args in
     let w = c.before.before.before.before.before.before.routing-response in
     let place = c.before.before.before.before.before.before.before.before.behind-head in
-    record-written (routingResponse a.number.0 a.key.0) a.seat.0 a.at place.result a.out.now
+    record_written (routing_response a.number.0 a.key.0) a.seat.0 a.at place.result a.out.now
     w.new.1.1.0 w.result place.ensures w.ensures _ _ c.before.before.head.ensures
 
 pub response-spec : {M : Type 1} → statement M

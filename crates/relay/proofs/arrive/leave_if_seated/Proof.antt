@@ -1,11 +1,11 @@
 -- `arrive::leave_if_seated` meets its contract: where the key sits decides. Assumes nothing.
 use borrow.Author.Rules.{rules}
 use mathlib.Core.Path.{sym, ◌∙◌}
-use Rattle.room_laws.specs.Lookup.{seatHolding}
-use Rattle.room_laws.proofs.LookupLaws.{seat-holding-finds}
-use Rattle.room.proofs.AnswerLaws.{seat-found, seat-not-found}
+use Rattle.room_laws.specs.Lookup.{seat_holding}
+use Rattle.room_laws.proofs.LookupLaws.{seat_holding_finds}
+use Rattle.room.proofs.AnswerLaws.{seat_found_lem, seat_not_found}
 use Rattle.relay.proofs.LeaveCases.{leave_room}
-use Rattle.relay.proofs.ArriveCases.{none-leaves, seat-taken, one-leaves}
+use Rattle.relay.proofs.ArriveCases.{none_leaves, seat_taken_lem, one_leaves}
 use Rattle.relay.proofs.arrive.leave_if_seated.Statement.{statement}
 use Rattle.relay.proofs.arrive.leave_if_seated.Tie as tie
 
@@ -27,9 +27,9 @@ returns c =
     let s = look.before.before.before.before in
     let a = s.args in
     let b = a.memory.now in
-    none-leaves a.seats a.numbers b s.requires.0 a.key.0 a.out.now
-    (sym (seat-holding-finds a.seats a.numbers b s.requires.0 a.key.0)
-    ∙ seat-not-found (seatHolding a.seats a.numbers b a.key.0) (sym look.seat-of.ensures ∙ c.enum_told.given.1))
+    none_leaves a.seats a.numbers b s.requires.0 a.key.0 a.out.now
+    (sym (seat_holding_finds a.seats a.numbers b s.requires.0 a.key.0)
+    ∙ seat_not_found (seat_holding a.seats a.numbers b a.key.0) (sym look.seat-of.ensures ∙ c.enum_told.given.1))
 
 depart-requires : tie.Need-depart-requires
 depart-requires c κs =
@@ -39,10 +39,10 @@ depart-requires c κs =
     let s = look.before.before.before.before in
     let a = s.args in
     let b = a.memory.now in
-    let e = sym (seat-holding-finds a.seats a.numbers b s.requires.0 a.key.0)
-    ∙ seat-found (seatHolding a.seats a.numbers b a.key.0) found.0.0 (sym look.seat-of.ensures ∙ found.1) in (
+    let e = sym (seat_holding_finds a.seats a.numbers b s.requires.0 a.key.0)
+    ∙ seat_found_lem (seat_holding a.seats a.numbers b a.key.0) found.0.0 (sym look.seat-of.ensures ∙ found.1) in (
       s.requires.0,
-      seat-taken a.seats a.numbers b s.requires.0 a.key.0 a.out.now _ e,
+      seat_taken_lem a.seats a.numbers b s.requires.0 a.key.0 a.out.now _ e,
       leave_room a.seats a.numbers b s.requires.0 _ a.out.now s.requires.1,
     )
 
@@ -61,9 +61,9 @@ returns-2 c =
     let s = look.before.before.before.before in
     let a = s.args in
     let b = a.memory.now in
-    let e = sym (seat-holding-finds a.seats a.numbers b s.requires.0 a.key.0)
-    ∙ seat-found (seatHolding a.seats a.numbers b a.key.0) found.0.0 (sym look.seat-of.ensures ∙ found.1) in
-    one-leaves a.seats a.numbers b s.requires.0 a.key.0 a.out.now _ e _ _ _ gone.depart.ensures
+    let e = sym (seat_holding_finds a.seats a.numbers b s.requires.0 a.key.0)
+    ∙ seat_found_lem (seat_holding a.seats a.numbers b a.key.0) found.0.0 (sym look.seat-of.ensures ∙ found.1) in
+    one_leaves a.seats a.numbers b s.requires.0 a.key.0 a.out.now _ e _ _ _ gone.depart.ensures
 
 pub leave-if-seated-spec : {M : Type 1} → statement M
 leave-if-seated-spec =

@@ -1,6 +1,6 @@
 -- `arrive::step` meets its contract: the client leaves if it is seated, and takes a seat of the room as it is then. Assumes nothing.
 use borrow.Author.Rules.{rules}
-use Rattle.relay.proofs.ArriveCases.{still-whole, arrives}
+use Rattle.relay.proofs.ArriveCases.{still_whole, arrives}
 use Rattle.relay.proofs.arrive.step.Statement.{statement}
 use Rattle.relay.proofs.arrive.step.Tie as tie
 
@@ -12,7 +12,7 @@ take-seat-requires c κs =
     let gone = c.before.before.before.before.before in
     let s = gone.before.before.before.before.before in
     let a = s.args in
-    still-whole a.seats a.numbers a.memory.now s.requires.0 a.key.0 a.out.now _ _ _ gone.leave-if-seated.ensures
+    still_whole a.seats a.numbers a.memory.now s.requires.0 a.key.0 a.out.now _ _ _ gone.leave-if-seated.ensures
 
 same_length : tie.Need-same-length
 same_length c = search rules

@@ -1,11 +1,11 @@
 -- `arrive::take_seat` meets its contract: the lowest empty seat decides. Assumes nothing.
 use borrow.Author.Rules.{rules}
 use mathlib.Core.Path.{sym, ◌∙◌}
-use Rattle.room_laws.specs.Lookup.{lowestEmpty}
-use Rattle.room_laws.proofs.LookupLaws.{lowest-empty-finds}
-use Rattle.room.proofs.AnswerLaws.{seat-found, seat-not-found}
+use Rattle.room_laws.specs.Lookup.{lowest_empty}
+use Rattle.room_laws.proofs.LookupLaws.{lowest_empty_finds}
+use Rattle.room.proofs.AnswerLaws.{seat_found_lem, seat_not_found}
 use Rattle.relay_laws.specs.Calls.{answer_of}
-use Rattle.relay.proofs.ArriveCases.{takes_none, takes-lowest}
+use Rattle.relay.proofs.ArriveCases.{takes_none, takes_lowest}
 use Rattle.relay.proofs.arrive.take_seat.Statement.{statement}
 use Rattle.relay.proofs.arrive.take_seat.Tie as tie
 
@@ -28,8 +28,8 @@ returns c =
     let a = s.args in
     let b = a.memory.now in
     takes_none a.seats a.numbers a.key.0 b a.written
-    (sym (lowest-empty-finds a.seats a.numbers b s.requires)
-    ∙ seat-not-found (lowestEmpty a.seats a.numbers b) (sym c.before.before.lowest-empty.ensures ∙ c.enum_told.given.1))
+    (sym (lowest_empty_finds a.seats a.numbers b s.requires)
+    ∙ seat_not_found (lowest_empty a.seats a.numbers b) (sym c.before.before.lowest-empty.ensures ∙ c.enum_told.given.1))
 
 take-seat-requires : tie.Need-take-seat-requires
 take-seat-requires c κs = search rules
@@ -46,8 +46,8 @@ returns-2 c =
     let s = look.before.before.before in
     let a = s.args in
     let b = a.memory.now in
-    takes-lowest a.seats a.numbers a.key.0 b a.written found.0.0.0
-    (sym (lowest-empty-finds a.seats a.numbers b s.requires) ∙ seat-found (lowestEmpty a.seats a.numbers b) found.0.0 (sym look.lowest-empty.ensures ∙ found.1))
+    takes_lowest a.seats a.numbers a.key.0 b a.written found.0.0.0
+    (sym (lowest_empty_finds a.seats a.numbers b s.requires) ∙ seat_found_lem (lowest_empty a.seats a.numbers b) found.0.0 (sym look.lowest-empty.ensures ∙ found.1))
     _ c.before.before.take-seat.ensures
 
 pub take-seat-spec : {M : Type 1} → statement M

@@ -5,20 +5,20 @@ use mathlib.Core.Path.{◌≡◌, sym, ◌∙◌}
 use lib.ListN.{length, length-map}
 use Rattle.rules.specs.Call.{arrive}
 use Rattle.relay_laws.specs.Calls.{answer_of}
-use Rattle.relay_laws.proofs.CallsLaws.{not-whole, is-tested, too_short, long-enough}
+use Rattle.relay_laws.proofs.CallsLaws.{not_whole, is_tested, too_short, long_enough}
 use Rattle.relay.proofs.calls.arrive.Statement.{statement}
 use Rattle.relay.proofs.calls.arrive.Tie as tie
 
 -- a key has 32 bytes
-key-long : (s : tie.Start) → length s.args.key.0 ≡ 32
-key-long s = sym (length-map s.args.key.0 _) ∙ s.well-formed.1.0.1.1.0.1.0.1
+key_long : (s : tie.Start) → length s.args.key.0 ≡ 32
+key_long s = sym (length-map s.args.key.0 _) ∙ s.well-formed.1.0.1.1.0.1.0.1
 
 returns : tie.Need-returns
 unfolding answer_of
 returns c =
     let s = c.before.before.before in
     let a = s.args in
-    record { long = key-long s; leaves = too_short 40 32 a.memory.now a.out.now (arrive a.key.0) c.if1.true }
+    record { long = key_long s; leaves = too_short 40 32 a.memory.now a.out.now (arrive a.key.0) c.if1.true }
 
 is-whole-requires : tie.Need-is-whole-requires
 is-whole-requires c κs = search rules
@@ -33,9 +33,9 @@ returns-2 c =
     let a = s.args in
     let call = arrive a.key.0 in
     record {
-      long = key-long s;
-      leaves = long-enough 40 32 a.memory.now a.out.now call c.before.before.before.if1.false _ _ _
-          (not-whole 40 32 a.memory.now a.out.now call (sym c.before.is_whole.ensures ∙ not-true _ c.if2.true));
+      long = key_long s;
+      leaves = long_enough 40 32 a.memory.now a.out.now call c.before.before.before.if1.false _ _ _
+          (not_whole 40 32 a.memory.now a.out.now call (sym c.before.is_whole.ensures ∙ not-true _ c.if2.true));
     }
 
 step-requires : tie.Need-step-requires
@@ -55,9 +55,9 @@ returns-3 c =
     let a = s.args in
     let call = arrive a.key.0 in
     record {
-      long = key-long s;
-      leaves = long-enough 40 32 a.memory.now a.out.now call tested.before.before.before.if1.false _ _ _
-          (is-tested 40 32 a.memory.now a.out.now call (sym tested.before.is_whole.ensures ∙ not-false _ tested.if2.false) _ _ _ stepped.step.ensures);
+      long = key_long s;
+      leaves = long_enough 40 32 a.memory.now a.out.now call tested.before.before.before.if1.false _ _ _
+          (is_tested 40 32 a.memory.now a.out.now call (sym tested.before.is_whole.ensures ∙ not-false _ tested.if2.false) _ _ _ stepped.step.ensures);
     }
 
 pub arrive-spec : {M : Type 1} → statement M

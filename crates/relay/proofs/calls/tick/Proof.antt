@@ -4,7 +4,7 @@ use borrow.Author.Tests.{not-true, not-false}
 use mathlib.Core.Path.{sym, ◌∙◌}
 use Rattle.rules.specs.Call.{tick}
 use Rattle.relay_laws.specs.Calls.{answer_of}
-use Rattle.relay_laws.proofs.CallsLaws.{not-whole, is-tested, too_short, long-enough}
+use Rattle.relay_laws.proofs.CallsLaws.{not_whole, is_tested, too_short, long_enough}
 use Rattle.relay.proofs.calls.tick.Statement.{statement}
 use Rattle.relay.proofs.calls.tick.Tie as tie
 
@@ -29,8 +29,8 @@ returns-2 c =
     record {
       fits = (s.ranges.time.fits, s.ranges.number.fits);
       leaves =
-          long-enough 40 32 a.memory.now a.out.now (tick a.time a.number) c.before.before.before.if1.false _ _ _
-          (not-whole 40 32 a.memory.now a.out.now (tick a.time a.number) (sym c.before.is_whole.ensures ∙ not-true _ c.if2.true));
+          long_enough 40 32 a.memory.now a.out.now (tick a.time a.number) c.before.before.before.if1.false _ _ _
+          (not_whole 40 32 a.memory.now a.out.now (tick a.time a.number) (sym c.before.is_whole.ensures ∙ not-true _ c.if2.true));
     }
 
 step-requires : tie.Need-step-requires
@@ -50,8 +50,8 @@ returns-3 c =
     record {
       fits = (s.ranges.time.fits, s.ranges.number.fits);
       leaves =
-          long-enough 40 32 a.memory.now a.out.now (tick a.time a.number) c.before.before.before.before.before.before.before.before.before.before.if1.false _ _ _
-          (is-tested 40 32 a.memory.now a.out.now (tick a.time a.number) whole _ _ _ c.before.before.before.before.step.ensures);
+          long_enough 40 32 a.memory.now a.out.now (tick a.time a.number) c.before.before.before.before.before.before.before.before.before.before.if1.false _ _ _
+          (is_tested 40 32 a.memory.now a.out.now (tick a.time a.number) whole _ _ _ c.before.before.before.before.step.ensures);
     }
 
 pub tick-spec : {M : Type 1} → statement M

@@ -1,14 +1,14 @@
 -- `carry::out_of_band` meets its contract: the seat that holds the key decides. Assumes nothing.
 use borrow.Author.Rules.{rules}
 use mathlib.Core.Path.{sym, ◌∙◌}
-use Rattle.room_laws.specs.View.{viewRoom, seatHeld}
+use Rattle.room_laws.specs.View.{view_room, seat_held}
 use native.Mathlib.Omega.{arith}
-use Rattle.room_laws.specs.Lookup.{seatHolding}
-use Rattle.room_laws.proofs.LookupLaws.{seat-holding-finds}
-use Rattle.room.proofs.AnswerLaws.{seat-found, seat-not-found}
-use Rattle.records.proofs.Fits.{out-of-band-fits}
+use Rattle.room_laws.specs.Lookup.{seat_holding}
+use Rattle.room_laws.proofs.LookupLaws.{seat_holding_finds}
+use Rattle.room.proofs.AnswerLaws.{seat_found_lem, seat_not_found}
+use Rattle.records.proofs.Fits.{out_of_band_fits}
 use Rattle.relay_laws.specs.Calls.{answer_of}
-use Rattle.relay.proofs.CarryCases.{oob-nobody, oob-seat}
+use Rattle.relay.proofs.CarryCases.{oob_nobody, oob_seat}
 use Rattle.relay.proofs.carry.out_of_band.Statement.{statement}
 use Rattle.relay.proofs.carry.out_of_band.Tie as tie
 
@@ -27,9 +27,9 @@ returns c =
     let s = c.before.before.before.before.before.before in
     let a = s.args in
     let b = a.memory.now in
-    let found = sym (seat-holding-finds a.seats a.numbers b s.requires.0 a.wanted.0)
-    ∙ seat-not-found (seatHolding a.seats a.numbers b a.wanted.0) (sym c.before.before.seat-of.ensures ∙ c.enum_told.given.1) in
-    oob-nobody a.seats a.numbers (viewRoom a.seats a.numbers b) a.seat.0 (seatHeld a.seats a.numbers b a.seat.0 a.key.0) b a.out.now a.wanted.0 a.«data».now found
+    let found = sym (seat_holding_finds a.seats a.numbers b s.requires.0 a.wanted.0)
+    ∙ seat_not_found (seat_holding a.seats a.numbers b a.wanted.0) (sym c.before.before.seat-of.ensures ∙ c.enum_told.given.1) in
+    oob_nobody a.seats a.numbers (view_room a.seats a.numbers b) a.seat.0 (seat_held a.seats a.numbers b a.seat.0 a.key.0) b a.out.now a.wanted.0 a.«data».now found
 
 out-of-band-requires : tie.Need-out-of-band-requires
 out-of-band-requires c κs = search rules
@@ -43,11 +43,11 @@ returns-2 c =
     let s = c.before.before.before.before.before.before.before.before.before.before.before in
     let a = s.args in
     let b = a.memory.now in
-    let found = sym (seat-holding-finds a.seats a.numbers b s.requires.0 a.wanted.0)
-    ∙ seat-found (seatHolding a.seats a.numbers b a.wanted.0) c.before.before.before.before.before.other.given.0.0 (sym c.before.before.before.before.before.before.before.seat-of.ensures ∙ c.before.before.before.before.before.other.given.1) in
-    oob-seat a.seats a.numbers (viewRoom a.seats a.numbers b) a.seat.0 (seatHeld a.seats a.numbers b a.seat.0 a.key.0) b a.out.now
+    let found = sym (seat_holding_finds a.seats a.numbers b s.requires.0 a.wanted.0)
+    ∙ seat_found_lem (seat_holding a.seats a.numbers b a.wanted.0) c.before.before.before.before.before.other.given.0.0 (sym c.before.before.before.before.before.before.before.seat-of.ensures ∙ c.before.before.before.before.before.other.given.1) in
+    oob_seat a.seats a.numbers (view_room a.seats a.numbers b) a.seat.0 (seat_held a.seats a.numbers b a.seat.0 a.key.0) b a.out.now
     a.wanted.0 a.«data».now c.before.before.before.before.before.other.given.0.0.0 found _ _
-    (out-of-band-fits a.key.0 a.«data».now s.requires.2 s.requires.3 (omega arith) c.before.before.out-of-band.ensures)
+    (out_of_band_fits a.key.0 a.«data».now s.requires.2 s.requires.3 (omega arith) c.before.before.out-of-band.ensures)
 
 pub out-of-band-spec : {M : Type 1} → statement M
 out-of-band-spec =

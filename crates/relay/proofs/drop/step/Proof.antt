@@ -3,7 +3,7 @@ use borrow.Author.Rules.{rules}
 use native.Mathlib.Omega.{arith}
 use borrow.Author.Tests.{not-true, not-false}
 use Rattle.relay_laws.specs.Calls.{answer_of}
-use Rattle.relay.proofs.DropCases.{drop-none, drop-high, drop-route}
+use Rattle.relay.proofs.DropCases.{drop_none, drop_high, drop_route_lem}
 use Rattle.relay.proofs.drop.step.Statement.{statement}
 use Rattle.relay.proofs.drop.step.Tie as tie
 
@@ -18,7 +18,7 @@ unfolding answer_of
 returns c =
     let s = c.before.before.before.before.before.before in
     let a = s.args in
-    drop-none a.seats a.numbers a.memory.now s.requires.0 a.seat.0 a.key.0 s.requires.1 a.number.0
+    drop_none a.seats a.numbers a.memory.now s.requires.0 a.seat.0 a.key.0 s.requires.1 a.number.0
     c.before.before.wanted_by.result c.before.before.wanted_by.ensures (not-true _ c.if1.true) a.out.now
 
 tell-peer-requires : tie.Need-tell-peer-requires
@@ -29,7 +29,7 @@ tell-peer-requires c κs =
       s.requires.0,
       s.requires.1,
       omega arith,
-      drop-high a.seats a.numbers a.memory.now s.requires.0 a.seat.0 a.key.0 s.requires.1 a.number.0
+      drop_high a.seats a.numbers a.memory.now s.requires.0 a.seat.0 a.key.0 s.requires.1 a.number.0
           w.result w.ensures (not-false _ c.before.before.if1.false),
     )
 
@@ -48,7 +48,7 @@ returns-2 c =
     let s = c.before.before.before.before.before.before.before.before.before.before.before.before.before.before.before in
     let a = s.args in
     let w = c.before.before.before.before.before.before.before.before.before.before.before.wanted_by in
-    drop-route a.seats a.numbers a.memory.now s.requires.0 a.seat.0 a.key.0 s.requires.1 a.number.0
+    drop_route_lem a.seats a.numbers a.memory.now s.requires.0 a.seat.0 a.key.0 s.requires.1 a.number.0
     w.result w.ensures (not-false _ c.before.before.before.before.before.before.before.before.before.if1.false) a.out.now _ _ _ c.before.before.before.before.before.before.tell-peer.ensures c.before.before.free-route.ensures
 
 pub step_spec : {M : Type 1} → statement M

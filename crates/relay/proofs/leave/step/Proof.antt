@@ -3,7 +3,7 @@ use borrow.Author.Rules.{rules}
 use borrow.Author.Tests.{not-true, not-false}
 use mathlib.Core.Path.{sym, ◌∙◌}
 use Rattle.relay_laws.specs.Calls.{answer_of}
-use Rattle.relay.proofs.LeaveCases.{leave_none, leave_room, leave-made}
+use Rattle.relay.proofs.LeaveCases.{leave_none, leave_room, leave_made}
 use Rattle.relay.proofs.leave.step.Statement.{statement}
 use Rattle.relay.proofs.leave.step.Tie as tie
 
@@ -42,7 +42,7 @@ returns-2 c =
     let s = c.before.before.before.before.before.before.before.before.before.before.before.before in
     let a = s.args in
     let t = c.before.before.before.before.before.before.before.before.is-taken in
-    leave-made a.seats a.numbers a.memory.now s.requires.0 a.seat.0
+    leave_made a.seats a.numbers a.memory.now s.requires.0 a.seat.0
     (sym t.ensures ∙ not-false _ c.before.before.before.before.before.before.before.if1.false) a.out.now _ _ _
     c.before.before.before.before.depart.ensures
 

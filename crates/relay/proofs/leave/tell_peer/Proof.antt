@@ -1,11 +1,11 @@
 -- `leave::tell_peer` meets its contract: a record where the number's route has a connected peer, none where not. Assumes nothing.
 use borrow.Author.Rules.{rules}
 use borrow.Author.Tests.{not-true, not-false}
-use Rattle.room_laws.specs.Lookup.{peerWanting}
-use Rattle.room.proofs.PeersFound.{found-joined}
-use Rattle.records.proofs.Fits.{disconnected-fits}
-use Rattle.relay.proofs.LeaveCases.{tell_none, tell-alone, tell-joined}
-use Rattle.relay.proofs.SeatedClient.{peer-is}
+use Rattle.room_laws.specs.Lookup.{peer_wanting}
+use Rattle.room.proofs.PeersFound.{found_joined}
+use Rattle.records.proofs.Fits.{disconnected_fits}
+use Rattle.relay.proofs.LeaveCases.{tell_none, tell_alone, tell_joined}
+use Rattle.relay.proofs.SeatedClient.{peer_is}
 use Rattle.relay.proofs.leave.tell_peer.Statement.{statement}
 use Rattle.relay.proofs.leave.tell_peer.Tie as tie
 
@@ -41,11 +41,11 @@ returns-2 c =
     let w = f.before.before.before.wanted_by in
     let s = f.before.before.before.before.before.before in
     let a = s.args in
-    let found = peer-is a.seats a.numbers a.memory.now s.requires.0 a.seat.0 a.key.0 w.result.key.0 f.of.result f.of.ensures in
-    tell-joined a.seats a.numbers a.memory.now s.requires.0 a.seat.0 a.key.0 s.requires.1 a.number.0 s.requires.3
+    let found = peer_is a.seats a.numbers a.memory.now s.requires.0 a.seat.0 a.key.0 w.result.key.0 f.of.result f.of.ensures in
+    tell_joined a.seats a.numbers a.memory.now s.requires.0 a.seat.0 a.key.0 s.requires.1 a.number.0 s.requires.3
     w.result w.ensures a.out.now a.at (not-false _ f.before.if1.false)
     f.of.result found o.0.0 o.0.1.0 o.1 _ _
-    (disconnected-fits o.0.1.0.0 (found-joined (peerWanting a.seats a.numbers a.memory.now a.seat.0 a.key.0 w.result.key.0)
+    (disconnected_fits o.0.1.0.0 (found_joined (peer_wanting a.seats a.numbers a.memory.now a.seat.0 a.key.0 w.result.key.0)
     f.of.result f.of.ensures o.0.0 o.0.1.0 o.1).1 s.requires.2 c.before.before.disconnected.ensures)
 
 returns-3 : tie.Need-returns-3
@@ -54,8 +54,8 @@ returns-3 c =
     let w = f.before.before.before.wanted_by in
     let s = f.before.before.before.before.before.before in
     let a = s.args in
-    let found = peer-is a.seats a.numbers a.memory.now s.requires.0 a.seat.0 a.key.0 w.result.key.0 f.of.result f.of.ensures in
-    tell-alone a.seats a.numbers a.memory.now s.requires.0 a.seat.0 a.key.0 s.requires.1 a.number.0 s.requires.3
+    let found = peer_is a.seats a.numbers a.memory.now s.requires.0 a.seat.0 a.key.0 w.result.key.0 f.of.result f.of.ensures in
+    tell_alone a.seats a.numbers a.memory.now s.requires.0 a.seat.0 a.key.0 s.requires.1 a.number.0 s.requires.3
     w.result w.ensures a.out.now a.at (not-false _ f.before.if1.false)
     f.of.result found c.enum_told.given.1
 

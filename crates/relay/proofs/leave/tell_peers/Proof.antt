@@ -5,14 +5,14 @@ use Prim.Native.Nat.{◌+◌, ◌*◌, ◌-◌, ◌≤◌}
 use native.Mathlib.Omega.{arith}
 use lib.ListN.{length, take, get_or}
 use Rattle.rules.specs.Room.{free}
-use Rattle.rules.specs.Outcome.{tellPeer, tellPeers}
-use Rattle.room_laws.specs.Layout.{routesTable}
-use Rattle.room_laws.specs.View.{viewRoom, viewRoutes}
-use Rattle.room_laws.proofs.ViewLaws.{view-routes-length}
-use Rattle.room_laws.proofs.WholeLaws.{whole-few}
+use Rattle.rules.specs.Outcome.{tell_peer, tell_peers}
+use Rattle.room_laws.specs.Layout.{routes_table}
+use Rattle.room_laws.specs.View.{view_room, view_routes}
+use Rattle.room_laws.proofs.ViewLaws.{view_routes_length}
+use Rattle.room_laws.proofs.WholeLaws.{whole_few}
 use Rattle.records.specs.Output.{Appends}
-use Rattle.records.proofs.AppendLaws.{appends-length}
-use Rattle.relay.proofs.LeaveCases.{tells-begun, tells_more, tells_all, tells-some, tell-next}
+use Rattle.records.proofs.AppendLaws.{appends_length}
+use Rattle.relay.proofs.LeaveCases.{tells_begun, tells_more, tells_all, tells_some, tell_next}
 use Rattle.relay.proofs.leave.tell_peers.Statement.{statement}
 use Rattle.relay.proofs.leave.tell_peers.Tie as tie
 
@@ -21,7 +21,7 @@ invariant-loop memory seats numbers seat key out₀ at next₀ place₀ out next
     (place ≤ numbers)
     × (numbers ≤ 240)
     × (length out ≡ length out₀)
-    × Appends (tellPeers (viewRoom seats numbers memory) seat.0 key.0 (take place (viewRoutes numbers (routesTable seats numbers memory seat.0)))) out₀ at next out
+    × Appends (tell_peers (view_room seats numbers memory) seat.0 key.0 (take place (view_routes numbers (routes_table seats numbers memory seat.0)))) out₀ at next out
 
 abbrev decreases-loop : tie.decreases-loop
 decreases-loop memory seats numbers seat key out₀ at next₀ place₀ out next place = numbers - place
@@ -31,10 +31,10 @@ loop-holds c =
     let s = c.before.before in
     let a = s.args in (
       omega arith,
-      whole-few a.seats a.numbers a.memory.now s.requires.0,
+      whole_few a.seats a.numbers a.memory.now s.requires.0,
       refl,
-      tells-begun (viewRoom a.seats a.numbers a.memory.now) a.seat.0 a.key.0
-          (viewRoutes a.numbers (routesTable a.seats a.numbers a.memory.now a.seat.0)) a.out.now a.at,
+      tells_begun (view_room a.seats a.numbers a.memory.now) a.seat.0 a.key.0
+          (view_routes a.numbers (routes_table a.seats a.numbers a.memory.now a.seat.0)) a.out.now a.at,
     )
 
 cast-t12 : tie.Need-overflow-cast-t12 invariant-loop decreases-loop
@@ -48,9 +48,9 @@ tell-peer-requires c κs =
     let s = c.before.before.before.before.before in
     let a = s.args in
     let l = c.before.before.loop in
-    let room = viewRoom a.seats a.numbers a.memory.now in
-    let routes = viewRoutes a.numbers (routesTable a.seats a.numbers a.memory.now a.seat.0) in
-    (s.requires.0, s.requires.1, omega (arith, s.requires.2, l.invariant.2, l.invariant.3.answers, tells-some room a.seat.0 a.key.0 routes l.place), omega arith)
+    let room = view_room a.seats a.numbers a.memory.now in
+    let routes = view_routes a.numbers (routes_table a.seats a.numbers a.memory.now a.seat.0) in
+    (s.requires.0, s.requires.1, omega (arith, s.requires.2, l.invariant.2, l.invariant.3.answers, tells_some room a.seat.0 a.key.0 routes l.place), omega arith)
 
 add-place : tie.Need-overflow-add-place invariant-loop decreases-loop
 add-place c = search rules
@@ -64,15 +64,15 @@ loop-again c =
     let a = s.args in
     let l = c.before.before.before.before.before.loop in
     let t = c.before.before.tell-peer in
-    let room = viewRoom a.seats a.numbers a.memory.now in
-    let routes = viewRoutes a.numbers (routesTable a.seats a.numbers a.memory.now a.seat.0) in
-    let long = view-routes-length a.numbers (routesTable a.seats a.numbers a.memory.now a.seat.0) in
+    let room = view_room a.seats a.numbers a.memory.now in
+    let routes = view_routes a.numbers (routes_table a.seats a.numbers a.memory.now a.seat.0) in
+    let long = view_routes_length a.numbers (routes_table a.seats a.numbers a.memory.now a.seat.0) in
     let route = get_or routes (16 + l.place - 16) free in
-    let next = tell-next room a.seat.0 a.key.0 route l.out l.next t.result _ t.ensures in
-    let within : t.result ≤ length l.out = omega (arith, s.requires.2, l.invariant.2, l.invariant.3.answers, tells-some room a.seat.0 a.key.0 routes l.place) in (
+    let next = tell_next room a.seat.0 a.key.0 route l.out l.next t.result _ t.ensures in
+    let within : t.result ≤ length l.out = omega (arith, s.requires.2, l.invariant.2, l.invariant.3.answers, tells_some room a.seat.0 a.key.0 routes l.place) in (
       omega arith,
       l.invariant.1,
-      appends-length (tellPeer room a.seat.0 a.key.0 route) l.out l.next t.result _ t.ensures within ∙ l.invariant.2,
+      appends_length (tell_peer room a.seat.0 a.key.0 route) l.out l.next t.result _ t.ensures within ∙ l.invariant.2,
       tells_more room a.seat.0 a.key.0 routes l.place (omega arith) a.out.now a.at (let h = s.requires.2 in omega arith) l.next t.result l.out _ l.invariant.3 t.ensures,
     )
 
@@ -84,9 +84,9 @@ returns c =
     let s = c.before.before.before.before in
     let a = s.args in
     let l = c.before.loop in
-    let long = view-routes-length a.numbers (routesTable a.seats a.numbers a.memory.now a.seat.0) in
-    tells_all (viewRoom a.seats a.numbers a.memory.now) a.seat.0 a.key.0
-    (viewRoutes a.numbers (routesTable a.seats a.numbers a.memory.now a.seat.0)) l.place (omega arith) a.out.now a.at l.next l.out l.invariant.3
+    let long = view_routes_length a.numbers (routes_table a.seats a.numbers a.memory.now a.seat.0) in
+    tells_all (view_room a.seats a.numbers a.memory.now) a.seat.0 a.key.0
+    (view_routes a.numbers (routes_table a.seats a.numbers a.memory.now a.seat.0)) l.place (omega arith) a.out.now a.at l.next l.out l.invariant.3
 
 pub tell-peers-spec : {M : Type 1} → statement M
 tell-peers-spec =

@@ -2,16 +2,16 @@
 use borrow.Author.Rules.{rules}
 use native.Mathlib.Omega.{arith}
 use mathlib.Core.List.{◌∷◌, []}
-use Rattle.packet_laws.specs.FromClient.{relayRead, Within}
+use Rattle.packet_laws.specs.FromClient.{relay_read, Within}
 use Rattle.packet_laws.specs.FromRelay as relay
-use Rattle.packet.specs.RelayReads.{clientPacketOf, clientPart}
-use Rattle.packet_laws.proofs.ReadBounds.{read-within}
+use Rattle.packet.specs.RelayReads.{client_packet_of, client_part}
+use Rattle.packet_laws.proofs.ReadBounds.{read_within}
 use Rattle.rules.specs.Outcome.{act, to}
-use Rattle.room_laws.specs.View.{viewRoom, seatHeld}
-use Rattle.records.proofs.Fits.{answered-fits}
+use Rattle.room_laws.specs.View.{view_room, seat_held}
+use Rattle.records.proofs.Fits.{answered_fits}
 use Rattle.relay_laws.specs.Calls.{answer_of}
-use Rattle.relay_laws.proofs.OutcomeLeaves.{leaves-sent}
-use Rattle.relay.proofs.PacketCases.{acted, shows-as, shows-request, shows-oob, shows-data}
+use Rattle.relay_laws.proofs.OutcomeLeaves.{leaves_sent}
+use Rattle.relay.proofs.PacketCases.{acted, shows_as, shows_request, shows_oob, shows_data}
 use Rattle.relay.proofs.packet_call.act.Statement.{statement}
 use Rattle.relay.proofs.packet_call.act.Tie as tie
 
@@ -56,8 +56,8 @@ unfolding Within
 out-of-band-requires c κs =
     let s = c.before.before.before.before.before.before.before.before.before in
     let a = s.args in
-    let e = shows-oob a.packet.now a.shown s.requires.2 _ _ c.before.before.key2.result.0 c.before.payload.result.now c.before.before.before.before.enum-told2.given.1 c.before.before.key2.ensures c.before.payload.ensures.holds in
-    let h = read-within a.packet.now _ e in
+    let e = shows_oob a.packet.now a.shown s.requires.2 _ _ c.before.before.key2.result.0 c.before.payload.result.now c.before.before.before.before.enum-told2.given.1 c.before.before.key2.ensures c.before.payload.ensures.holds in
+    let h = read_within a.packet.now _ e in
     (s.requires.0, s.requires.3, h.0, h.1)
 
 enum-known-shown-4 : tie.Need-enum-known-shown-4
@@ -67,12 +67,12 @@ payload-requires-2 : tie.Need-payload-requires-2
 payload-requires-2 c κs = search rules
 
 data-requires : tie.Need-data-requires
-unfolding Within clientPart
+unfolding Within client_part
 data-requires c κs =
     let s = c.before.before.before.before.before.before.before.before.before in
     let a = s.args in
-    let e = shows-data a.packet.now a.shown s.requires.2 c.before.before.before.before.shown4.given.0.0 _ c.before.payload2.result.now c.before.before.before.before.shown4.given.1 c.before.payload2.ensures.holds in
-    let h = read-within a.packet.now _ e in
+    let e = shows_data a.packet.now a.shown s.requires.2 c.before.before.before.before.shown4.given.0.0 _ c.before.payload2.result.now c.before.before.before.before.shown4.given.1 c.before.payload2.ensures.holds in
+    let h = read_within a.packet.now _ e in
     (s.requires.0, s.requires.1, s.requires.3, h.0, h.1)
 
 same_length : tie.Need-same-length
@@ -86,8 +86,8 @@ returns c =
     let s = c.before.before.before.before.before.before.before.before.before.before.before.before.before in
     let a = s.args in
     let b = a.memory.now in
-    let e = shows-request a.packet.now a.shown s.requires.2 _ c.before.before.before.before.before.before.key.result.0 c.before.before.before.before.before.before.before.before.enum_told.given.1 c.before.before.before.before.before.before.key.ensures in
-    acted a.seats a.numbers (viewRoom a.seats a.numbers b) a.seat.0 b a.out.now _ _ _ (seatHeld a.seats a.numbers b a.seat.0 a.key.0) (relayRead a.packet.now) _ e
+    let e = shows_request a.packet.now a.shown s.requires.2 _ c.before.before.before.before.before.before.key.result.0 c.before.before.before.before.before.before.before.before.enum_told.given.1 c.before.before.before.before.before.before.key.ensures in
+    acted a.seats a.numbers (view_room a.seats a.numbers b) a.seat.0 b a.out.now _ _ _ (seat_held a.seats a.numbers b a.seat.0 a.key.0) (relay_read a.packet.now) _ e
     c.before.before.before.before.step.ensures
 
 same-length-3 : tie.Need-same-length-3
@@ -97,40 +97,40 @@ same-length-4 : tie.Need-same-length-4
 same-length-4 c = search rules
 
 returns-2 : tie.Need-returns-2
-unfolding clientPacketOf
+unfolding client_packet_of
 returns-2 c =
     let s = c.before.before.before.before.before.before.before.before.before.before.before.before.before in
     let a = s.args in
     let b = a.memory.now in
-    let e = shows-as a.packet.now a.shown s.requires.2 _ c.before.before.before.before.before.before.before.before.shown.given.1 in
-    acted a.seats a.numbers (viewRoom a.seats a.numbers b) a.seat.0 b a.out.now _ _ _ (seatHeld a.seats a.numbers b a.seat.0 a.key.0) (relayRead a.packet.now) _ e
+    let e = shows_as a.packet.now a.shown s.requires.2 _ c.before.before.before.before.before.before.before.before.shown.given.1 in
+    acted a.seats a.numbers (view_room a.seats a.numbers b) a.seat.0 b a.out.now _ _ _ (seat_held a.seats a.numbers b a.seat.0 a.key.0) (relay_read a.packet.now) _ e
     c.before.before.before.before.step2.ensures
 
 same-length-5 : tie.Need-same-length-5
 same-length-5 c = search rules
 
 returns-3 : tie.Need-returns-3
-unfolding clientPacketOf answer_of act Within
+unfolding client_packet_of answer_of act Within
 returns-3 c =
     let s = c.before.before.before.before.before.before.before.before.before.before in
     let a = s.args in
     let b = a.memory.now in
-    let e = shows-as a.packet.now a.shown s.requires.2 _ c.before.before.before.before.before.shown2.given.1 in
-    acted a.seats a.numbers (viewRoom a.seats a.numbers b) a.seat.0 b a.out.now _ _ _ (seatHeld a.seats a.numbers b a.seat.0 a.key.0) (relayRead a.packet.now) _ e
-    (leaves-sent a.seats a.numbers b a.out.now a.seat.0 (to a.seat.0 (relay.pong c.before.before.before.before.before.shown2.given.0.0) ∷ []) _ _
-    (answered-fits _ (read-within a.packet.now _ e) (omega arith) c.before.before.answered.ensures))
+    let e = shows_as a.packet.now a.shown s.requires.2 _ c.before.before.before.before.before.shown2.given.1 in
+    acted a.seats a.numbers (view_room a.seats a.numbers b) a.seat.0 b a.out.now _ _ _ (seat_held a.seats a.numbers b a.seat.0 a.key.0) (relay_read a.packet.now) _ e
+    (leaves_sent a.seats a.numbers b a.out.now a.seat.0 (to a.seat.0 (relay.pong c.before.before.before.before.before.shown2.given.0.0) ∷ []) _ _
+    (answered_fits _ (read_within a.packet.now _ e) (omega arith) c.before.before.answered.ensures))
 
 same-length-6 : tie.Need-same-length-6
 same-length-6 c = search rules
 
 returns-4 : tie.Need-returns-4
-unfolding clientPacketOf
+unfolding client_packet_of
 returns-4 c =
     let s = c.before.before.before.before.before.before.before.before.before.before in
     let a = s.args in
     let b = a.memory.now in
-    let e = shows-as a.packet.now a.shown s.requires.2 _ c.before.before.before.before.before.shown3.given.1 in
-    acted a.seats a.numbers (viewRoom a.seats a.numbers b) a.seat.0 b a.out.now _ _ _ (seatHeld a.seats a.numbers b a.seat.0 a.key.0) (relayRead a.packet.now) _ e
+    let e = shows_as a.packet.now a.shown s.requires.2 _ c.before.before.before.before.before.shown3.given.1 in
+    acted a.seats a.numbers (view_room a.seats a.numbers b) a.seat.0 b a.out.now _ _ _ (seat_held a.seats a.numbers b a.seat.0 a.key.0) (relay_read a.packet.now) _ e
     (c.before.before.step3.ensures a.key.0 a.out.now s.requires.1)
 
 same-length-7 : tie.Need-same-length-7
@@ -144,8 +144,8 @@ returns-5 c =
     let s = c.before.before.before.before.before.before.before.before.before.before.before.before in
     let a = s.args in
     let b = a.memory.now in
-    let e = shows-oob a.packet.now a.shown s.requires.2 _ _ c.before.before.before.before.before.key2.result.0 c.before.before.before.before.payload.result.now c.before.before.before.before.before.before.before.enum-told2.given.1 c.before.before.before.before.before.key2.ensures c.before.before.before.before.payload.ensures.holds in
-    acted a.seats a.numbers (viewRoom a.seats a.numbers b) a.seat.0 b a.out.now _ _ _ (seatHeld a.seats a.numbers b a.seat.0 a.key.0) (relayRead a.packet.now) _ e
+    let e = shows_oob a.packet.now a.shown s.requires.2 _ _ c.before.before.before.before.before.key2.result.0 c.before.before.before.before.payload.result.now c.before.before.before.before.before.before.before.enum-told2.given.1 c.before.before.before.before.before.key2.ensures c.before.before.before.before.payload.ensures.holds in
+    acted a.seats a.numbers (view_room a.seats a.numbers b) a.seat.0 b a.out.now _ _ _ (seat_held a.seats a.numbers b a.seat.0 a.key.0) (relay_read a.packet.now) _ e
     c.before.before.out-of-band.ensures
 
 same-length-9 : tie.Need-same-length-9
@@ -155,13 +155,13 @@ same-length-10 : tie.Need-same-length-10
 same-length-10 c = search rules
 
 returns-6 : tie.Need-returns-6
-unfolding clientPart
+unfolding client_part
 returns-6 c =
     let s = c.before.before.before.before.before.before.before.before.before.before.before.before in
     let a = s.args in
     let b = a.memory.now in
-    let e = shows-data a.packet.now a.shown s.requires.2 c.before.before.before.before.before.before.before.shown4.given.0.0 _ c.before.before.before.before.payload2.result.now c.before.before.before.before.before.before.before.shown4.given.1 c.before.before.before.before.payload2.ensures.holds in
-    acted a.seats a.numbers (viewRoom a.seats a.numbers b) a.seat.0 b a.out.now _ _ _ (seatHeld a.seats a.numbers b a.seat.0 a.key.0) (relayRead a.packet.now) _ e
+    let e = shows_data a.packet.now a.shown s.requires.2 c.before.before.before.before.before.before.before.shown4.given.0.0 _ c.before.before.before.before.payload2.result.now c.before.before.before.before.before.before.before.shown4.given.1 c.before.before.before.before.payload2.ensures.holds in
+    acted a.seats a.numbers (view_room a.seats a.numbers b) a.seat.0 b a.out.now _ _ _ (seat_held a.seats a.numbers b a.seat.0 a.key.0) (relay_read a.packet.now) _ e
     c.before.before.«data».ensures
 
 pub act-spec : {M : Type 1} → statement M

@@ -2,12 +2,12 @@
 use borrow.Author.Rules.{rules}
 use borrow.Author.Tests.{not-true, not-false}
 use mathlib.Core.Path.{sym, ◌∙◌}
-use Rattle.packet_laws.specs.FromClient.{relayRead}
-use Rattle.packet.proofs.RelayLaws.{refusal-taken}
-use Rattle.room_laws.specs.View.{viewRoom, seatHeld}
+use Rattle.packet_laws.specs.FromClient.{relay_read}
+use Rattle.packet.proofs.RelayLaws.{refusal_taken}
+use Rattle.room_laws.specs.View.{view_room, seat_held}
 use Rattle.relay_laws.specs.Calls.{answer_of}
-use Rattle.relay.proofs.LeaveCases.{leave-sits}
-use Rattle.relay.proofs.PacketCases.{from-seat, from-empty, turned_down, shows-refused}
+use Rattle.relay.proofs.LeaveCases.{leave_sits}
+use Rattle.relay.proofs.PacketCases.{from_seat, from_empty_lem, turned_down, shows_refused}
 use Rattle.relay.proofs.packet_call.step.Statement.{statement}
 use Rattle.relay.proofs.packet_call.step.Tie as tie
 
@@ -22,7 +22,7 @@ unfolding answer_of
 returns c =
     let s = c.before.before.before.before.before.before in
     let a = s.args in
-    from-empty a.seats a.numbers a.memory.now s.requires.0 a.seat.0 a.out.now a.packet.now (sym c.before.is-taken.ensures ∙ not-true _ c.if1.true)
+    from_empty_lem a.seats a.numbers a.memory.now s.requires.0 a.seat.0 a.out.now a.packet.now (sym c.before.is-taken.ensures ∙ not-true _ c.if1.true)
 
 key-in-requires : tie.Need-key-in-requires
 key-in-requires c κs = search rules
@@ -49,18 +49,18 @@ returns-2 c =
     let a = s.args in
     let b = a.memory.now in
     let key = c.before.before.before.before.key_in in
-    let sits = leave-sits a.seats a.numbers b s.requires.0 a.seat.0 c.before.before.before.before.before.before.before.is-taken.result c.before.before.before.before.before.before.before.is-taken.ensures (not-false _ c.before.before.before.before.before.before.if1.false) key.result.0 key.ensures in
-    let e = shows-refused (relayRead a.packet.now) c.refusal.result (sym (refusal-taken _ _ c.refusal.result c.before.enum_told.given.1 c.refusal.ensures) ∙ c.before.before.before.read.ensures.exact) in
-    let held = seatHeld a.seats a.numbers b a.seat.0 key.result.0 in
-    from-seat a.seats a.numbers (viewRoom a.seats a.numbers b) a.seat.0 b a.out.now _ _ _ held a.packet.now sits
-    (turned_down a.seats a.numbers (viewRoom a.seats a.numbers b) a.seat.0 b a.out.now a.packet.now held (relayRead a.packet.now) c.refusal.result e)
+    let sits = leave_sits a.seats a.numbers b s.requires.0 a.seat.0 c.before.before.before.before.before.before.before.is-taken.result c.before.before.before.before.before.before.before.is-taken.ensures (not-false _ c.before.before.before.before.before.before.if1.false) key.result.0 key.ensures in
+    let e = shows_refused (relay_read a.packet.now) c.refusal.result (sym (refusal_taken _ _ c.refusal.result c.before.enum_told.given.1 c.refusal.ensures) ∙ c.before.before.before.read.ensures.exact) in
+    let held = seat_held a.seats a.numbers b a.seat.0 key.result.0 in
+    from_seat a.seats a.numbers (view_room a.seats a.numbers b) a.seat.0 b a.out.now _ _ _ held a.packet.now sits
+    (turned_down a.seats a.numbers (view_room a.seats a.numbers b) a.seat.0 b a.out.now a.packet.now held (relay_read a.packet.now) c.refusal.result e)
 
 act-requires : tie.Need-act-requires
 act-requires c κs =
     let s = c.before.before.before.before.before.before.before.before.before.before.before.before.before.before in
     let a = s.args in
     let key = c.before.before.before.before.before.before.key_in in
-    let sits = leave-sits a.seats a.numbers a.memory.now s.requires.0 a.seat.0 c.before.before.before.before.before.before.before.before.before.is-taken.result c.before.before.before.before.before.before.before.before.before.is-taken.ensures (not-false _ c.before.before.before.before.before.before.before.before.if1.false) key.result.0 key.ensures in
+    let sits = leave_sits a.seats a.numbers a.memory.now s.requires.0 a.seat.0 c.before.before.before.before.before.before.before.before.before.is-taken.result c.before.before.before.before.before.before.before.before.before.is-taken.ensures (not-false _ c.before.before.before.before.before.before.before.before.if1.false) key.result.0 key.ensures in
     (s.requires.0, sits, sym c.before.before.before.read2.given.1 ∙ c.before.before.before.before.before.read.ensures.exact, s.requires.1)
 
 same-length-3 : tie.Need-same-length-3
@@ -75,8 +75,8 @@ returns-3 c =
     let a = s.args in
     let b = a.memory.now in
     let key = c.before.before.before.before.before.before.before.before.before.before.before.key_in in
-    let sits = leave-sits a.seats a.numbers b s.requires.0 a.seat.0 c.before.before.before.before.before.before.before.before.before.before.before.before.before.before.is-taken.result c.before.before.before.before.before.before.before.before.before.before.before.before.before.before.is-taken.ensures (not-false _ c.before.before.before.before.before.before.before.before.before.before.before.before.before.if1.false) key.result.0 key.ensures in
-    from-seat a.seats a.numbers (viewRoom a.seats a.numbers b) a.seat.0 b a.out.now _ _ _ (seatHeld a.seats a.numbers b a.seat.0 key.result.0) a.packet.now sits c.before.before.before.before.act.ensures
+    let sits = leave_sits a.seats a.numbers b s.requires.0 a.seat.0 c.before.before.before.before.before.before.before.before.before.before.before.before.before.before.is-taken.result c.before.before.before.before.before.before.before.before.before.before.before.before.before.before.is-taken.ensures (not-false _ c.before.before.before.before.before.before.before.before.before.before.before.before.before.if1.false) key.result.0 key.ensures in
+    from_seat a.seats a.numbers (view_room a.seats a.numbers b) a.seat.0 b a.out.now _ _ _ (seat_held a.seats a.numbers b a.seat.0 key.result.0) a.packet.now sits c.before.before.before.before.act.ensures
 
 pub step_spec : {M : Type 1} → statement M
 step_spec =

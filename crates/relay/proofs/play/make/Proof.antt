@@ -6,10 +6,10 @@ use Prim.Native.Nat.{ℕ, ◌+◌, ◌-◌}
 use native.Mathlib.Nat.{add-sub_cancel_left}
 use native.Mathlib.Omega.{arith}
 use lib.ListN.{take, drop}
-use Rattle.rules.specs.Call.{arrive, leave, packetCall}
+use Rattle.rules.specs.Call.{arrive, leave, packet_call}
 use Rattle.stored.specs.Stored.{call}
 use Rattle.relay.specs.PlaySteps.{Reads}
-use Rattle.relay.proofs.MakeCases.{arrive-read, leave-read, packet-read, makes, key-read}
+use Rattle.relay.proofs.MakeCases.{arrive_read, leave_read, packet_read, makes, key_read}
 use Rattle.relay.proofs.play.make.Statement.{statement}
 use Rattle.relay.proofs.play.make.Tie as tie
 
@@ -25,7 +25,7 @@ part-read-start c = search rules
 part-read-end : tie.Need-slice-bounds-read-end
 part-read-end c =
     let s = c.before.before.before.before.before.before in
-    let r = arrive-read s.args.calls.now (subst (Reads s.args.calls.now) c.before.enum_told.given.1 s.requires.1) in
+    let r = arrive_read s.args.calls.now (subst (Reads s.args.calls.now) c.before.enum_told.given.1 s.requires.1) in
     omega (arith, r.there)
 
 read-requires : tie.Need-read-requires
@@ -46,7 +46,7 @@ enum-known-call-2 c = search rules
 add-end : tie.Need-overflow-add-end
 add-end c =
     let s = c.before.before.before.before.before.before in
-    let r = packet-read s.args.calls.now _ _ (subst (Reads s.args.calls.now) c.before.call2.given.1 s.requires.1) in
+    let r = packet_read s.args.calls.now _ _ (subst (Reads s.args.calls.now) c.before.call2.given.1 s.requires.1) in
     search (rules, r.there)
 
 sub-step : tie.Need-overflow-sub-step
@@ -58,7 +58,7 @@ part-step-start c = search rules
 part-step-end : tie.Need-slice-bounds-step-end
 part-step-end c =
     let s = c.before.before.before.before.before.before.before in
-    let r = packet-read s.args.calls.now _ _ (subst (Reads s.args.calls.now) c.before.before.call2.given.1 s.requires.1) in
+    let r = packet_read s.args.calls.now _ _ (subst (Reads s.args.calls.now) c.before.before.call2.given.1 s.requires.1) in
     omega (arith, r.there)
 
 step-requires-3 : tie.Need-step-requires-3
@@ -78,9 +78,9 @@ returns c =
     let s = told.before.before.before.before.before in
     let a = s.args in
     let stored = a.calls.now in
-    let r = arrive-read stored (subst (Reads stored) told.enum_told.given.1 s.requires.1) in
+    let r = arrive_read stored (subst (Reads stored) told.enum_told.given.1 s.requires.1) in
     let key = read.read in
-    let same = key-read stored key.result.0 r.long key.ensures in
+    let same = key_read stored key.result.0 r.long key.ensures in
     makes a.seats a.numbers stored a.memory.now a.out.now _ _ _ (arrive key.result.0) (r.first ∙ ap (λ (x : List ℕ). call (arrive x)) (sym same))
     stepped.step.ensures
 
@@ -97,7 +97,7 @@ returns-2 c =
     let stored = a.calls.now in
     let seat = c.before.before.before.before.before.before.before.before.call.given.0.0 in
     makes a.seats a.numbers stored a.memory.now a.out.now _ _ _ (leave seat.0)
-    (leave-read stored seat (subst (Reads stored) c.before.before.before.before.before.before.before.before.call.given.1 s.requires.1)) c.before.before.before.before.step2.ensures
+    (leave_read stored seat (subst (Reads stored) c.before.before.before.before.before.before.before.before.call.given.1 s.requires.1)) c.before.before.before.before.step2.ensures
 
 same-length-5 : tie.Need-same-length-5
 same-length-5 c = search rules
@@ -112,9 +112,9 @@ returns-3 c =
     let stored = a.calls.now in
     let seat = c.before.before.before.before.before.before.before.before.before.call2.given.0.0 in
     let size = c.before.before.before.before.before.before.before.before.before.call2.given.0.1.0 in
-    let r = packet-read stored seat size (subst (Reads stored) c.before.before.before.before.before.before.before.before.before.call2.given.1 s.requires.1) in
-    makes a.seats a.numbers stored a.memory.now a.out.now _ _ _ (packetCall seat.0 (take (4 + size - 4) (drop 4 stored)))
-    (r.first ∙ ap (λ (n : ℕ). call (packetCall seat.0 (take n (drop 4 stored)))) (sym (add-sub_cancel_left 4 size))) c.before.before.before.before.step3.ensures
+    let r = packet_read stored seat size (subst (Reads stored) c.before.before.before.before.before.before.before.before.before.call2.given.1 s.requires.1) in
+    makes a.seats a.numbers stored a.memory.now a.out.now _ _ _ (packet_call seat.0 (take (4 + size - 4) (drop 4 stored)))
+    (r.first ∙ ap (λ (n : ℕ). call (packet_call seat.0 (take n (drop 4 stored)))) (sym (add-sub_cancel_left 4 size))) c.before.before.before.before.step3.ensures
 
 pub make_spec : {M : Type 1} → statement M
 make_spec =

@@ -2,7 +2,7 @@
 use borrow.Author.Rules.{rules}
 use borrow.Author.Tests.{not-true, not-false}
 use mathlib.Core.Path.{sym, ◌∙◌}
-use Rattle.relay.proofs.PlayTested.{play-not-whole, play-tested}
+use Rattle.relay.proofs.PlayTested.{play_not_whole, play_tested}
 use Rattle.relay.proofs.play.play.Statement.{statement}
 use Rattle.relay.proofs.play.play.Tie as tie
 
@@ -15,7 +15,7 @@ same_length c = search rules
 returns : tie.Need-returns
 returns c =
     let a = c.before.before.before.before.before.before.args in
-    play-not-whole 40 32 a.allowance a.calls.now a.memory.now a.out.now (sym c.before.is_whole.ensures ∙ not-true _ c.if1.true)
+    play_not_whole 40 32 a.allowance a.calls.now a.memory.now a.out.now (sym c.before.is_whole.ensures ∙ not-true _ c.if1.true)
 
 play-all-requires : tie.Need-play-all-requires
 play-all-requires c κs = sym c.before.before.before.is_whole.ensures ∙ not-false _ c.before.before.if1.false
@@ -30,7 +30,7 @@ returns-2 : tie.Need-returns-2
 returns-2 c =
     let a = c.before.before.before.before.before.before.before.before.before.before.before.before.before.args in
     let whole = sym c.before.before.before.before.before.before.before.before.is_whole.ensures ∙ not-false _ c.before.before.before.before.before.before.before.if1.false in
-    play-tested 40 32 a.allowance a.calls.now a.memory.now a.out.now whole _ _ _ c.before.before.before.before.play-all.ensures
+    play_tested 40 32 a.allowance a.calls.now a.memory.now a.out.now whole _ _ _ c.before.before.before.before.play-all.ensures
 
 pub play-spec : {M : Type 1} → statement M
 play-spec =

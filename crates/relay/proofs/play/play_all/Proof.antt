@@ -6,9 +6,9 @@ use mathlib.Core.Bool.{true}
 use Prim.Native.Nat.{ℕ, ◌-◌, ◌≤◌}
 use native.Mathlib.Omega.{arith}
 use lib.ListN.{length}
-use Rattle.room_laws.specs.Whole.{roomWhole}
-use Rattle.relay.proofs.RunCases.{rests-all}
-use Rattle.relay.proofs.TurnCases.{Leads, leads-begun, turn_last, turn_more}
+use Rattle.room_laws.specs.Whole.{room_whole}
+use Rattle.relay.proofs.RunCases.{rests_all}
+use Rattle.relay.proofs.TurnCases.{Leads, leads_begun, turn_last, turn_more}
 use Rattle.relay.proofs.play.play_all.Statement.{statement}
 use Rattle.relay.proofs.play.play_all.Tie as tie
 
@@ -19,7 +19,7 @@ invariant-loop memory₀ seats numbers calls allowance out₀ played₀ read₀ 
     × (written ≤ length out)
     × (length out ≡ length out₀)
     × (length memory ≡ length memory₀)
-    × (roomWhole seats numbers memory ≡ true)
+    × (room_whole seats numbers memory ≡ true)
     × Leads seats numbers allowance calls memory₀ out₀ memory out played read written
 
 abbrev decreases-loop : tie.decreases-loop
@@ -29,7 +29,7 @@ loop-holds : tie.Need-loop-init invariant-loop decreases-loop
 loop-holds c =
     let s = c.before.before.before in
     let a = s.args in
-    (omega arith, omega arith, omega arith, refl, refl, s.requires, leads-begun a.seats a.numbers a.allowance a.calls.now a.memory.now a.out.now)
+    (omega arith, omega arith, omega arith, refl, refl, s.requires, leads_begun a.seats a.numbers a.allowance a.calls.now a.memory.now a.out.now)
 
 sub-left : tie.Need-overflow-sub-left invariant-loop decreases-loop
 sub-left c = search rules
@@ -76,7 +76,7 @@ returns c =
     let why = c.before.why.given.0.0 in
     let end = turn_last a.seats a.numbers a.allowance a.calls.now l.played l.read l.written l.memory l.out l.invariant.5
     l.invariant.0 l.invariant.1 l.invariant.2 next.result why _ _ next.ensures c.before.why.given.1 in
-    rests-all a.seats a.numbers _ a.memory.now a.out.now _ _ _ (l.invariant.6 _ _ _ end)
+    rests_all a.seats a.numbers _ a.memory.now a.out.now _ _ _ (l.invariant.6 _ _ _ end)
 
 enum-known-size : tie.Need-enum-known-size invariant-loop decreases-loop
 enum-known-size c = search rules

@@ -5,29 +5,29 @@ use Prim.Native.Nat.{◌≤◌}
 use native.Mathlib.Omega.{arith}
 use lib.ListN.{length}
 use Rattle.rules.specs.History.{event}
-use Rattle.room_laws.specs.View.{viewRoom}
-use Rattle.records.proofs.EntryLaws.{entry-within}
+use Rattle.room_laws.specs.View.{view_room}
+use Rattle.records.proofs.EntryLaws.{entry_within}
 use Rattle.relay.specs.declared.play.Next.TheVariants.{Played}
 use Rattle.relay.specs.declared.play.Stop.TheVariants.{End, NoCall, Allowance, Output}
 use Rattle.relay_laws.specs.Calls.{answer_of}
-use Rattle.relay.specs.Play.{entryBytes}
+use Rattle.relay.specs.Play.{entry_bytes}
 use Rattle.relay.specs.PlaySteps.{stopped, played}
-use Rattle.relay.proofs.PlayLaws.{least-space, next-end, next-allowance, next-no-call, next-output, next-plays}
+use Rattle.relay.proofs.PlayLaws.{least_space_lem, next_end, next_allowance, next_no_call, next_output, next_plays}
 use Rattle.relay.proofs.LentParts.{length_from}
-use Rattle.relay.proofs.MakeCases.{call-read, none_read}
-use Rattle.relay.proofs.NextCases.{length_back, entry-fits, length-entry, entry-written}
+use Rattle.relay.proofs.MakeCases.{call_read, none_read}
+use Rattle.relay.proofs.NextCases.{length_back, entry_fits, length_entry, entry_written}
 use Rattle.relay.proofs.play.play_next.Statement.{statement}
 use Rattle.relay.proofs.play.play_next.Tie as tie
 
 returns : tie.Need-returns
 returns c =
     let a = c.before.before.before.before.args in
-    stopped End (next-end a.allowance a.calls.now (length a.out.now) c.if1.true) refl refl refl
+    stopped End (next_end a.allowance a.calls.now (length a.out.now) c.if1.true) refl refl refl
 
 returns-2 : tie.Need-returns-2
 returns-2 c =
     let a = c.before.before.before.before.before.args in
-    stopped Allowance (next-allowance a.allowance a.calls.now (length a.out.now) c.before.if1.false c.if2.true) refl refl refl
+    stopped Allowance (next_allowance a.allowance a.calls.now (length a.out.now) c.before.if1.false c.if2.true) refl refl refl
 
 read-requires : tie.Need-read-requires
 read-requires c κs = search rules
@@ -42,13 +42,13 @@ returns-3 : tie.Need-returns-3
 returns-3 c =
     let a = c.before.before.before.before.before.before.before.before.args in
     let e = none_read a.calls.now (sym c.enum_told.given.1 ∙ c.before.before.read.ensures) in
-    stopped NoCall (next-no-call a.allowance a.calls.now (length a.out.now) c.before.before.before.before.if1.false c.before.before.before.if2.false e) refl refl refl
+    stopped NoCall (next_no_call a.allowance a.calls.now (length a.out.now) c.before.before.before.before.if1.false c.before.before.before.if2.false e) refl refl refl
 
 returns-4 : tie.Need-returns-4
 returns-4 c =
     let a = c.before.before.before.before.before.before.before.before.before.before.args in
-    let q = call-read a.calls.now _ _ (sym c.before.before.call.given.1 ∙ c.before.before.before.before.read.ensures) in
-    stopped Output (next-output a.allowance a.calls.now (length a.out.now) c.before.before.before.before.before.before.if1.false c.before.before.before.before.before.if2.false q.made q.first (omega (arith, c.if3.true, least-space q.made))) refl refl refl
+    let q = call_read a.calls.now _ _ (sym c.before.before.call.given.1 ∙ c.before.before.before.before.read.ensures) in
+    stopped Output (next_output a.allowance a.calls.now (length a.out.now) c.before.before.before.before.before.before.if1.false c.before.before.before.before.before.if2.false q.made q.first (omega (arith, c.if3.true, least_space_lem q.made))) refl refl refl
 
 sub-make : tie.Need-overflow-sub-make
 sub-make c = search rules
@@ -79,20 +79,20 @@ returns-5 c =
     let s = c.before.before.before.before.before.before.before.before.before.before.before.before.before.before.before.before.before.before.before.before.before in
     let a = s.args in
     let make = c.before.before.before.before.before.before.before.before.make in
-    let q = call-read a.calls.now _ _ (sym c.before.before.before.before.before.before.before.before.before.before.before.before.before.call.given.1 ∙ c.before.before.before.before.before.before.before.before.before.before.before.before.before.before.before.read.ensures) in
+    let q = call_read a.calls.now _ _ (sym c.before.before.before.before.before.before.before.before.before.before.before.before.before.call.given.1 ∙ c.before.before.before.before.before.before.before.before.before.before.before.before.before.before.before.read.ensures) in
     let long : 4 ≤ length a.out.now = omega arith in
     let left = make.ensures q.made q.first in
     let kept = make.auto.1.1.1.1.1.0 in
     let new = make.new.1.1.1.1.1.0 in
     let given = answer_of make.result in
-    let size = length-entry a.seats a.numbers a.memory.now q.made given a.out.now new make.new.0 long left kept in
-    let fits = entry-fits a.seats a.numbers a.memory.now q.made given a.out.now new make.new.0 long left kept in
-    let write = entry-within given fits c.before.before.write.ensures in
+    let size = length_entry a.seats a.numbers a.memory.now q.made given a.out.now new make.new.0 long left kept in
+    let fits = entry_fits a.seats a.numbers a.memory.now q.made given a.out.now new make.new.0 long left kept in
+    let write = entry_within given fits c.before.before.write.ensures in
     let back = length_back a.seats a.numbers a.memory.now q.made given a.out.now new make.new.0 long left kept in
-    played q.made (entryBytes (event (viewRoom a.seats a.numbers a.memory.now) q.made)) refl
-    (next-plays a.allowance a.calls.now (length a.out.now) c.before.before.before.before.before.before.before.before.before.before.before.before.before.before.before.before.before.if1.false c.before.before.before.before.before.before.before.before.before.before.before.before.before.before.before.before.if2.false q.made q.first (omega (arith, c.before.before.before.before.before.before.before.before.before.before.before.if3.false, least-space q.made)))
+    played q.made (entry_bytes (event (view_room a.seats a.numbers a.memory.now) q.made)) refl
+    (next_plays a.allowance a.calls.now (length a.out.now) c.before.before.before.before.before.before.before.before.before.before.before.before.before.before.before.before.before.if1.false c.before.before.before.before.before.before.before.before.before.before.before.before.before.before.before.before.if2.false q.made q.first (omega (arith, c.before.before.before.before.before.before.before.before.before.before.before.if3.false, least_space_lem q.made)))
     (ap₂ Played q.takes (write.0 ∙ sym size)) left.stores (omega arith)
-    (write.1 ∙ entry-written a.seats a.numbers a.memory.now q.made given a.out.now new make.new.0 long left kept)
+    (write.1 ∙ entry_written a.seats a.numbers a.memory.now q.made given a.out.now new make.new.0 long left kept)
 
 pub play-next-spec : {M : Type 1} → statement M
 play-next-spec =

@@ -2,7 +2,7 @@
 use borrow.Author.Rules.{rules}
 use mathlib.Core.Path.{sym, ◌∙◌}
 use Rattle.relay_laws.specs.Calls.{answer_of}
-use Rattle.relay.proofs.PongCases.{pong-clears, pong-passes}
+use Rattle.relay.proofs.PongCases.{pong_clears, pong_passes}
 use Rattle.relay.proofs.pong.step.Statement.{statement}
 use Rattle.relay.proofs.pong.step.Tie as tie
 
@@ -21,7 +21,7 @@ returns c =
     let s = c.before.before.before.before.before.before.before.before in
     let a = s.args in
     let o = c.before.before.before.before.before.outstanding in
-    pong-clears a.seats a.numbers a.memory.now s.requires a.seat.0 a.number (sym o.ensures ∙ c.before.before.before.before.if1.true) _
+    pong_clears a.seats a.numbers a.memory.now s.requires a.seat.0 a.number (sym o.ensures ∙ c.before.before.before.before.if1.true) _
     c.before.before.clear-ping.ensures
 
 same-length-2 : tie.Need-same-length-2
@@ -33,7 +33,7 @@ returns-2 c =
     let s = c.before.before.before.before in
     let a = s.args in
     let o = c.before.outstanding in
-    pong-passes a.seats a.numbers a.memory.now s.requires a.seat.0 a.number (λ q. c.if1.false (o.ensures ∙ q))
+    pong_passes a.seats a.numbers a.memory.now s.requires a.seat.0 a.number (λ q. c.if1.false (o.ensures ∙ q))
 
 pub step_spec : {M : Type 1} → statement M
 step_spec =

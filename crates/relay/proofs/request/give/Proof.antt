@@ -3,11 +3,11 @@ use borrow.Author.Rules.{rules}
 use mathlib.Core.Path.{◌≡◌, sym, ◌∙◌}
 use native.Mathlib.Omega.{arith}
 use lib.ListN.{length, length-map}
-use Rattle.room_laws.specs.Lookup.{peerWanting}
+use Rattle.room_laws.specs.Lookup.{peer_wanting}
 use Rattle.records.specs.Output.{given}
-use Rattle.records.proofs.Fits.{response-fits}
-use Rattle.relay.proofs.RequestCases.{response-next, gives}
-use Rattle.relay.proofs.SeatedClient.{peer-is}
+use Rattle.records.proofs.Fits.{response_fits}
+use Rattle.relay.proofs.RequestCases.{response_next, gives}
+use Rattle.relay.proofs.SeatedClient.{peer_is}
 use Rattle.room.proofs.PeersFound.{found_right}
 use Rattle.relay.proofs.request.give.Statement.{statement}
 use Rattle.relay.proofs.request.give.Tie as tie
@@ -29,9 +29,9 @@ tell-both-requires c κs =
     let s = c.before.before.before.before.before.before.before.before.before.before.before.before.before in
     let a = s.args in
     let w = c.before.before.before.response in
-    let next = response-next a.seat.0 a.number.0 a.wanted.0 (wanted-long s) a.out.now 0 w.result w.new.0 (response-fits a.number.0 a.wanted.0 (given a.number.0 s.requires.2) (omega arith) w.ensures) in
+    let next = response_next a.seat.0 a.number.0 a.wanted.0 (wanted-long s) a.out.now 0 w.result w.new.0 (response_fits a.number.0 a.wanted.0 (given a.number.0 s.requires.2) (omega arith) w.ensures) in
     let o = c.before.before.before.before.before.before.before.before.before.of in
-    let right = found_right (peerWanting a.seats a.numbers a.memory.now a.seat.0 a.key.0 a.wanted.0) o.result o.ensures in
+    let right = found_right (peer_wanting a.seats a.numbers a.memory.now a.seat.0 a.key.0 a.wanted.0) o.result o.ensures in
     (omega arith, s.requires.2, right)
 
 same_length : tie.Need-same-length
@@ -49,9 +49,9 @@ returns c =
     let o = c.before.before.before.before.before.before.before.before.before.before.before.before.of in
     let g = c.before.before.before.before.before.before.before.before.before.before.give-route in
     gives a.seats a.numbers a.memory.now a.seat.0 a.key.0 a.wanted.0 a.number.0 s.requires.2
-    o.result (peer-is a.seats a.numbers a.memory.now s.requires.0 a.seat.0 a.key.0 a.wanted.0 o.result o.ensures)
+    o.result (peer_is a.seats a.numbers a.memory.now s.requires.0 a.seat.0 a.key.0 a.wanted.0 o.result o.ensures)
     g.new.0 g.ensures a.out.now w.result t.result w.new.0 t.new.0
-    (response-fits a.number.0 a.wanted.0 (given a.number.0 s.requires.2) (omega arith) w.ensures) t.ensures
+    (response_fits a.number.0 a.wanted.0 (given a.number.0 s.requires.2) (omega arith) w.ensures) t.ensures
 
 pub give_spec : {M : Type 1} → statement M
 give_spec =

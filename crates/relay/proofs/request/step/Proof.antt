@@ -1,9 +1,9 @@
 -- `request::step` meets its contract: the comparison with the client's own key, and then the two lookups, decide as the rules do. Assumes nothing.
 use borrow.Author.Rules.{rules}
-use Rattle.room_laws.specs.Lookup.{routeWanting, lowestRoute}
+use Rattle.room_laws.specs.Lookup.{route_wanting, lowest_route}
 use Rattle.records.specs.Output.{none, given}
 use Rattle.relay_laws.specs.Calls.{answer_of}
-use Rattle.relay.proofs.RequestCases.{request-own, request-old, request-full, request-given, number-right}
+use Rattle.relay.proofs.RequestCases.{request_own, request_old, request_full, request_given, number_right_lem}
 use Rattle.relay.proofs.request.step.Statement.{statement}
 use Rattle.relay.proofs.request.step.Tie as tie
 
@@ -23,7 +23,7 @@ returns c =
     let a = s.args in
     let same = c.before.before.before.before.before.equals in
     let w = c.before.before.answer-only in
-    request-own a.seats a.numbers a.memory.now a.seat.0 a.key.0 a.wanted.0 same.result same.ensures c.before.before.before.before.if1.true
+    request_own a.seats a.numbers a.memory.now a.seat.0 a.key.0 a.wanted.0 same.result same.ensures c.before.before.before.before.if1.true
     a.out.now (answer_of w.result) w.new.0 w.ensures
 
 number-of-requires : tie.Need-number-of-requires
@@ -38,7 +38,7 @@ answer-only-requires-2 c κs =
     let a = s.args in
     let look = c.before.before.before.before.number_of_lem in
     let old = c.before.before.old.given in
-    (s.requires.2, given old.0.0.0 (number-right (routeWanting a.seats a.numbers a.memory.now a.seat.0 a.wanted.0) look.result look.ensures old.0.0 old.1))
+    (s.requires.2, given old.0.0.0 (number_right_lem (route_wanting a.seats a.numbers a.memory.now a.seat.0 a.wanted.0) look.result look.ensures old.0.0 old.1))
 
 same-length-2 : tie.Need-same-length-2
 same-length-2 c = search rules
@@ -55,7 +55,7 @@ returns-2 c =
     let look = c.before.before.before.before.before.before.before.number_of_lem in
     let old = c.before.before.before.before.before.old.given in
     let w = c.before.before.answer-only2 in
-    request-old a.seats a.numbers a.memory.now a.seat.0 a.key.0 a.wanted.0 s.requires.0 s.requires.1
+    request_old a.seats a.numbers a.memory.now a.seat.0 a.key.0 a.wanted.0 s.requires.0 s.requires.1
     same.result same.ensures c.before.before.before.before.before.before.before.before.before.if1.false a.out.now w.new.0 look.result look.ensures
     old.0.0 old.1 (answer_of w.result) w.ensures
 
@@ -87,9 +87,9 @@ returns-3 c =
     let a = s.args in
     let same = c.before.before.before.before.before.before.before.before.before.before.before.before.before.equals in
     let look = c.before.before.before.before.before.before.before.before.before.before.number_of_lem in
-    let look-free = c.before.before.before.before.before.before.lowest-free in
+    let look-free = c.before.before.before.before.before.before.lowest_free in
     let w = c.before.before.answer-only3 in
-    request-full a.seats a.numbers a.memory.now a.seat.0 a.key.0 a.wanted.0 s.requires.0 s.requires.1
+    request_full a.seats a.numbers a.memory.now a.seat.0 a.key.0 a.wanted.0 s.requires.0 s.requires.1
     same.result same.ensures c.before.before.before.before.before.before.before.before.before.before.before.before.if1.false a.out.now w.new.0 look.result look.ensures c.before.before.before.before.before.before.before.before.enum_told.given.1
     look-free.result look-free.ensures c.before.before.before.before.enum-told2.given.1 (answer_of w.result) w.ensures
 
@@ -97,9 +97,9 @@ give-requires : tie.Need-give-requires
 give-requires c κs =
     let s = c.before.before.before.before.before.before.before.before.before.before.before.before.before.before.before in
     let a = s.args in
-    let look = c.before.before.before.before.before.lowest-free in
+    let look = c.before.before.before.before.before.lowest_free in
     let number = c.before.before.before.number.given in
-    (s.requires.0, s.requires.2, number-right (lowestRoute a.seats a.numbers a.memory.now a.seat.0) look.result look.ensures number.0.0 number.1)
+    (s.requires.0, s.requires.2, number_right_lem (lowest_route a.seats a.numbers a.memory.now a.seat.0) look.result look.ensures number.0.0 number.1)
 
 same-length-6 : tie.Need-same-length-6
 same-length-6 c = search rules
@@ -114,10 +114,10 @@ returns-4 c =
     let a = s.args in
     let same = c.before.before.before.before.before.before.before.before.before.before.before.before.before.before.before.before.before.equals in
     let look = c.before.before.before.before.before.before.before.before.before.before.before.before.before.before.number_of_lem in
-    let look-free = c.before.before.before.before.before.before.before.before.before.before.lowest-free in
+    let look-free = c.before.before.before.before.before.before.before.before.before.before.lowest_free in
     let number = c.before.before.before.before.before.before.before.before.number.given in
     let g = c.before.before.before.before.give in
-    request-given a.seats a.numbers a.memory.now a.seat.0 a.key.0 a.wanted.0 s.requires.0 s.requires.1
+    request_given a.seats a.numbers a.memory.now a.seat.0 a.key.0 a.wanted.0 s.requires.0 s.requires.1
     same.result same.ensures c.before.before.before.before.before.before.before.before.before.before.before.before.before.before.before.before.if1.false a.out.now g.new.1.1.1.1.1.1.1.0 look.result look.ensures
     c.before.before.before.before.before.before.before.before.before.before.before.before.enum_told.given.1 look-free.result look-free.ensures g.result number.0.0 number.1 g.new.0 g.ensures
 

@@ -1,10 +1,10 @@
 -- `request::tell_both` meets its contract: one notification behind the other. Assumes nothing.
 use borrow.Author.Rules.{rules}
 use native.Mathlib.Omega.{arith}
-use Rattle.records.proofs.AppendLaws.{appends-length}
-use Rattle.records.proofs.Fits.{connected-fits}
-use Rattle.relay.proofs.RequestCases.{connected-next, tells-nobody, tells_both}
-use Rattle.room.proofs.PeersFound.{joined-right}
+use Rattle.records.proofs.AppendLaws.{appends_length}
+use Rattle.records.proofs.Fits.{connected_fits}
+use Rattle.relay.proofs.RequestCases.{connected_next, tells_nobody, tells_both}
+use Rattle.room.proofs.PeersFound.{joined_right}
 use Rattle.relay.proofs.request.tell_both.Statement.{statement}
 use Rattle.relay.proofs.request.tell_both.Tie as tie
 
@@ -29,17 +29,17 @@ returns c =
     let a = s.args in
     let w = c.before.before.before.before.before.before.connected in
     let p = c.before.before.before.before.before.before.before.before.before.peer.given in
-    let theirs = joined-right a.peer p.0.0 p.0.1.0 p.1 s.requires.2 in
-    let first = connected-fits a.number.0 s.requires.1 (omega arith) w.ensures in
-    let next = connected-next a.seat.0 a.number.0 a.out.now a.at w.result w.new.0 first in
-    let same = appends-length _ a.out.now a.at w.result w.new.0 first (omega arith) in
+    let theirs = joined_right a.peer p.0.0 p.0.1.0 p.1 s.requires.2 in
+    let first = connected_fits a.number.0 s.requires.1 (omega arith) w.ensures in
+    let next = connected_next a.seat.0 a.number.0 a.out.now a.at w.result w.new.0 first in
+    let same = appends_length _ a.out.now a.at w.result w.new.0 first (omega arith) in
     tells_both a.seat.0 a.number.0 a.peer p.0.0 p.0.1.0 p.1 theirs
-    a.out.now a.at w.result c.before.before.connected2.result w.new.0 c.before.before.connected2.new.0 (omega arith) first (connected-fits p.0.1.0.0 theirs (omega arith) c.before.before.connected2.ensures)
+    a.out.now a.at w.result c.before.before.connected2.result w.new.0 c.before.before.connected2.new.0 (omega arith) first (connected_fits p.0.1.0.0 theirs (omega arith) c.before.before.connected2.ensures)
 
 returns-2 : tie.Need-returns-2
 returns-2 c =
     let a = c.before.before.before.args in
-    tells-nobody a.seat.0 a.number.0 a.peer c.enum_told.given.1 a.out.now a.at
+    tells_nobody a.seat.0 a.number.0 a.peer c.enum_told.given.1 a.out.now a.at
 
 pub tell-both-spec : {M : Type 1} → statement M
 tell-both-spec =

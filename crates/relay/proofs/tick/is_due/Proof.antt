@@ -2,7 +2,7 @@
 use borrow.Author.Rules.{rules}
 use borrow.Author.Tests.{not-true, not-false}
 use mathlib.Core.Path.{sym, ◌∙◌}
-use Rattle.relay_laws.proofs.TickTests.{one-outstanding, not-due-yet, due-if-taken}
+use Rattle.relay_laws.proofs.TickTests.{one_outstanding, not_due_yet, due_if_taken}
 use Rattle.relay.proofs.tick.is_due.Statement.{statement}
 use Rattle.relay.proofs.tick.is_due.Tie as tie
 
@@ -13,7 +13,7 @@ returns : tie.Need-returns
 returns c =
     let s = c.before.before.before in
     let a = s.args in
-    one-outstanding a.seats a.numbers a.memory.now s.requires.0 a.time s.requires.1 a.seat.0 (λ q. c.if1.true (c.before.outstanding.ensures ∙ q))
+    one_outstanding a.seats a.numbers a.memory.now s.requires.0 a.time s.requires.1 a.seat.0 (λ q. c.if1.true (c.before.outstanding.ensures ∙ q))
 
 passed-requires : tie.Need-passed-requires
 passed-requires c κs = search rules
@@ -22,7 +22,7 @@ returns-2 : tie.Need-returns-2
 returns-2 c =
     let s = c.before.before.before.before.before in
     let a = s.args in
-    not-due-yet a.seats a.numbers a.memory.now s.requires.0 a.time s.requires.1 a.seat.0 (sym c.before.passed.ensures ∙ not-true _ c.if2.true)
+    not_due_yet a.seats a.numbers a.memory.now s.requires.0 a.time s.requires.1 a.seat.0 (sym c.before.passed.ensures ∙ not-true _ c.if2.true)
 
 is-taken-requires : tie.Need-is-taken-requires
 is-taken-requires c κs = search rules
@@ -33,7 +33,7 @@ returns-3 c =
     let a = s.args in
     let o = c.before.before.before.before.outstanding in
     c.is-taken.ensures
-    ∙ due-if-taken a.seats a.numbers a.memory.now s.requires.0 a.time s.requires.1 a.seat.0
+    ∙ due_if_taken a.seats a.numbers a.memory.now s.requires.0 a.time s.requires.1 a.seat.0
     (sym o.ensures ∙ c.before.before.before.if1.false) (sym c.before.before.passed.ensures ∙ not-false _ c.before.if2.false)
 
 pub is-due-spec : {M : Type 1} → statement M

@@ -6,13 +6,13 @@ use mathlib.Core.Bool.{true}
 use Prim.Native.Nat.{◌+◌, ◌*◌, ◌-◌, ◌≤◌}
 use native.Mathlib.Omega.{arith}
 use lib.ListN.{length}
-use Rattle.rules.specs.Outcome.{pingEach, dueSeats}
-use Rattle.room_laws.specs.View.{viewRoom}
-use Rattle.room_laws.specs.Whole.{roomWhole}
-use Rattle.room_laws.proofs.WholeLaws.{whole-few-seats}
-use Rattle.records.proofs.AppendLaws.{appends-length}
+use Rattle.rules.specs.Outcome.{ping_each, due_seats}
+use Rattle.room_laws.specs.View.{view_room}
+use Rattle.room_laws.specs.Whole.{room_whole}
+use Rattle.room_laws.proofs.WholeLaws.{whole_few_seats}
+use Rattle.records.proofs.AppendLaws.{appends_length}
 use Rattle.relay_laws.proofs.PartLaws.{SoFar, begun, done}
-use Rattle.relay_laws.proofs.TickParts.{pingsFrom, pings-ended, pings-goes, one-within}
+use Rattle.relay_laws.proofs.TickParts.{pings_from, pings_ended, pings_goes, one_within}
 use Rattle.relay.proofs.tick.ping_due.Statement.{statement}
 use Rattle.relay.proofs.tick.ping_due.Tie as tie
 
@@ -23,28 +23,28 @@ invariant-loop memory₀ seats numbers time number out₀ at next₀ place₀ me
     × (next ≤ at + 12 * place)
     × (length out ≡ length out₀)
     × (length memory ≡ length memory₀)
-    × (roomWhole seats numbers memory ≡ true)
-    × ((viewRoom seats numbers memory).clock ≡ time)
-    × SoFar seats numbers (pingEach time number (dueSeats time (viewRoom seats numbers memory₀))) memory₀ out₀ at
-    (pingsFrom seats numbers memory time number place) memory out next
+    × (room_whole seats numbers memory ≡ true)
+    × ((view_room seats numbers memory).clock ≡ time)
+    × SoFar seats numbers (ping_each time number (due_seats time (view_room seats numbers memory₀))) memory₀ out₀ at
+    (pings_from seats numbers memory time number place) memory out next
 
 abbrev decreases-loop : tie.decreases-loop
 decreases-loop memory₀ seats numbers time number out₀ at next₀ place₀ memory out next place = seats - place
 
 loop-holds : tie.Need-loop-init invariant-loop decreases-loop
-unfolding dueSeats
+unfolding due_seats
 loop-holds c =
     let s = c.before.before in
     let a = s.args in
-    let room = viewRoom a.seats a.numbers a.memory.now in (
+    let room = view_room a.seats a.numbers a.memory.now in (
       omega arith,
-      whole-few-seats a.seats a.numbers a.memory.now s.requires.0,
+      whole_few_seats a.seats a.numbers a.memory.now s.requires.0,
       omega arith,
       refl,
       refl,
       s.requires.0,
       s.requires.1,
-      begun a.seats a.numbers (pingEach a.time a.number (dueSeats a.time room)) a.memory.now a.out.now a.at,
+      begun a.seats a.numbers (ping_each a.time a.number (due_seats a.time room)) a.memory.now a.out.now a.at,
     )
 
 cast-t13 : tie.Need-overflow-cast-t13 invariant-loop decreases-loop
@@ -67,16 +67,16 @@ loop-again c =
     let s = c.before.before.before.before.before.before.before.before.before.before.before in
     let a = s.args in
     let l = c.before.before.before.before.before.before.before.before.loop in
-    let p = c.before.before.before.before.ping-one in
-    let room = viewRoom a.seats a.numbers a.memory.now in
-    let goes = pings-goes a.seats a.numbers (pingEach a.time a.number (dueSeats a.time room)) a.memory.now a.out.now a.at (let h = s.requires.3 in omega arith)
+    let p = c.before.before.before.before.ping_one in
+    let room = view_room a.seats a.numbers a.memory.now in
+    let goes = pings_goes a.seats a.numbers (ping_each a.time a.number (due_seats a.time room)) a.memory.now a.out.now a.at (let h = s.requires.3 in omega arith)
     l.memory l.invariant.5 l.place (omega arith) l.out l.next _ p.result _ a.time a.number (omega (arith, l.invariant.6))
     s.ranges.time.fits s.ranges.number.fits l.invariant.7 p.ensures in
-    let more = one-within a.seats a.numbers a.time a.number l.memory l.place l.out l.next _ p.result _ p.ensures in (
+    let more = one_within a.seats a.numbers a.time a.number l.memory l.place l.out l.next _ p.result _ p.ensures in (
       omega arith,
       l.invariant.1,
       omega (arith, l.invariant.2, more),
-      appends-length _ a.out.now a.at p.result _ goes.so_far.writes (omega (arith, l.invariant.1, l.invariant.2, more, s.requires.3)),
+      appends_length _ a.out.now a.at p.result _ goes.so_far.writes (omega (arith, l.invariant.1, l.invariant.2, more, s.requires.3)),
       goes.long ∙ l.invariant.4,
       goes.whole,
       goes.clock ∙ l.invariant.6,
@@ -94,9 +94,9 @@ returns c =
     let s = c.before.before.before.before in
     let a = s.args in
     let l = c.before.loop in
-    let room = viewRoom a.seats a.numbers a.memory.now in
-    let ended = pings-ended a.seats a.numbers l.memory l.invariant.5 a.time a.number l.place (omega arith) in
-    done a.seats a.numbers (pingEach a.time a.number (dueSeats a.time room)) a.memory.now a.out.now a.at _ l.memory l.out l.next ended.0 ended.1 l.invariant.7
+    let room = view_room a.seats a.numbers a.memory.now in
+    let ended = pings_ended a.seats a.numbers l.memory l.invariant.5 a.time a.number l.place (omega arith) in
+    done a.seats a.numbers (ping_each a.time a.number (due_seats a.time room)) a.memory.now a.out.now a.at _ l.memory l.out l.next ended.0 ended.1 l.invariant.7
 
 pub ping-due-spec : {M : Type 1} → statement M
 ping-due-spec =

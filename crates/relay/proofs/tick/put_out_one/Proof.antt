@@ -2,7 +2,7 @@
 use borrow.Author.Rules.{rules}
 use borrow.Author.Tests.{not-true, not-false}
 use mathlib.Core.Path.{sym, ◌∙◌}
-use Rattle.relay_laws.proofs.TickParts.{not-put-out, is-put-out, late-taken, late-fits}
+use Rattle.relay_laws.proofs.TickParts.{not_put_out, is_put_out, late_taken, late_fits}
 use Rattle.relay.proofs.tick.put_out_one.Statement.{statement}
 use Rattle.relay.proofs.tick.put_out_one.Tie as tie
 
@@ -16,17 +16,17 @@ returns : tie.Need-returns
 returns c =
     let s = c.before.before.before.before.before in
     let a = s.args in
-    not-put-out a.seats a.numbers a.memory.now s.requires.0 a.time a.seat.0 a.out.now a.at
-    (sym c.before.is-overdue.ensures ∙ not-true _ c.if1.true)
+    not_put_out a.seats a.numbers a.memory.now s.requires.0 a.time a.seat.0 a.out.now a.at
+    (sym c.before.is_overdue.ensures ∙ not-true _ c.if1.true)
 
 depart-requires : tie.Need-depart-requires
 depart-requires c κs =
     let s = c.before.before.before.before.before.before.before in
     let a = s.args in
-    let late = sym c.before.before.before.is-overdue.ensures ∙ not-false _ c.before.before.if1.false in (
+    let late = sym c.before.before.before.is_overdue.ensures ∙ not-false _ c.before.before.if1.false in (
       s.requires.0,
-      late-taken a.seats a.numbers a.memory.now s.requires.0 a.time a.seat.0 a.out.now a.at late,
-      late-fits a.seats a.numbers a.memory.now s.requires.0 a.time a.seat.0 a.out.now a.at s.requires.2,
+      late_taken a.seats a.numbers a.memory.now s.requires.0 a.time a.seat.0 a.out.now a.at late,
+      late_fits a.seats a.numbers a.memory.now s.requires.0 a.time a.seat.0 a.out.now a.at s.requires.2,
     )
 
 same-length-2 : tie.Need-same-length-2
@@ -39,8 +39,8 @@ returns-2 : tie.Need-returns-2
 returns-2 c =
     let s = c.before.before.before.before.before.before.before.before.before.before.before.before in
     let a = s.args in
-    is-put-out a.seats a.numbers a.memory.now s.requires.0 a.time a.seat.0 a.out.now a.at
-    (sym c.before.before.before.before.before.before.before.before.is-overdue.ensures ∙ not-false _ c.before.before.before.before.before.before.before.if1.false) _ _ _ c.before.before.before.before.depart.ensures
+    is_put_out a.seats a.numbers a.memory.now s.requires.0 a.time a.seat.0 a.out.now a.at
+    (sym c.before.before.before.before.before.before.before.before.is_overdue.ensures ∙ not-false _ c.before.before.before.before.before.before.before.if1.false) _ _ _ c.before.before.before.before.depart.ensures
 
 pub put-out-one-spec : {M : Type 1} → statement M
 put-out-one-spec =

@@ -1,6 +1,6 @@
 -- `call::arrive` is safe and ends: what is told of the output is what the call counted. Assumes nothing.
 use borrow.Author.Rules.{rules}
-use Rattle.replay.proofs.Within.{accepted-within}
+use Rattle.replay.proofs.Within.{accepted_within}
 use Rattle.replay.proofs.call.arrive.Statement.{statement}
 use Rattle.replay.proofs.call.arrive.Tie as tie
 
@@ -42,7 +42,7 @@ slice-aggregate-tell-written c = search rules
 
 tell-written-requires : tie.Need-tell-written-requires
 tell-written-requires c κs =
-    accepted-within 40 32 _ _ _ _ _ _ c.before.before.before.before.before.before.before.before.before.before.before.before.before.arrive.ensures.leaves _ _
+    accepted_within 40 32 _ _ _ _ _ _ c.before.before.before.before.before.before.before.before.before.before.before.before.before.arrive.ensures.leaves _ _
     c.before.before.before.before.before.before.before.before.seat.given.1
 
 enum-known-why : tie.Need-enum-known-why

@@ -1,6 +1,6 @@
 -- `call::packet` is safe and ends: what is told of the output is what the call counted. Assumes nothing.
 use borrow.Author.Rules.{rules}
-use Rattle.replay.proofs.Within.{count-within}
+use Rattle.replay.proofs.Within.{count_within}
 use Rattle.replay.proofs.call.packet.Statement.{statement}
 use Rattle.replay.proofs.call.packet.Tie as tie
 
@@ -32,7 +32,7 @@ slice-aggregate-tell-answer : tie.Need-slice-aggregate-tell-answer
 slice-aggregate-tell-answer c = search rules
 
 tell-answer-requires : tie.Need-tell-answer-requires
-tell-answer-requires c κs = count-within 40 32 _ _ _ _ _ _ c.before.before.before.before.before.packet.ensures
+tell-answer-requires c κs = count_within 40 32 _ _ _ _ _ _ c.before.before.before.before.before.packet.ensures
 
 same_length : tie.Need-same-length
 same_length c = search rules

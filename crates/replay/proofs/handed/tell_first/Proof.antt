@@ -1,7 +1,7 @@
 -- `handed::tell_first` meets its contract: a record takes a byte or more, and no more than there are. Assumes nothing.
 use borrow.Author.Rules.{rules}
 use native.Mathlib.Omega.{arith}
-use Rattle.records.proofs.ReadLaws.{record-within}
+use Rattle.records.proofs.ReadLaws.{record_within}
 use Rattle.replay.proofs.handed.tell_first.Statement.{statement}
 use Rattle.replay.proofs.handed.tell_first.Tie as tie
 
@@ -21,13 +21,13 @@ returns : tie.Need-returns
 returns c = search rules
 
 sub-tell-record : tie.Need-overflow-sub-tell-record
-sub-tell-record c = (record-within _ _ _ _ c.before.before.before.read.ensures c.before.seat.given.1).0
+sub-tell-record c = (record_within _ _ _ _ c.before.before.before.read.ensures c.before.seat.given.1).0
 
 part-tell-record-start : tie.Need-slice-bounds-tell-record-start
-part-tell-record-start c = (record-within _ _ _ _ c.before.before.before.read.ensures c.before.seat.given.1).0
+part-tell-record-start c = (record_within _ _ _ _ c.before.before.before.read.ensures c.before.seat.given.1).0
 
 part-tell-record-end : tie.Need-slice-bounds-tell-record-end
-part-tell-record-end c = (record-within _ _ _ _ c.before.before.before.read.ensures c.before.seat.given.1).1
+part-tell-record-end c = (record_within _ _ _ _ c.before.before.before.read.ensures c.before.seat.given.1).1
 
 tell-record-requires : tie.Need-tell-record-requires
 tell-record-requires c κs = search rules
@@ -35,7 +35,7 @@ tell-record-requires c κs = search rules
 returns-2 : tie.Need-returns-2
 returns-2 c =
     let r = c.before.before.before in
-    let w = record-within _ _ _ _ r.before.before.read.ensures r.seat.given.1 in
+    let w = record_within _ _ _ _ r.before.before.read.ensures r.seat.given.1 in
     let least = w.0 in
     (omega arith, w.1)
 

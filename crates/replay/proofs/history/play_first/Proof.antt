@@ -1,6 +1,6 @@
 -- `history::play_first` meets its contract: a stored call takes no more than there is. Assumes nothing.
 use borrow.Author.Rules.{rules}
-use Rattle.replay.proofs.Within.{size-within}
+use Rattle.replay.proofs.Within.{size_within}
 use Rattle.replay.proofs.history.play_first.Statement.{statement}
 use Rattle.replay.proofs.history.play_first.Tie as tie
 
@@ -17,13 +17,13 @@ returns : tie.Need-returns
 returns c = search rules
 
 sub-play : tie.Need-overflow-sub-play
-sub-play c = (size-within _ _ _ _ c.before.before.before.before.read.ensures c.before.before.call.given.1).0
+sub-play c = (size_within _ _ _ _ c.before.before.before.before.read.ensures c.before.before.call.given.1).0
 
 part-play-start : tie.Need-slice-bounds-play-start
-part-play-start c = (size-within _ _ _ _ c.before.before.before.before.read.ensures c.before.before.call.given.1).0
+part-play-start c = (size_within _ _ _ _ c.before.before.before.before.read.ensures c.before.before.call.given.1).0
 
 part-play-end : tie.Need-slice-bounds-play-end
-part-play-end c = (size-within _ _ _ _ c.before.before.before.before.read.ensures c.before.before.call.given.1).1
+part-play-end c = (size_within _ _ _ _ c.before.before.before.before.read.ensures c.before.before.call.given.1).1
 
 play-requires : tie.Need-play-requires
 play-requires c κs = search rules
@@ -34,7 +34,7 @@ same_length c = search rules
 returns-2 : tie.Need-returns-2
 returns-2 c =
     let r = c.before.before.before.before.before.before in
-    (size-within _ _ _ _ r.before.before.read.ensures r.call.given.1).1
+    (size_within _ _ _ _ r.before.before.read.ensures r.call.given.1).1
 
 pub play-first-spec : {M : Type 1} → statement M
 play-first-spec =

@@ -6,10 +6,10 @@ use mathlib.Core.List.{List}
 use Prim.Native.Nat.{ℕ, ◌-◌}
 use lib.ListN.{take, drop}
 use Rattle.table_laws.specs.Bytes.{splice}
-use Rattle.table_laws.specs.Table.{freedIn}
-use Rattle.room_laws.specs.Layout.{seatsBytes}
-use Rattle.room.proofs.StoreSteps.{store-emptied, store-emptied-not}
-use Rattle.room_laws.proofs.LayoutLaws.{fits-facts, room-long, seats-lent, seats-cut}
+use Rattle.table_laws.specs.Table.{freed_in}
+use Rattle.room_laws.specs.Layout.{seats_bytes}
+use Rattle.room.proofs.StoreSteps.{store_emptied, store_emptied_not}
+use Rattle.room_laws.proofs.LayoutLaws.{fits_facts, room_long, seats_lent, seats_cut}
 use Rattle.room.proofs.change.empty_seat.Statement.{statement}
 use Rattle.room.proofs.change.empty_seat.Tie as tie
 
@@ -20,12 +20,12 @@ same_length : tie.Need-same-length
 same_length c = search rules
 
 returns : tie.Need-returns
-returns c = let a = c.before.before.before.before.args in sym (store-emptied-not a.seats a.numbers a.memory.now (sym c.before.fits2.ensures ∙ not-true _ c.if1.true) a.seat.0)
+returns c = let a = c.before.before.before.before.args in sym (store_emptied_not a.seats a.numbers a.memory.now (sym c.before.fits2.ensures ∙ not-true _ c.if1.true) a.seat.0)
 
 room-bytes-requires : tie.Need-room-bytes-requires
 room-bytes-requires c κs =
     let a = c.before.before.before.before.args in
-    let f = fits-facts a.seats a.numbers a.memory.now (sym c.before.fits2.ensures ∙ not-false _ c.if1.false) in
+    let f = fits_facts a.seats a.numbers a.memory.now (sym c.before.fits2.ensures ∙ not-false _ c.if1.false) in
     (f.0, f.1)
 
 sub-free : tie.Need-overflow-sub-free
@@ -37,7 +37,7 @@ part-free-start c = search rules
 part-free-end : tie.Need-slice-bounds-free-end
 part-free-end c =
     let a = c.before.before.before.before.before.args in
-    let l = room-long a.seats a.numbers a.memory.now (sym c.before.before.fits2.ensures ∙ not-false _ c.before.if1.false) in
+    let l = room_long a.seats a.numbers a.memory.now (sym c.before.before.fits2.ensures ∙ not-false _ c.before.if1.false) in
     let e = c.room-bytes.ensures in
     search rules
 
@@ -55,10 +55,10 @@ returns-2 c =
     let a = c.before.before.before.before.before.before.before.before.before.before.args in
     let b = a.memory.now in
     let f = sym c.before.before.before.before.before.before.before.fits2.ensures ∙ not-false _ c.before.before.before.before.before.before.if1.false in
-    let d : c.before.before.before.before.before.room-bytes.result - 10 ≡ seatsBytes a.seats a.numbers = ap (λ (x : ℕ). x - 10) c.before.before.before.before.before.room-bytes.ensures ∙ seats-cut a.seats a.numbers b f in
-    let t = ap (λ (x : ℕ). take (x - 10) (drop 10 b)) c.before.before.before.before.before.room-bytes.ensures ∙ seats-lent a.seats a.numbers b f in
-    ap₂ (λ (k : ℕ) (x : List ℕ). splice b 10 x k) d (c.before.before.free.ensures ∙ ap (λ (x : List ℕ). freedIn a.seats x a.seat.0) t)
-    ∙ sym (store-emptied a.seats a.numbers b f a.seat.0)
+    let d : c.before.before.before.before.before.room-bytes.result - 10 ≡ seats_bytes a.seats a.numbers = ap (λ (x : ℕ). x - 10) c.before.before.before.before.before.room-bytes.ensures ∙ seats_cut a.seats a.numbers b f in
+    let t = ap (λ (x : ℕ). take (x - 10) (drop 10 b)) c.before.before.before.before.before.room-bytes.ensures ∙ seats_lent a.seats a.numbers b f in
+    ap₂ (λ (k : ℕ) (x : List ℕ). splice b 10 x k) d (c.before.before.free.ensures ∙ ap (λ (x : List ℕ). freed_in a.seats x a.seat.0) t)
+    ∙ sym (store_emptied a.seats a.numbers b f a.seat.0)
 
 pub empty-seat-spec : {M : Type 1} → statement M
 empty-seat-spec =

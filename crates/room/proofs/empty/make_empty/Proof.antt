@@ -2,7 +2,7 @@
 use borrow.Author.Rules.{rules}
 use borrow.Author.Tests.{not-true, not-false}
 use mathlib.Core.Path.{sym, ◌∙◌}
-use Rattle.room.proofs.StoreSteps.{makes-empty, makes_none}
+use Rattle.room.proofs.StoreSteps.{makes_empty, makes_none}
 use Rattle.room.proofs.empty.make_empty.Statement.{statement}
 use Rattle.room.proofs.empty.make_empty.Tie as tie
 
@@ -27,7 +27,7 @@ returns-2 : tie.Need-returns-2
 returns-2 c =
     let a = c.before.before.before.before.before.before.before.before.args in
     let h = sym c.before.before.before.before.before.fits2.ensures ∙ not-false _ c.before.before.before.before.if1.false in
-    makes-empty a.seats a.numbers a.memory.now h _ c.before.before.write-empty.ensures
+    makes_empty a.seats a.numbers a.memory.now h _ c.before.before.write-empty.ensures
 
 pub make-empty-spec : {M : Type 1} → statement M
 make-empty-spec =

@@ -1,6 +1,6 @@
 -- `layout::clock` meets its contract. Assumes nothing.
 use borrow.Author.Rules.{rules}
-use Rattle.room_laws.specs.View.{clockIn}
+use Rattle.room_laws.specs.View.{clock_in}
 use Rattle.room.proofs.layout.clock.Statement.{statement}
 use Rattle.room.proofs.layout.clock.Tie as tie
 
@@ -8,7 +8,7 @@ read-word-requires : tie.Need-read-word-requires
 read-word-requires c κs = search rules
 
 returns : tie.Need-returns
-unfolding clockIn
+unfolding clock_in
 returns c = c.read_word.ensures
 
 pub clock-spec : {M : Type 1} → statement M

@@ -5,9 +5,9 @@ use mathlib.Core.List.{List, ◌++◌}
 use Prim.Native.Nat.{ℕ}
 use lib.ListN.{replicate, take, drop}
 use Rattle.wire.specs.Numbers.{bytes_of}
-use Rattle.wire.proofs.Copy.{copy-whole, length-lent}
-use Rattle.key.proofs.Lent.{with-key-whole}
-use Rattle.room_laws.specs.Store.{newSeat}
+use Rattle.wire.proofs.Copy.{copy_whole, length_lent}
+use Rattle.key.proofs.Lent.{with_key_whole}
+use Rattle.room_laws.specs.Store.{new_seat}
 use Rattle.room.proofs.layout.new_seat.Statement.{statement}
 use Rattle.room.proofs.layout.new_seat.Tie as tie
 
@@ -45,14 +45,14 @@ write-requires : tie.Need-write-requires
 write-requires c κs = search rules
 
 returns : tie.Need-returns
-unfolding newSeat bytes_of
+unfolding new_seat bytes_of
 returns c =
     let s = c.before.before.before.before.before.before.before.before in
     let b = s.args.memory.now in
-    let k = length-lent b 2 8 s.requires in
+    let k = length_lent b 2 8 s.requires in
     ap₂ (λ (x y : List ℕ). x ++ (y ++ replicate 9 0))
-    (c.before.write.ensures ∙ with-key-whole s.args.key.0 (replicate 32 0) refl)
-    (c.before.before.before.before.copy.ensures.1 ∙ copy-whole (take 8 (drop 2 b)) (replicate 8 0) (sym k))
+    (c.before.write.ensures ∙ with_key_whole s.args.key.0 (replicate 32 0) refl)
+    (c.before.before.before.before.copy.ensures.1 ∙ copy_whole (take 8 (drop 2 b)) (replicate 8 0) (sym k))
 
 pub new-seat-spec : {M : Type 1} → statement M
 new-seat-spec =

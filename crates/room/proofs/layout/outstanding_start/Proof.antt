@@ -1,7 +1,7 @@
 -- `layout::outstanding_start` meets its contract. Assumes nothing.
 use borrow.Author.Rules.{rules}
 use native.Mathlib.Omega.{arith}
-use Rattle.room_laws.proofs.LayoutLaws.{seat-end-small}
+use Rattle.room_laws.proofs.LayoutLaws.{seat_end_small}
 use Rattle.room.proofs.layout.outstanding_start.Statement.{statement}
 use Rattle.room.proofs.layout.outstanding_start.Tie as tie
 
@@ -11,7 +11,7 @@ seat-start-requires c κs = search rules
 add-result : tie.Need-overflow-add-result
 add-result c =
     let s = c.before in
-    let q = seat-end-small s.args.seats s.args.numbers s.args.seat s.requires.0 s.requires.1 s.requires.2 in
+    let q = seat_end_small s.args.seats s.args.numbers s.args.seat s.requires.0 s.requires.1 s.requires.2 in
     let e = c.seat-start.ensures in
     omega arith
 

@@ -4,8 +4,8 @@ use mathlib.Core.Path.{ap₂}
 use native.Mathlib.Omega.{arith}
 use Prim.Native.Nat.{ℕ, ◌+◌}
 use Rattle.table_laws.proofs.Listed.{row_fits}
-use Rattle.room_laws.specs.Layout.{seatBytes}
-use Rattle.room_laws.proofs.LayoutLaws.{seats-area}
+use Rattle.room_laws.specs.Layout.{seat_bytes}
+use Rattle.room_laws.proofs.LayoutLaws.{seats_area}
 use Rattle.room.proofs.layout.routes_end.Statement.{statement}
 use Rattle.room.proofs.layout.routes_end.Tie as tie
 
@@ -19,8 +19,8 @@ add-result : tie.Need-overflow-add-result
 add-result c =
     let s = c.before.before in
     let a = s.args in
-    let q = seats-area a.seats a.numbers s.requires.0 s.requires.1 in
-    let r = row_fits a.seats (seatBytes a.numbers) a.seat s.requires.2 in
+    let q = seats_area a.seats a.numbers s.requires.0 s.requires.1 in
+    let r = row_fits a.seats (seat_bytes a.numbers) a.seat s.requires.2 in
     let d = c.before.routes-start.ensures in
     let e = c.routes-bytes.ensures in
     omega arith

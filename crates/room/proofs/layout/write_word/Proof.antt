@@ -5,7 +5,7 @@ use native.Mathlib.Nat.{add-sub_cancel_left}
 use Prim.Native.Nat.{ℕ}
 use lib.ListN.{length, take, drop}
 use Rattle.wire.specs.Numbers.{bytes_of}
-use Rattle.wire.proofs.Copy.{length-lent}
+use Rattle.wire.proofs.Copy.{length_lent}
 use Rattle.room.proofs.StoreSteps.{replaced}
 use Rattle.room.proofs.layout.write_word.Statement.{statement}
 use Rattle.room.proofs.layout.write_word.Tie as tie
@@ -35,7 +35,7 @@ returns c =
     let k = add-sub_cancel_left a.at 8 in
     replaced a.memory.now {at = a.at} {at' = a.at} refl k
     (c.before.before.write-number.ensures ∙ ap (λ (x : ℕ). bytes_of x a.number)
-    (ap (λ (x : ℕ). length (take x (drop a.at a.memory.now))) k ∙ length-lent a.memory.now a.at 8 s.requires))
+    (ap (λ (x : ℕ). length (take x (drop a.at a.memory.now))) k ∙ length_lent a.memory.now a.at 8 s.requires))
 
 pub write-word-spec : {M : Type 1} → statement M
 write-word-spec =

@@ -6,9 +6,9 @@ use mathlib.Core.List.{List}
 use Prim.Native.Nat.{ℕ, ◌-◌}
 use Rattle.room_laws.specs.Lookup.{place_in}
 use Rattle.table_laws.specs.Table.{found}
-use Rattle.room.specs.Numbers.{numberFound}
-use Rattle.room.proofs.LookupSteps.{has-seat-facts, wanting-in, wanting-not}
-use Rattle.room_laws.proofs.LayoutLaws.{few-numbers}
+use Rattle.room.specs.Numbers.{number_found}
+use Rattle.room.proofs.LookupSteps.{has_seat_facts, wanting_in, wanting_not}
+use Rattle.room_laws.proofs.LayoutLaws.{few_numbers}
 use Rattle.room.proofs.lookup.number_of.Statement.{statement}
 use Rattle.room.proofs.lookup.number_of.Tie as tie
 
@@ -16,8 +16,8 @@ has-seat-requires : tie.Need-has-seat-requires
 has-seat-requires c κs = search rules
 
 returns : tie.Need-returns
-unfolding numberFound
-returns c = let a = c.before.before.before.args in ap numberFound (sym (wanting-not a.seats a.numbers a.memory.now a.seat.0 (sym c.before.has-seat.ensures ∙ not-true _ c.if1.true) a.key.0))
+unfolding number_found
+returns c = let a = c.before.before.before.args in ap number_found (sym (wanting_not a.seats a.numbers a.memory.now a.seat.0 (sym c.before.has-seat.ensures ∙ not-true _ c.if1.true) a.key.0))
 
 cast-routes-table : tie.Need-overflow-cast-routes-table
 cast-routes-table c = search rules
@@ -25,7 +25,7 @@ cast-routes-table c = search rules
 routes-table-requires : tie.Need-routes-table-requires
 routes-table-requires c κs =
     let a = c.before.before.before.before.args in
-    has-seat-facts a.seats a.numbers a.memory.now a.seat.0 (sym c.before.before.has-seat.ensures ∙ not-false _ c.before.if1.false)
+    has_seat_facts a.seats a.numbers a.memory.now a.seat.0 (sym c.before.before.has-seat.ensures ∙ not-false _ c.before.if1.false)
 
 find-requires : tie.Need-find-requires
 find-requires c κs = search rules
@@ -33,17 +33,17 @@ find-requires c κs = search rules
 number-at-requires : tie.Need-number-at-requires
 number-at-requires c κs =
     let a = c.before.before.before.before.before.before.args in
-    few-numbers a.seats a.numbers a.memory.now
-    (has-seat-facts a.seats a.numbers a.memory.now a.seat.0 (sym c.before.before.before.before.has-seat.ensures ∙ not-false _ c.before.before.before.if1.false)).0
+    few_numbers a.seats a.numbers a.memory.now
+    (has_seat_facts a.seats a.numbers a.memory.now a.seat.0 (sym c.before.before.before.before.has-seat.ensures ∙ not-false _ c.before.before.before.if1.false)).0
 
 returns-2 : tie.Need-returns-2
 returns-2 c =
     let a = c.before.before.before.before.before.before.before.args in
     c.number_at.ensures
-    ∙ ap numberFound
-    (ap (place_in a.numbers) (◌∙◌ {b = found a.numbers 32 c.before.before.routes-table.result.now a.key.0} c.before.find.ensures
-    (ap (λ (t : List ℕ). found a.numbers 32 t a.key.0) c.before.before.routes-table.ensures))
-    ∙ sym (wanting-in a.seats a.numbers a.memory.now a.seat.0 (sym c.before.before.before.before.before.has-seat.ensures ∙ not-false _ c.before.before.before.before.if1.false) a.key.0))
+    ∙ ap number_found
+    (ap (place_in a.numbers) (◌∙◌ {b = found a.numbers 32 c.before.before.routes_table.result.now a.key.0} c.before.find.ensures
+    (ap (λ (t : List ℕ). found a.numbers 32 t a.key.0) c.before.before.routes_table.ensures))
+    ∙ sym (wanting_in a.seats a.numbers a.memory.now a.seat.0 (sym c.before.before.before.before.before.has-seat.ensures ∙ not-false _ c.before.before.before.before.if1.false) a.key.0))
 
 pub number-of-spec : {M : Type 1} → statement M
 number-of-spec =

@@ -6,9 +6,9 @@ use mathlib.Core.List.{List}
 use Prim.Native.Nat.{ℕ, ◌-◌}
 use Rattle.room_laws.specs.Lookup.{place_in}
 use Rattle.table_laws.specs.Table.{found}
-use Rattle.room.specs.Numbers.{seatFound}
-use Rattle.room.proofs.LookupSteps.{holding-fits, holding-not}
-use Rattle.room_laws.proofs.LayoutLaws.{few-seats, few-numbers}
+use Rattle.room.specs.Numbers.{seat_found}
+use Rattle.room.proofs.LookupSteps.{holding_fits, holding_not}
+use Rattle.room_laws.proofs.LayoutLaws.{few_seats, few_numbers}
 use Rattle.room.proofs.lookup.seat_of.Statement.{statement}
 use Rattle.room.proofs.lookup.seat_of.Tie as tie
 
@@ -16,11 +16,11 @@ fits-requires : tie.Need-fits-requires
 fits-requires c κs = search rules
 
 returns : tie.Need-returns
-unfolding seatFound
-returns c = let a = c.before.before.before.args in ap seatFound (sym (holding-not a.seats a.numbers a.memory.now (sym c.before.fits2.ensures ∙ not-true _ c.if1.true) a.key.0))
+unfolding seat_found
+returns c = let a = c.before.before.before.args in ap seat_found (sym (holding_not a.seats a.numbers a.memory.now (sym c.before.fits2.ensures ∙ not-true _ c.if1.true) a.key.0))
 
 seat-bytes-requires : tie.Need-seat-bytes-requires
-seat-bytes-requires c κs = let a = c.before.before.before.args in few-numbers a.seats a.numbers a.memory.now (sym c.before.fits2.ensures ∙ not-false _ c.if1.false)
+seat-bytes-requires c κs = let a = c.before.before.before.args in few_numbers a.seats a.numbers a.memory.now (sym c.before.fits2.ensures ∙ not-false _ c.if1.false)
 
 seat-table-requires : tie.Need-seat-table-requires
 seat-table-requires c κs = sym c.before.before.fits2.ensures ∙ not-false _ c.before.if1.false
@@ -29,18 +29,18 @@ find-requires : tie.Need-find-requires
 find-requires c κs = search rules
 
 seat-at-requires : tie.Need-seat-at-requires
-seat-at-requires c κs = let a = c.before.before.before.before.before.before.args in few-seats a.seats a.numbers a.memory.now (sym c.before.before.before.before.fits2.ensures ∙ not-false _ c.before.before.before.if1.false)
+seat-at-requires c κs = let a = c.before.before.before.before.before.before.args in few_seats a.seats a.numbers a.memory.now (sym c.before.before.before.before.fits2.ensures ∙ not-false _ c.before.before.before.if1.false)
 
 returns-2 : tie.Need-returns-2
 returns-2 c =
     let a = c.before.before.before.before.before.before.before.args in
-    c.seat-at.ensures
-    ∙ ap seatFound
+    c.seat_at.ensures
+    ∙ ap seat_found
     (ap (place_in a.seats)
     (◌∙◌ {b = found a.seats c.before.before.before.seat-bytes.result c.before.before.seat-table.result.now a.key.0}
     c.before.find.ensures
     (ap₂ (λ (w : ℕ) (t : List ℕ). found a.seats w t a.key.0) c.before.before.before.seat-bytes.ensures c.before.before.seat-table.ensures))
-    ∙ sym (holding-fits a.seats a.numbers a.memory.now (sym c.before.before.before.before.before.fits2.ensures ∙ not-false _ c.before.before.before.before.if1.false) a.key.0))
+    ∙ sym (holding_fits a.seats a.numbers a.memory.now (sym c.before.before.before.before.before.fits2.ensures ∙ not-false _ c.before.before.before.before.if1.false) a.key.0))
 
 pub seat-of-spec : {M : Type 1} → statement M
 seat-of-spec =

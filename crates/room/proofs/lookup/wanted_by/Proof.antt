@@ -4,10 +4,10 @@ use borrow.Author.Tests.{not-true, not-false}
 use mathlib.Core.Path.{sym, ap, ◌∙◌}
 use mathlib.Core.List.{List}
 use Prim.Native.Nat.{ℕ, ◌-◌}
-use Rattle.room.specs.Numbers.{wantedOf}
-use Rattle.room_laws.specs.Lookup.{routeOfPlace}
-use Rattle.room.proofs.LookupSteps.{has-seat-facts, numbered-low, numbered-none, numbered-in}
-use Rattle.room_laws.proofs.LayoutLaws.{routes-fit}
+use Rattle.room.specs.Numbers.{wanted_of}
+use Rattle.room_laws.specs.Lookup.{route_of_place}
+use Rattle.room.proofs.LookupSteps.{has_seat_facts, numbered_low, numbered_none, numbered_in}
+use Rattle.room_laws.proofs.LayoutLaws.{routes_fit}
 use Rattle.room.proofs.lookup.wanted_by.Statement.{statement}
 use Rattle.room.proofs.lookup.wanted_by.Tie as tie
 
@@ -17,7 +17,7 @@ nothing-requires c κs = search rules
 returns : tie.Need-returns
 returns c =
     let a = c.before.before.before.before.args in
-    c.nothing.ensures ∙ ap wantedOf (sym (numbered-low a.seats a.numbers a.memory.now a.seat.0 a.number.0 c.before.if1.true))
+    c.nothing.ensures ∙ ap wanted_of (sym (numbered_low a.seats a.numbers a.memory.now a.seat.0 a.number.0 c.before.if1.true))
 
 has-seat-requires : tie.Need-has-seat-requires
 has-seat-requires c κs = search rules
@@ -28,7 +28,7 @@ nothing-requires-2 c κs = search rules
 returns-2 : tie.Need-returns-2
 returns-2 c =
     let a = c.before.before.before.before.before.before.args in
-    c.nothing2.ensures ∙ ap wantedOf (sym (numbered-none a.seats a.numbers a.memory.now a.seat.0 a.number.0 c.before.before.before.if1.false (sym c.before.before.has-seat.ensures ∙ not-true _ c.before.if2.true)))
+    c.nothing2.ensures ∙ ap wanted_of (sym (numbered_none a.seats a.numbers a.memory.now a.seat.0 a.number.0 c.before.before.before.if1.false (sym c.before.before.has-seat.ensures ∙ not-true _ c.before.if2.true)))
 
 cast-place : tie.Need-overflow-cast-place
 cast-place c = search rules
@@ -39,20 +39,20 @@ cast-routes-table c = search rules
 routes-table-requires : tie.Need-routes-table-requires
 routes-table-requires c κs =
     let a = c.before.before.before.before.before.before.before.args in
-    has-seat-facts a.seats a.numbers a.memory.now a.seat.0 (sym c.before.before.before.has-seat.ensures ∙ not-false _ c.before.before.if2.false)
+    has_seat_facts a.seats a.numbers a.memory.now a.seat.0 (sym c.before.before.before.has-seat.ensures ∙ not-false _ c.before.before.if2.false)
 
 wanted-at-requires : tie.Need-wanted-at-requires
 wanted-at-requires c κs =
     let a = c.before.before.before.before.before.before.before.before.args in
-    let h = has-seat-facts a.seats a.numbers a.memory.now a.seat.0 (sym c.before.before.before.before.has-seat.ensures ∙ not-false _ c.before.before.before.if2.false) in
-    rw c.routes-table.ensures (routes-fit a.seats a.numbers a.memory.now h.0 a.seat.0 h.1)
+    let h = has_seat_facts a.seats a.numbers a.memory.now a.seat.0 (sym c.before.before.before.before.has-seat.ensures ∙ not-false _ c.before.before.before.if2.false) in
+    rw c.routes_table.ensures (routes_fit a.seats a.numbers a.memory.now h.0 a.seat.0 h.1)
 
 returns-3 : tie.Need-returns-3
 returns-3 c =
     let a = c.before.before.before.before.before.before.before.before.before.args in
     c.wanted-at.ensures
-    ∙ ap (λ (t : List ℕ). wantedOf (routeOfPlace a.numbers t (a.number.0 - 16))) c.before.routes-table.ensures
-    ∙ ap wantedOf (sym (numbered-in a.seats a.numbers a.memory.now a.seat.0 a.number.0 c.before.before.before.before.before.before.if1.false (sym c.before.before.before.before.before.has-seat.ensures ∙ not-false _ c.before.before.before.before.if2.false)))
+    ∙ ap (λ (t : List ℕ). wanted_of (route_of_place a.numbers t (a.number.0 - 16))) c.before.routes_table.ensures
+    ∙ ap wanted_of (sym (numbered_in a.seats a.numbers a.memory.now a.seat.0 a.number.0 c.before.before.before.before.before.before.if1.false (sym c.before.before.before.before.before.has-seat.ensures ∙ not-false _ c.before.before.before.before.if2.false)))
 
 pub wanted-by-spec : {M : Type 1} → statement M
 wanted-by-spec =

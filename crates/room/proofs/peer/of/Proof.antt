@@ -1,9 +1,9 @@
 -- `peer::of` meets its contract: the seat that holds the wanted key, if another, and its route. Assumes nothing.
 use borrow.Author.Rules.{rules}
 use mathlib.Core.Path.{sym, ap, ◌∙◌}
-use Rattle.room_laws.specs.Lookup.{seatHolding, peerWanting}
-use Rattle.room.specs.Numbers.{peerFound}
-use Rattle.room.proofs.PeerSteps.{peer-none, peer-own, peer-other}
+use Rattle.room_laws.specs.Lookup.{seat_holding, peer_wanting}
+use Rattle.room.specs.Numbers.{peer_found}
+use Rattle.room.proofs.PeerSteps.{peer_none, peer_own, peer_other}
 use Rattle.room.proofs.peer.of.Statement.{statement}
 use Rattle.room.proofs.peer.of.Tie as tie
 
@@ -14,12 +14,12 @@ enum-known-other : tie.Need-enum-known-other
 enum-known-other c = search rules
 
 returns : tie.Need-returns
-unfolding peerFound peerWanting
+unfolding peer_found peer_wanting
 returns c =
     let a = c.before.before.before.before.before.before.before.before.args in
     let b = a.memory.now in
     let o = c.before.before.before.before.other.given in
-    sym (ap peerFound (peer-own a.seats a.numbers b a.seat.0 a.key.0 (seatHolding a.seats a.numbers b a.wanted.0) o.0.0
+    sym (ap peer_found (peer_own a.seats a.numbers b a.seat.0 a.key.0 (seat_holding a.seats a.numbers b a.wanted.0) o.0.0
     (sym c.before.before.before.before.before.before.seat-of.ensures ∙ o.1) c.if1.true))
 
 in-seat-requires : tie.Need-in-seat-requires
@@ -29,20 +29,20 @@ enum_told : tie.Need-enum-told
 enum_told c = search rules
 
 returns-2 : tie.Need-returns-2
-unfolding peerWanting
+unfolding peer_wanting
 returns-2 c =
     let a = c.before.before.before.before.before.before.before.before.before.args in
     let b = a.memory.now in
     let o = c.before.before.before.before.before.other.given in
-    peer-other a.seats a.numbers b a.seat.0 a.key.0 (seatHolding a.seats a.numbers b a.wanted.0) o.0.0
+    peer_other a.seats a.numbers b a.seat.0 a.key.0 (seat_holding a.seats a.numbers b a.wanted.0) o.0.0
     (sym c.before.before.before.before.before.before.before.seat-of.ensures ∙ o.1) c.before.if1.false c.in-seat.result c.in-seat.ensures
 
 returns-3 : tie.Need-returns-3
-unfolding peerFound peerWanting
+unfolding peer_found peer_wanting
 returns-3 c =
     let a = c.before.before.before.before.args in
     let b = a.memory.now in
-    sym (ap peerFound (peer-none a.seats a.numbers b a.seat.0 a.key.0 (seatHolding a.seats a.numbers b a.wanted.0)
+    sym (ap peer_found (peer_none a.seats a.numbers b a.seat.0 a.key.0 (seat_holding a.seats a.numbers b a.wanted.0)
     (sym c.before.before.seat-of.ensures ∙ c.enum_told.given.1)))
 
 pub of_spec : {M : Type 1} → statement M

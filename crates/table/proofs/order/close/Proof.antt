@@ -4,14 +4,14 @@ use mathlib.Core.List.{List, ◌++◌}
 use Prim.Native.Nat.{ℕ, ◌≤◌, ◌-◌, ◌<◌, ◌+◌}
 use native.Mathlib.Omega.{arith}
 use lib.ListN.{length, take, drop, get_or, set, length-set}
-use Rattle.lists.specs.Insert.{removeAt}
-use Rattle.lists.proofs.Shift.{close-begins, close-next, close-stored}
+use Rattle.lists.specs.Insert.{remove_at}
+use Rattle.lists.proofs.Shift.{close_begins, close_next, close_stored}
 use Rattle.table_laws.specs.Table.{closed}
 use Rattle.table.proofs.order.close.Statement.{statement}
 use Rattle.table.proofs.order.close.Tie as tie
 
 abbrev invariant-loop : tie.invariant-loop
-invariant-loop order₀ at count i₀ order i = (at ≤ i) × (i ≤ count) × (length order ≡ length order₀) × (order ≡ take i (removeAt at order₀) ++ drop i order₀)
+invariant-loop order₀ at count i₀ order i = (at ≤ i) × (i ≤ count) × (length order ≡ length order₀) × (order ≡ take i (remove_at at order₀) ++ drop i order₀)
 
 abbrev decreases-loop : tie.decreases-loop
 decreases-loop order₀ at count i₀ order i = count - i
@@ -22,7 +22,7 @@ loop-holds c =
       omega arith,
       omega arith,
       refl,
-      close-begins a.at a.order.now,
+      close_begins a.at a.order.now,
     )
 
 add-order : tie.Need-overflow-add-order invariant-loop decreases-loop
@@ -46,12 +46,12 @@ loop-again c =
     let a = c.before.before.before.args in
     let o = a.order.now in
     let h : l.i + 1 < length o = omega arith in
-    let v : get_or l.order (l.i + 1) 0 ≡ get_or (removeAt a.at o) l.i 0
-    = ap (λ (x : List ℕ). get_or x (l.i + 1) 0) l.invariant.3 ∙ close-next a.at o 0 l.i l.invariant.0 h in (
+    let v : get_or l.order (l.i + 1) 0 ≡ get_or (remove_at a.at o) l.i 0
+    = ap (λ (x : List ℕ). get_or x (l.i + 1) 0) l.invariant.3 ∙ close_next a.at o 0 l.i l.invariant.0 h in (
       omega arith,
       omega arith,
       simp length-set (omega arith),
-      ap₂ (λ (x : List ℕ) (y : ℕ). set x l.i y) l.invariant.3 v ∙ close-stored a.at o 0 l.i l.invariant.0 h,
+      ap₂ (λ (x : List ℕ) (y : ℕ). set x l.i y) l.invariant.3 v ∙ close_stored a.at o 0 l.i l.invariant.0 h,
     )
 
 same_length : tie.Need-same-length invariant-loop decreases-loop
@@ -63,7 +63,7 @@ returns c =
     let l = c.before.loop in
     let a = c.before.before.args in
     let k : l.i ≡ a.count = omega arith in
-    (l.invariant.3 ∙ ap (λ (x : ℕ). take x (removeAt a.at a.order.now) ++ drop x a.order.now) k)
+    (l.invariant.3 ∙ ap (λ (x : ℕ). take x (remove_at a.at a.order.now) ++ drop x a.order.now) k)
 
 pub close_spec : {M : Type 1} → statement M
 close_spec =

@@ -5,9 +5,9 @@ use Prim.Native.Nat.{◌+◌, ◌-◌, ◌≤◌, ◌<◌}
 use native.Mathlib.Omega.{arith}
 use lib.ListN.{length, drop}
 use Rattle.lists.specs.Find.{index_of}
-use Rattle.lists.proofs.Members.{index-here, index-next, index-end}
+use Rattle.lists.proofs.Members.{index_here, index_next, index_end}
 use Rattle.table_laws.specs.Table.{listed}
-use Rattle.table_laws.proofs.Listed.{listed-few, at_listed}
+use Rattle.table_laws.proofs.Listed.{listed_few, at_listed}
 use Rattle.table.proofs.order.index_of.Statement.{statement}
 use Rattle.table.proofs.order.index_of.Tie as tie
 
@@ -27,14 +27,14 @@ loop-holds c = (omega arith, c.length.ensures, omega arith)
 add-if1 : tie.Need-overflow-add-if1 invariant-loop decreases-loop
 add-if1 c =
     let s = c.before.before.before.before in
-    let q = listed-few s.args.places s.args.table.now s.requires in
+    let q = listed_few s.args.places s.args.table.now s.requires in
     let e = c.before.loop.invariant.1 in
     omega arith
 
 shared-slice-read-if1 : tie.Need-shared-slice-read-if1 invariant-loop decreases-loop
 shared-slice-read-if1 c =
     let s = c.before.before.before.before.before in
-    let q = listed-few s.args.places s.args.table.now s.requires in
+    let q = listed_few s.args.places s.args.table.now s.requires in
     let e = c.before.before.loop.invariant.1 in
     omega arith
 
@@ -47,7 +47,7 @@ returns c =
     let s = c.before.before.before.before.before.before in
     let n = s.args.table.now in
     let h : l.i < length (listed s.args.places n) = omega (arith, l.invariant.1) in
-    let q = index-here s.args.place (listed s.args.places n) l.i h (at_listed s.args.places n s.requires l.i h ∙ c.if1.true) in
+    let q = index_here s.args.place (listed s.args.places n) l.i h (at_listed s.args.places n s.requires l.i h ∙ c.if1.true) in
     omega (arith, l.invariant.2)
 
 add-i : tie.Need-overflow-add-i invariant-loop decreases-loop
@@ -62,7 +62,7 @@ loop-again c =
     let s = c.before.before.before.before.before.before in
     let n = s.args.table.now in
     let h : l.i < length (listed s.args.places n) = omega (arith, l.invariant.1) in
-    let q = index-next s.args.place (listed s.args.places n) l.i h (λ e. c.if1.false (sym (at_listed s.args.places n s.requires l.i h) ∙ e)) in
+    let q = index_next s.args.place (listed s.args.places n) l.i h (λ e. c.if1.false (sym (at_listed s.args.places n s.requires l.i h) ∙ e)) in
     (omega arith, l.invariant.1, omega (arith, l.invariant.2))
 
 returns-2 : tie.Need-returns-2 invariant-loop decreases-loop
@@ -70,7 +70,7 @@ returns-2 c =
     let l = c.before.loop in
     let s = c.before.before.before.before in
     let n = s.args.table.now in
-    let q = index-end s.args.place (listed s.args.places n) l.i (omega (arith, l.invariant.1)) in
+    let q = index_end s.args.place (listed s.args.places n) l.i (omega (arith, l.invariant.1)) in
     omega (arith, l.invariant.2)
 
 pub index-of-spec : {M : Type 1} → statement M

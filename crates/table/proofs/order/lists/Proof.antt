@@ -7,9 +7,9 @@ use Prim.Native.Nat.{◌+◌, ◌-◌, ◌≤◌, ◌<◌}
 use native.Mathlib.Omega.{arith}
 use lib.ListN.{length, drop}
 use Rattle.lists.specs.Find.{member}
-use Rattle.lists.proofs.Members.{member-here, member-next, member-end}
+use Rattle.lists.proofs.Members.{member_here, member_next, member_end}
 use Rattle.table_laws.specs.Table.{listed}
-use Rattle.table_laws.proofs.Listed.{listed-few, at_listed}
+use Rattle.table_laws.proofs.Listed.{listed_few, at_listed}
 use Rattle.table.proofs.order.lists.Statement.{statement}
 use Rattle.table.proofs.order.lists.Tie as tie
 
@@ -29,14 +29,14 @@ loop-holds c = (omega arith, c.length.ensures, refl)
 add-if1 : tie.Need-overflow-add-if1 invariant-loop decreases-loop
 add-if1 c =
     let s = c.before.before.before.before in
-    let q = listed-few s.args.places s.args.table.now s.requires in
+    let q = listed_few s.args.places s.args.table.now s.requires in
     let e = c.before.loop.invariant.1 in
     omega arith
 
 shared-slice-read-if1 : tie.Need-shared-slice-read-if1 invariant-loop decreases-loop
 shared-slice-read-if1 c =
     let s = c.before.before.before.before.before in
-    let q = listed-few s.args.places s.args.table.now s.requires in
+    let q = listed_few s.args.places s.args.table.now s.requires in
     let e = c.before.before.loop.invariant.1 in
     omega arith
 
@@ -63,9 +63,9 @@ loop-again c =
       omega arith,
       l.invariant.1,
       ⊎_elim
-          (λ w. l.invariant.2 ∙ ap (λ (t : Bool). l.used || t) (member-here n ns l.i h (here ∙ w.0.taken)) ∙ or-true l.used
+          (λ w. l.invariant.2 ∙ ap (λ (t : Bool). l.used || t) (member_here n ns l.i h (here ∙ w.0.taken)) ∙ or-true l.used
           ∙ sym (ap (λ (t : Bool). t || more) w.1))
-          (λ w. l.invariant.2 ∙ ap (λ (t : Bool). l.used || t) (member-next n ns l.i h (λ e. w.0.left (sym here ∙ e)))
+          (λ w. l.invariant.2 ∙ ap (λ (t : Bool). l.used || t) (member_next n ns l.i h (λ e. w.0.left (sym here ∙ e)))
           ∙ sym (ap (λ (t : Bool). t || more) w.1))
           c.if1.branch,
     )
@@ -75,7 +75,7 @@ returns c =
     let l = c.before.loop in
     let s = c.before.before.before.before in
     let ns = listed s.args.places s.args.table.now in
-    sym (l.invariant.2 ∙ ap (λ (t : Bool). l.used || t) (member-end s.args.place ns l.i (omega (arith, l.invariant.1))) ∙ or-false l.used)
+    sym (l.invariant.2 ∙ ap (λ (t : Bool). l.used || t) (member_end s.args.place ns l.i (omega (arith, l.invariant.1))) ∙ or-false l.used)
 
 pub lists-spec : {M : Type 1} → statement M
 lists-spec =

@@ -6,7 +6,7 @@ use native.Mathlib.Omega.{arith}
 use lib.ListN.{length}
 use Rattle.table_laws.specs.Table.{listed, lowest}
 use Rattle.table.specs.Marks.{Marked}
-use Rattle.table.proofs.LowestLaws.{mark-none, mark-not, mark-is, lowest-here, lowest-next, lowest-end}
+use Rattle.table.proofs.LowestLaws.{mark_none, mark_not, mark_is, lowest_here, lowest_next, lowest_end}
 use Rattle.table.proofs.order.lowest_unlisted.Statement.{statement}
 use Rattle.table.proofs.order.lowest_unlisted.Tie as tie
 
@@ -21,7 +21,7 @@ slice-aggregate-mark-listed : tie.Need-slice-aggregate-mark-listed invariant-loo
 slice-aggregate-mark-listed c = search rules
 
 mark-listed-requires : tie.Need-mark-listed-requires invariant-loop decreases-loop
-mark-listed-requires c κs = (c.before.before.requires.0, refl, mark-none)
+mark-listed-requires c κs = (c.before.before.requires.0, refl, mark_none)
 
 loop-holds : tie.Need-loop-init invariant-loop decreases-loop
 loop-holds c =
@@ -38,7 +38,7 @@ returns c =
     let l = c.before.before.loop in
     let s = c.before.before.before.before.before.before.before in
     let ns = listed s.args.places s.args.table.now in
-    sym (l.invariant.3 ∙ lowest-here s.args.places l.place ns (omega arith) (mark-not c.before.before.before.before.mark-listed.new.1.1.0 ns l.place l.invariant.2 (omega arith) c.if1.true))
+    sym (l.invariant.3 ∙ lowest_here s.args.places l.place ns (omega arith) (mark_not c.before.before.before.before.mark-listed.new.1.1.0 ns l.place l.invariant.2 (omega arith) c.if1.true))
 
 add-place : tie.Need-overflow-add-place invariant-loop decreases-loop
 add-place c = omega arith
@@ -54,14 +54,14 @@ loop-again c =
       omega arith,
       l.invariant.1,
       l.invariant.2,
-      l.invariant.3 ∙ lowest-next s.args.places l.place ns (omega arith) (mark-is c.before.before.before.before.mark-listed.new.1.1.0 ns l.place l.invariant.2 (omega arith) c.if1.false),
+      l.invariant.3 ∙ lowest_next s.args.places l.place ns (omega arith) (mark_is c.before.before.before.before.mark-listed.new.1.1.0 ns l.place l.invariant.2 (omega arith) c.if1.false),
     )
 
 returns-2 : tie.Need-returns-2 invariant-loop decreases-loop
 returns-2 c =
     let l = c.before.loop in
     let s = c.before.before.before.before.before.before in
-    sym (l.invariant.3 ∙ lowest-end s.args.places l.place (listed s.args.places s.args.table.now) (omega arith))
+    sym (l.invariant.3 ∙ lowest_end s.args.places l.place (listed s.args.places s.args.table.now) (omega arith))
 
 pub lowest-unlisted-spec : {M : Type 1} → statement M
 lowest-unlisted-spec =

@@ -7,8 +7,8 @@ use lib.ListN.{length, take, get_or, length-set}
 use lib.Seq.{take_all}
 use Rattle.table_laws.specs.Table.{listed}
 use Rattle.table.specs.Marks.{Marked}
-use Rattle.table_laws.proofs.Listed.{listed-few, at_listed}
-use Rattle.table.proofs.LowestLaws.{mark-step}
+use Rattle.table_laws.proofs.Listed.{listed_few, at_listed}
+use Rattle.table.proofs.LowestLaws.{mark_step}
 use Rattle.table.proofs.order.mark_listed.Statement.{statement}
 use Rattle.table.proofs.order.mark_listed.Tie as tie
 
@@ -28,14 +28,14 @@ loop-holds c = (omega arith, c.length.ensures, c.before.before.before.requires.1
 add-place : tie.Need-overflow-add-place invariant-loop decreases-loop
 add-place c =
     let s = c.before.before.before.before.before in
-    let q = listed-few s.args.places s.args.table.now s.requires.0 in
+    let q = listed_few s.args.places s.args.table.now s.requires.0 in
     let e = c.before.loop.invariant.1 in
     omega arith
 
 shared-slice-read-place : tie.Need-shared-slice-read-place invariant-loop decreases-loop
 shared-slice-read-place c =
     let s = c.before.before.before.before.before.before in
-    let q = listed-few s.args.places s.args.table.now s.requires.0 in
+    let q = listed_few s.args.places s.args.table.now s.requires.0 in
     let e = c.before.before.loop.invariant.1 in
     omega arith
 
@@ -62,7 +62,7 @@ loop-again c =
       omega arith,
       l.invariant.1,
       simp length-set l.invariant.2,
-      mark-step l.marks (listed p t) l.i (get_or t (1 + l.i) 0) l.invariant.2 h (sym (at_listed p t s.requires.0 l.i h)) (omega arith) l.invariant.3,
+      mark_step l.marks (listed p t) l.i (get_or t (1 + l.i) 0) l.invariant.2 h (sym (at_listed p t s.requires.0 l.i h)) (omega arith) l.invariant.3,
     )
 
 same_length : tie.Need-same-length invariant-loop decreases-loop

@@ -5,16 +5,16 @@ use mathlib.Core.List.{List, ◌++◌}
 use Prim.Native.Nat.{ℕ, ◌≤◌, ◌-◌, ◌<◌, ◌+◌}
 use native.Mathlib.Omega.{arith}
 use lib.ListN.{length, take, drop, get_or, set, length-set}
-use Rattle.lists.specs.Insert.{insertAt}
-use Rattle.lists.proofs.Shift.{at_in, open-begins, open-stored, open-carried}
+use Rattle.lists.specs.Insert.{insert_at}
+use Rattle.lists.proofs.Shift.{at_in, open_begins, open_stored, open_carried}
 use Rattle.table_laws.specs.Table.{entered}
 use Rattle.table.proofs.order.open.Statement.{statement}
 use Rattle.table.proofs.order.open.Tie as tie
 
 abbrev invariant-loop : tie.invariant-loop
 invariant-loop order₀ at count place carried₀ i₀ order carried i =
-    (at ≤ i) × (i ≤ count + 1) × (length order ≡ length order₀) × (order ≡ take i (insertAt at place order₀) ++ drop i order₀)
-    × (carried ≡ get_or (insertAt at place order₀) i 0)
+    (at ≤ i) × (i ≤ count + 1) × (length order ≡ length order₀) × (order ≡ take i (insert_at at place order₀) ++ drop i order₀)
+    × (carried ≡ get_or (insert_at at place order₀) i 0)
 
 abbrev decreases-loop : tie.decreases-loop
 decreases-loop order₀ at count place carried₀ i₀ order carried i = count + 1 - i
@@ -26,7 +26,7 @@ loop-holds c =
       omega arith,
       omega arith,
       refl,
-      open-begins a.at a.place a.order.now h,
+      open_begins a.at a.place a.order.now h,
       sym (at_in a.at a.place a.order.now 0 h),
     )
 
@@ -51,8 +51,8 @@ loop-again c =
       omega arith,
       omega arith,
       simp length-set (omega arith),
-      ap₂ (λ (x : List ℕ) (y : ℕ). set x l.i y) l.invariant.3 l.invariant.4 ∙ open-stored a.at a.place o 0 l.i l.invariant.0 h,
-      ap (λ (x : List ℕ). get_or x l.i 0) l.invariant.3 ∙ open-carried a.at a.place o 0 l.i l.invariant.0 h,
+      ap₂ (λ (x : List ℕ) (y : ℕ). set x l.i y) l.invariant.3 l.invariant.4 ∙ open_stored a.at a.place o 0 l.i l.invariant.0 h,
+      ap (λ (x : List ℕ). get_or x l.i 0) l.invariant.3 ∙ open_carried a.at a.place o 0 l.i l.invariant.0 h,
     )
 
 same_length : tie.Need-same-length invariant-loop decreases-loop
@@ -64,7 +64,7 @@ returns c =
     let l = c.before.loop in
     let a = c.before.before.args in
     let k : l.i ≡ a.count + 1 = omega arith in
-    (l.invariant.3 ∙ ap (λ (x : ℕ). take x (insertAt a.at a.place a.order.now) ++ drop x a.order.now) k)
+    (l.invariant.3 ∙ ap (λ (x : ℕ). take x (insert_at a.at a.place a.order.now) ++ drop x a.order.now) k)
 
 pub open_spec : {M : Type 1} → statement M
 open_spec =

@@ -6,7 +6,7 @@ use Prim.Native.Nat.{ℕ, ◌-◌, ◌+◌}
 use native.Mathlib.Omega.{arith}
 use lib.ListN.{take, drop, get_or}
 use Rattle.table_laws.specs.Table.{closed}
-use Rattle.table_laws.proofs.Stores.{freed-none, freed-done}
+use Rattle.table_laws.proofs.Stores.{freed_none, freed_done}
 use Rattle.table.proofs.order.remove.Statement.{statement}
 use Rattle.table.proofs.order.remove.Tie as tie
 
@@ -25,7 +25,7 @@ same_length c = search rules
 returns : tie.Need-returns
 returns c =
     let a = c.before.before.before.before.before.args in
-    freed-none a.places a.table.now a.place _ _ refl c.before.index_of.ensures c.if1.true
+    freed_none a.places a.table.now a.place _ _ refl c.before.index_of.ensures c.if1.true
 
 add-end : tie.Need-overflow-add-end
 add-end c = search rules
@@ -66,7 +66,7 @@ returns-2 c =
     let m = get_or t 0 0 in
     let k : 1 + p - 1 ≡ p = omega arith in
     rw k
-    (freed-done p t a.place (m - 1) i.result (m - 1) c.before.before.close.new.0 (omega arith) refl i.ensures refl (omega arith)
+    (freed_done p t a.place (m - 1) i.result (m - 1) c.before.before.close.new.0 (omega arith) refl i.ensures refl (omega arith)
     (c.before.before.close.ensures ∙ ap (λ (x : ℕ). closed (m - 1) i.result (take x (drop 1 t))) k))
 
 pub remove-spec : {M : Type 1} → statement M

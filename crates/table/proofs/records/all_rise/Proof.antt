@@ -6,15 +6,15 @@ use mathlib.Core.Path.{◌≡◌, refl, sym, ◌∙◌}
 use Prim.Native.Nat.{◌≤◌, ◌-◌, ◌<◌, ◌+◌}
 use native.Mathlib.Omega.{arith}
 use lib.ListN.{length, drop, get_or}
-use Rattle.table_laws.specs.Table.{listed, key_at, tableWhole, risingAfter}
-use Rattle.table_laws.proofs.Listed.{whole-many, whole-none, whole-first, step-out, step_falls, step-on, step_end}
+use Rattle.table_laws.specs.Table.{listed, key_at, table_whole, rising_after}
+use Rattle.table_laws.proofs.Listed.{whole_many, whole_none, whole_first, step_out, step_falls, step_on, step_end}
 use Rattle.table.proofs.records.all_rise.Statement.{statement}
 use Rattle.table.proofs.records.all_rise.Tie as tie
 
 abbrev invariant-loop : tie.invariant-loop
 invariant-loop t places width count last₀ i₀ last i =
     (i ≤ count) × (1 ≤ i) × (count ≡ get_or t 0 0) × (last < places)
-    × (tableWhole places width t ≡ risingAfter places (key_at places width t) last (drop i (listed places t)))
+    × (table_whole places width t ≡ rising_after places (key_at places width t) last (drop i (listed places t)))
 
 abbrev decreases-loop : tie.decreases-loop
 decreases-loop t places width count last₀ i₀ last i = count - i
@@ -28,12 +28,12 @@ cast-count c = let g = c.shared-slice-known2.given 0 in omega arith
 returns : tie.Need-returns invariant-loop decreases-loop
 returns c =
     let a = c.before.before.before.args in
-    sym (whole-many a.places a.width a.table.now c.if1.true)
+    sym (whole_many a.places a.width a.table.now c.if1.true)
 
 returns-2 : tie.Need-returns-2 invariant-loop decreases-loop
 returns-2 c =
     let a = c.before.before.before.before.args in
-    sym (whole-none a.places a.width a.table.now c.if2.true)
+    sym (whole_none a.places a.width a.table.now c.if2.true)
 
 shared-slice-read-last : tie.Need-shared-slice-read-last invariant-loop decreases-loop
 shared-slice-read-last c = omega arith
@@ -48,7 +48,7 @@ returns-3 c =
     let t = a.table.now in
     let p = a.places in
     let f : p < length t = omega arith in
-    sym (whole-first p a.width t (omega arith) f (get_or t 1 0) refl (omega arith) ∙ rw (le-ltb (get_or t 1 0) p c.if3.true))
+    sym (whole_first p a.width t (omega arith) f (get_or t 1 0) refl (omega arith) ∙ rw (le-ltb (get_or t 1 0) p c.if3.true))
 
 loop-holds : tie.Need-loop-init invariant-loop decreases-loop
 loop-holds c =
@@ -61,7 +61,7 @@ loop-holds c =
       omega arith,
       refl,
       omega arith,
-      whole-first p a.width t (omega arith) f (get_or t 1 0) refl (omega arith) ∙ rw (lt-ltb (get_or t 1 0) p c.if3.false),
+      whole_first p a.width t (omega arith) f (get_or t 1 0) refl (omega arith) ∙ rw (lt-ltb (get_or t 1 0) p c.if3.false),
     )
 
 add-next : tie.Need-overflow-add-next invariant-loop decreases-loop
@@ -82,7 +82,7 @@ returns-4 c =
     let p = a.places in
     let f : p < length t = omega arith in
     let m : get_or t 0 0 ≤ p = omega arith in
-    sym (l.loop.invariant.4 ∙ step-out p a.width t m f l.loop.last l.loop.i (get_or t (1 + l.loop.i) 0) refl (omega arith) c.if4.true)
+    sym (l.loop.invariant.4 ∙ step_out p a.width t m f l.loop.last l.loop.i (get_or t (1 + l.loop.i) 0) refl (omega arith) c.if4.true)
 
 rises-requires : tie.Need-rises-requires invariant-loop decreases-loop
 rises-requires c κs = search rules
@@ -119,7 +119,7 @@ loop-again c =
       l.loop.invariant.2,
       omega arith,
       l.loop.invariant.4
-          ∙ step-on p a.width t m f l.loop.last l.loop.i (get_or t (1 + l.loop.i) 0) refl (omega arith)
+          ∙ step_on p a.width t m f l.loop.last l.loop.i (get_or t (1 + l.loop.i) 0) refl (omega arith)
           _ c.before.rises.ensures c.before.before.if4.false c.if5.false,
     )
 

@@ -9,16 +9,16 @@ use Prim.Native.Nat.{ℕ, ◌≤◌, ◌-◌, ◌<◌, ◌+◌}
 use native.Mathlib.Omega.{arith}
 use lib.Dec.{eqb}
 use lib.ListN.{length, drop, get_or}
-use Rattle.table_laws.specs.Table.{listed, key_at, tableWhole, risingAfter}
-use Rattle.table_laws.proofs.Listed.{whole-first, step-out, step_falls, step-on, step_end}
-use Rattle.table_laws.proofs.WithoutLaws.{NonePassed, without-not-whole, whole-without, without-many, without-none, pass_on, passed-all}
+use Rattle.table_laws.specs.Table.{listed, key_at, table_whole, rising_after}
+use Rattle.table_laws.proofs.Listed.{whole_first, step_out, step_falls, step_on, step_end}
+use Rattle.table_laws.proofs.WithoutLaws.{NonePassed, without_not_whole, whole_without, without_many, without_none, pass_on, passed_all}
 use Rattle.table.proofs.records.all_rise_without.Statement.{statement}
 use Rattle.table.proofs.records.all_rise_without.Tie as tie
 
 abbrev invariant-loop : tie.invariant-loop
 invariant-loop t places width key count last₀ alike₀ i₀ last alike i =
     (i ≤ count) × (1 ≤ i) × (count ≡ get_or t 0 0) × (last < places)
-    × (tableWhole places width t ≡ risingAfter places (key_at places width t) last (drop i (listed places t))) × (alike ≡ false → NonePassed places width t key i)
+    × (table_whole places width t ≡ rising_after places (key_at places width t) last (drop i (listed places t))) × (alike ≡ false → NonePassed places width t key i)
 
 abbrev decreases-loop : tie.decreases-loop
 decreases-loop t places width key count last₀ alike₀ i₀ last alike i = count - i
@@ -32,12 +32,12 @@ cast-count c = let g = c.shared-slice-known3.given 0 in omega arith
 returns : tie.Need-returns invariant-loop decreases-loop
 returns c =
     let a = c.before.before.before.before.args in
-    sym (without-many a.places a.width a.table.now a.key.now c.if1.true)
+    sym (without_many a.places a.width a.table.now a.key.now c.if1.true)
 
 returns-2 : tie.Need-returns-2 invariant-loop decreases-loop
 returns-2 c =
     let a = c.before.before.before.before.before.args in
-    sym (without-none a.places a.width a.table.now a.key.now c.if2.true)
+    sym (without_none a.places a.width a.table.now a.key.now c.if2.true)
 
 shared-slice-read-last : tie.Need-shared-slice-read-last invariant-loop decreases-loop
 shared-slice-read-last c = omega arith
@@ -53,8 +53,8 @@ returns-3 c =
     let p = a.places in
     let k = a.key.now in
     let f : p < length t = omega arith in
-    sym (without-not-whole p a.width t k
-    (whole-first p a.width t (omega arith) f (get_or t 1 0) refl (omega arith) ∙ rw (le-ltb (get_or t 1 0) p c.if3.true)))
+    sym (without_not_whole p a.width t k
+    (whole_first p a.width t (omega arith) f (get_or t 1 0) refl (omega arith) ∙ rw (le-ltb (get_or t 1 0) p c.if3.true)))
 
 begins-alike-requires : tie.Need-begins-alike-requires invariant-loop decreases-loop
 begins-alike-requires c κs = search rules
@@ -72,7 +72,7 @@ loop-holds c =
       omega arith,
       refl,
       omega arith,
-      whole-first p a.width t m f (get_or t 1 0) refl (omega arith) ∙ rw (lt-ltb (get_or t 1 0) p c.before.if3.false),
+      whole_first p a.width t m f (get_or t 1 0) refl (omega arith) ∙ rw (lt-ltb (get_or t 1 0) p c.before.if3.false),
       λ e. pass_on p a.width t k m f 0 (get_or t 1 0) refl (omega arith) c.begins-alike.result c.begins-alike.ensures e refl,
     )
 
@@ -95,8 +95,8 @@ returns-4 c =
     let f : p < length t = omega arith in
     let l = c.before.before.before.loop in
     let m : get_or t 0 0 ≤ p = omega arith in
-    sym (without-not-whole p a.width t k
-    (l.invariant.4 ∙ step-out p a.width t m f l.last l.i (get_or t (1 + l.i) 0) refl (omega arith) c.if4.true))
+    sym (without_not_whole p a.width t k
+    (l.invariant.4 ∙ step_out p a.width t m f l.last l.i (get_or t (1 + l.i) 0) refl (omega arith) c.if4.true))
 
 rises-requires : tie.Need-rises-requires invariant-loop decreases-loop
 rises-requires c κs = search rules
@@ -111,7 +111,7 @@ returns-5 c =
     let f : p < length t = omega arith in
     let l = c.before.before.before.before.before.loop in
     let m : get_or t 0 0 ≤ p = omega arith in
-    sym (without-not-whole p a.width t k
+    sym (without_not_whole p a.width t k
     (l.invariant.4 ∙ step_falls p a.width t m f l.last l.i (get_or t (1 + l.i) 0) refl (omega arith) _ c.before.rises.ensures c.if5.true))
 
 begins-alike-requires-2 : tie.Need-begins-alike-requires-2 invariant-loop decreases-loop
@@ -139,7 +139,7 @@ loop-again c =
       l.invariant.2,
       omega arith,
       l.invariant.4
-          ∙ step-on p a.width t m f l.last l.i (get_or t (1 + l.i) 0) refl (omega arith)
+          ∙ step_on p a.width t m f l.last l.i (get_or t (1 + l.i) 0) refl (omega arith)
           _ c.before.before.before.rises.ensures c.before.before.before.before.if4.false c.before.before.if5.false,
       λ e. ⊎_elim
           (λ w. absurd (true≢false (sym w.1 ∙ e)))
@@ -158,7 +158,7 @@ returns-6 c =
     let l = c.before.before.loop in
     let m : get_or t 0 0 ≤ p = omega arith in
     let whole = l.invariant.4 ∙ step_end p a.width t m f l.last l.i (omega arith) in
-    sym (passed-all p a.width t k m f whole l.i (omega arith) (l.invariant.5 (not-true _ c.if7.true)))
+    sym (passed_all p a.width t k m f whole l.i (omega arith) (l.invariant.5 (not-true _ c.if7.true)))
 
 place-of-requires : tie.Need-place-of-requires invariant-loop decreases-loop
 place-of-requires c κs = search rules
@@ -174,7 +174,7 @@ returns-7 c =
     let l = c.before.before.before.loop in
     let m : get_or t 0 0 ≤ p = omega arith in
     let whole = l.invariant.4 ∙ step_end p a.width t m f l.last l.i (omega arith) in
-    ap (λ (x : ℕ). eqb x p) c.place_of.ensures ∙ sym (whole-without p a.width t k whole)
+    ap (λ (x : ℕ). eqb x p) c.place_of.ensures ∙ sym (whole_without p a.width t k whole)
 
 pub all-rise-without-spec : {M : Type 1} → statement M
 all-rise-without-spec =

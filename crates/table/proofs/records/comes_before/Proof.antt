@@ -2,7 +2,7 @@
 use borrow.Author.Rules.{rules}
 use mathlib.Core.Path.{refl, sym}
 use lib.ListN.{get_or}
-use Rattle.table_laws.proofs.Listed.{first-key-before}
+use Rattle.table_laws.proofs.Listed.{first_key_before}
 use Rattle.table_laws.proofs.SearchLaws.{none_before}
 use Rattle.table.proofs.records.comes_before.Statement.{statement}
 use Rattle.table.proofs.records.comes_before.Tie as tie
@@ -33,14 +33,14 @@ returns-2 c =
     let s = c.before.before.before.before.before.before.before.before.before in
     let a = s.args in
     let r = c.before.before.before.before.before.spot in
-    sym (first-key-before a.places a.width a.table.now s.requires.0 a.place c.before.before.before.before.before.before.if1.false r.result (get_or a.key.now 0 0) a.key.now
+    sym (first_key_before a.places a.width a.table.now s.requires.0 a.place c.before.before.before.before.before.before.if1.false r.result (get_or a.key.now 0 0) a.key.now
     r.ensures s.requires.1 refl c.before.before.if2.true)
 
 place-before-requires : tie.Need-place-before-requires
 place-before-requires c κs = let s = c.before.before.before.before.before.before.before in (s.requires.0, c.before.before.before.before.if1.false, s.requires.1)
 
 returns-3 : tie.Need-returns-3
-returns-3 c = c.place-before.ensures
+returns-3 c = c.place_before.ensures
 
 pub comes-before-spec : {M : Type 1} → statement M
 comes-before-spec =

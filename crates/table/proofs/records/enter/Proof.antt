@@ -9,8 +9,8 @@ use native.Mathlib.Omega.{arith}
 use lib.ListN.{length, take, drop, get_or, length-set, length-drop}
 use lib.Seq.{length-take-le}
 use Rattle.table_laws.specs.Table.{entered}
-use Rattle.table_laws.proofs.Listed.{place-le}
-use Rattle.table_laws.proofs.Stores.{opened-table, put-done}
+use Rattle.table_laws.proofs.Listed.{place_le}
+use Rattle.table_laws.proofs.Stores.{opened_table, put_done}
 use Rattle.table.proofs.records.enter.Statement.{statement}
 use Rattle.table.proofs.records.enter.Tie as tie
 
@@ -51,7 +51,7 @@ open-requires : tie.Need-open-requires
 open-requires c κs =
     let a = c.before.before.before.before.before.before.before.args in
     let f : a.places < length a.table.now = omega arith in
-    let q = place-le a.places a.width a.table.now (omega arith) f (take 32 a.«record».now) in
+    let q = place_le a.places a.width a.table.now (omega arith) f (take 32 a.«record».now) in
     let e = c.before.position-of.ensures in
     search rules
 
@@ -63,7 +63,7 @@ refill-requires c κs =
     let o : List ℕ = c.before.before.before.«open».new.0 in
     let k : 1 + p - 1 ≡ p = omega arith in
     let lo : length o ≡ p = c.before.before.before.«open».auto.0 ∙ rw k (length-take-le p (drop 1 t) (rw length-drop (omega arith))) in
-    (opened-table p s.args.width t s.requires.0 (1 + p - 1) o k lo, s.requires.2, omega (arith, s.requires.4))
+    (opened_table p s.args.width t s.requires.0 (1 + p - 1) o k lo, s.requires.2, omega (arith, s.requires.4))
 
 add-table : tie.Need-overflow-add-table
 add-table c = search rules
@@ -94,7 +94,7 @@ returns c =
     let k : 1 + p - 1 ≡ p = omega arith in
     let lo : length o ≡ p
     = c.before.before.before.before.before.before.«open».auto.0 ∙ rw k (length-take-le p (drop 1 t) (rw length-drop (omega arith))) in
-    put-done p a.width t s.requires.0 (1 + p - 1) o k lo a.place a.«record».now (get_or t 0 0 + 1) i.result (get_or t 0 0) _ refl i.ensures refl
+    put_done p a.width t s.requires.0 (1 + p - 1) o k lo a.place a.«record».now (get_or t 0 0 + 1) i.result (get_or t 0 0) _ refl i.ensures refl
     (c.before.before.before.before.before.before.«open».ensures ∙ ap (λ (x : ℕ). entered (get_or t 0 0) i.result a.place (take x (drop 1 t))) k)
     c.before.before.refill.ensures
 

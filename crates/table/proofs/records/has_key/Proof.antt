@@ -4,9 +4,9 @@ use mathlib.Core.Path.{refl, sym, ap, ◌∙◌}
 use mathlib.Core.List.{List}
 use Prim.Native.Nat.{ℕ}
 use lib.ListN.{get_or}
-use Rattle.key.specs.Keys.{sameKey}
-use Rattle.table_laws.proofs.Listed.{key-lent, length-key}
-use Rattle.table_laws.proofs.SearchLaws.{none-same, first-other}
+use Rattle.key.specs.Keys.{same_key}
+use Rattle.table_laws.proofs.Listed.{key_lent, length_key}
+use Rattle.table_laws.proofs.SearchLaws.{none_same, first_other}
 use Rattle.table.proofs.records.has_key.Statement.{statement}
 use Rattle.table.proofs.records.has_key.Tie as tie
 
@@ -14,7 +14,7 @@ returns : tie.Need-returns
 returns c =
     let s = c.before.before.before in
     let a = s.args in
-    sym (none-same a.places a.width a.table.now s.requires.0 a.place c.if1.true a.key.now s.requires.1)
+    sym (none_same a.places a.width a.table.now s.requires.0 a.place c.if1.true a.key.now s.requires.1)
 
 spot-requires : tie.Need-spot-requires
 spot-requires c κs = (c.before.before.before.requires.0, c.if1.false)
@@ -30,7 +30,7 @@ returns-2 c =
     let s = c.before.before.before.before.before.before.before in
     let a = s.args in
     let r = c.before.before.before.spot in
-    sym (first-other a.places a.width a.table.now s.requires.0 a.place c.before.before.before.before.if1.false r.result (get_or a.key.now 0 0) a.key.now r.ensures s.requires.1 refl c.if2.true)
+    sym (first_other a.places a.width a.table.now s.requires.0 a.place c.before.before.before.before.if1.false r.result (get_or a.key.now 0 0) a.key.now r.ensures s.requires.1 refl c.if2.true)
 
 add-end : tie.Need-overflow-add-end
 add-end c = search rules
@@ -50,14 +50,14 @@ same-key-requires c κs =
     let a = s.args in
     let r = c.before.before.before.before.spot in
     let h = c.before.before.before.before.before.if1.false in
-    rw (key-lent a.places a.width a.table.now a.place r.result r.ensures) (length-key a.places a.width a.table.now a.place s.requires.0 h ∙ sym s.requires.1)
+    rw (key_lent a.places a.width a.table.now a.place r.result r.ensures) (length_key a.places a.width a.table.now a.place s.requires.0 h ∙ sym s.requires.1)
 
 returns-3 : tie.Need-returns-3
 returns-3 c =
     let s = c.before.before.before.before.before.before.before.before.before in
     let a = s.args in
     let r = c.before.before.before.before.before.spot in
-    c.same_key.ensures ∙ ap (λ (x : List ℕ). sameKey x a.key.now) (key-lent a.places a.width a.table.now a.place r.result r.ensures)
+    c.same_key.ensures ∙ ap (λ (x : List ℕ). same_key x a.key.now) (key_lent a.places a.width a.table.now a.place r.result r.ensures)
 
 pub has-key-spec : {M : Type 1} → statement M
 has-key-spec =

@@ -3,13 +3,13 @@ use mathlib.Core.Path.{◌≡◌, refl, sym, ◌∙◌}
 use Prim.Native.Nat.{◌≤◌, ◌-◌}
 use native.Mathlib.Omega.{arith}
 use lib.ListN.{length, drop}
-use Rattle.table_laws.specs.Bytes.{keyBefore}
-use Rattle.table_laws.proofs.KeyOrder.{key-before-differ, key-before-agree, key-before-end}
+use Rattle.table_laws.specs.Bytes.{key_before}
+use Rattle.table_laws.proofs.KeyOrder.{key_before_differ, key_before_agree, key_before_end}
 use Rattle.table.proofs.records.key_before.Statement.{statement}
 use Rattle.table.proofs.records.key_before.Tie as tie
 
 abbrev invariant-loop : tie.invariant-loop
-invariant-loop a b i₀ i = (i ≤ length a) × (length a ≡ length b) × (keyBefore a b ≡ keyBefore (drop i a) (drop i b))
+invariant-loop a b i₀ i = (i ≤ length a) × (length a ≡ length b) × (key_before a b ≡ key_before (drop i a) (drop i b))
 
 abbrev decreases-loop : tie.decreases-loop
 decreases-loop a b i₀ i = length a - i
@@ -33,7 +33,7 @@ returns : tie.Need-returns invariant-loop decreases-loop
 returns c =
     let l = c.before.before.before.before.before.before in
     let a = l.before.args in
-    sym (l.loop.invariant.2 ∙ key-before-differ a.a.now a.b.now l.loop.i (omega arith) (omega arith) c.before.before.if1.true)
+    sym (l.loop.invariant.2 ∙ key_before_differ a.a.now a.b.now l.loop.i (omega arith) (omega arith) c.before.before.if1.true)
 
 add-i : tie.Need-overflow-add-i invariant-loop decreases-loop
 add-i c = omega arith
@@ -45,13 +45,13 @@ loop-again : tie.Need-loop-preserved invariant-loop decreases-loop
 loop-again c =
     let l = c.before.before.before.before in
     let a = l.before.args in
-    (omega arith, omega arith, l.loop.invariant.2 ∙ key-before-agree a.a.now a.b.now l.loop.i (omega arith) (omega arith) c.if1.false)
+    (omega arith, omega arith, l.loop.invariant.2 ∙ key_before_agree a.a.now a.b.now l.loop.i (omega arith) (omega arith) c.if1.false)
 
 returns-2 : tie.Need-returns-2 invariant-loop decreases-loop
 returns-2 c =
     let l = c.before in
     let a = l.before.args in
-    sym (l.loop.invariant.2 ∙ key-before-end a.a.now a.b.now l.loop.i (omega arith))
+    sym (l.loop.invariant.2 ∙ key_before_end a.a.now a.b.now l.loop.i (omega arith))
 
 pub key-before-spec : {M : Type 1} → statement M
 key-before-spec =

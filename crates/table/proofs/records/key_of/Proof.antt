@@ -4,9 +4,9 @@ use mathlib.Core.Path.{ap, ◌∙◌}
 use native.Mathlib.Omega.{arith}
 use lib.Seq.{take_all}
 use Rattle.key.specs.Keys.{key_of}
-use Rattle.key.proofs.Lent.{key-whole}
+use Rattle.key.proofs.Lent.{key_whole}
 use Rattle.table_laws.specs.Table.{key_at}
-use Rattle.table_laws.proofs.Listed.{key-lent, length-key}
+use Rattle.table_laws.proofs.Listed.{key_lent, length_key}
 use Rattle.table.proofs.records.key_of.Statement.{statement}
 use Rattle.table.proofs.records.key_of.Tie as tie
 
@@ -34,8 +34,8 @@ returns c =
     let a = s.args in
     let t = a.table.now in
     let k = key_at a.places a.width t a.place in
-    let l = length-key a.places a.width t a.place s.requires.0 s.requires.1 in
-    c.read.ensures ∙ ap key_of (key-lent a.places a.width t a.place c.before.before.spot.result c.before.before.spot.ensures) ∙ key-whole k (omega arith) ∙ take_all 32 k (omega arith)
+    let l = length_key a.places a.width t a.place s.requires.0 s.requires.1 in
+    c.read.ensures ∙ ap key_of (key_lent a.places a.width t a.place c.before.before.spot.result c.before.before.spot.ensures) ∙ key_whole k (omega arith) ∙ take_all 32 k (omega arith)
 
 pub key-of-spec : {M : Type 1} → statement M
 key-of-spec = tie.close (tie.spec spot-requires add-end sub_read part-read-start part-read-end read-requires returns)

@@ -3,8 +3,8 @@ use mathlib.Core.Path.{ap, ◌∙◌}
 use mathlib.Core.List.{List}
 use Prim.Native.Nat.{ℕ, ◌-◌}
 use borrow.Author.Rules.{rules}
-use Rattle.table_laws.specs.Bytes.{keyBefore}
-use Rattle.table_laws.proofs.Listed.{key-lent}
+use Rattle.table_laws.specs.Bytes.{key_before}
+use Rattle.table_laws.proofs.Listed.{key_lent}
 use Rattle.table.proofs.records.place_before.Statement.{statement}
 use Rattle.table.proofs.records.place_before.Tie as tie
 
@@ -30,7 +30,7 @@ returns : tie.Need-returns
 returns c =
     let s = c.before.before in
     let a = s.before.before.before.args in
-    c.key-before.ensures ∙ ap (λ (x : List ℕ). keyBefore x a.key.now) (key-lent a.places a.width a.table.now a.place s.spot.result s.spot.ensures)
+    c.key-before.ensures ∙ ap (λ (x : List ℕ). key_before x a.key.now) (key_lent a.places a.width a.table.now a.place s.spot.result s.spot.ensures)
 
 pub place-before-spec : {M : Type 1} → statement M
 place-before-spec =

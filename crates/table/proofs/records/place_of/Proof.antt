@@ -4,16 +4,16 @@ use mathlib.Core.Path.{◌≡◌, sym, ◌∙◌}
 use Prim.Native.Nat.{◌≤◌, ◌-◌, ◌<◌, ◌+◌}
 use native.Mathlib.Omega.{arith}
 use lib.ListN.{length, drop}
-use Rattle.table_laws.specs.Table.{listed, key_at, findKey}
-use Rattle.table_laws.proofs.Listed.{listed-few}
-use Rattle.table_laws.proofs.SearchLaws.{find-read, find-on, find-end}
+use Rattle.table_laws.specs.Table.{listed, key_at, find_key}
+use Rattle.table_laws.proofs.Listed.{listed_few}
+use Rattle.table_laws.proofs.SearchLaws.{find_read, find_on, find_end}
 use Rattle.table.proofs.records.place_of.Statement.{statement}
 use Rattle.table.proofs.records.place_of.Tie as tie
 
 abbrev invariant-loop : tie.invariant-loop
 invariant-loop table places width key count i₀ i =
     (i ≤ count) × (count ≡ length (listed places table))
-    × (findKey places (key_at places width table) key (listed places table) ≡ findKey places (key_at places width table) key (drop i (listed places table)))
+    × (find_key places (key_at places width table) key (listed places table) ≡ find_key places (key_at places width table) key (drop i (listed places table)))
 
 abbrev decreases-loop : tie.decreases-loop
 decreases-loop table places width key count i₀ i = count - i
@@ -28,7 +28,7 @@ add-place : tie.Need-overflow-add-place invariant-loop decreases-loop
 add-place c =
     let s = c.before.before.before.before.before in
     let f : s.args.places < length s.args.table.now = omega arith in
-    let q = listed-few s.args.places s.args.table.now f in
+    let q = listed_few s.args.places s.args.table.now f in
     let e = c.before.loop.invariant.1 in
     omega arith
 
@@ -36,7 +36,7 @@ shared-slice-read-place : tie.Need-shared-slice-read-place invariant-loop decrea
 shared-slice-read-place c =
     let s = c.before.before.before.before.before.before in
     let f : s.args.places < length s.args.table.now = omega arith in
-    let q = listed-few s.args.places s.args.table.now f in
+    let q = listed_few s.args.places s.args.table.now f in
     let e = c.before.before.loop.invariant.1 in
     omega arith
 
@@ -54,7 +54,7 @@ returns c =
     let t = a.table.now in
     let f : a.places < length t = omega arith in
     let h : l.i < length (listed a.places t) = omega (arith, l.invariant.1) in
-    sym (l.invariant.2 ∙ find-read a.places a.width t f a.key.now l.i h _ c.before.has_key_lem.ensures c.if1.true)
+    sym (l.invariant.2 ∙ find_read a.places a.width t f a.key.now l.i h _ c.before.has_key_lem.ensures c.if1.true)
 
 add-i : tie.Need-overflow-add-i invariant-loop decreases-loop
 add-i c = search rules
@@ -72,7 +72,7 @@ loop-again c =
     let h : l.i < length (listed a.places t) = omega (arith, l.invariant.1) in (
       omega arith,
       l.invariant.1,
-      l.invariant.2 ∙ find-on a.places a.width t f a.key.now l.i h _ c.before.has_key_lem.ensures c.if1.false,
+      l.invariant.2 ∙ find_on a.places a.width t f a.key.now l.i h _ c.before.has_key_lem.ensures c.if1.false,
     )
 
 returns-2 : tie.Need-returns-2 invariant-loop decreases-loop
@@ -81,7 +81,7 @@ returns-2 c =
     let s = c.before.before.before.before.before in
     let a = s.args in
     let t = a.table.now in
-    sym (l.invariant.2 ∙ find-end a.places (key_at a.places a.width t) a.key.now (listed a.places t) l.i (omega (arith, l.invariant.1)))
+    sym (l.invariant.2 ∙ find_end a.places (key_at a.places a.width t) a.key.now (listed a.places t) l.i (omega (arith, l.invariant.1)))
 
 pub place-of-spec : {M : Type 1} → statement M
 place-of-spec =

@@ -5,8 +5,8 @@ use Prim.Native.Nat.{◌≤◌, ◌-◌, ◌<◌, ◌+◌}
 use native.Mathlib.Omega.{arith}
 use lib.ListN.{length, drop}
 use Rattle.table_laws.specs.Table.{listed, key_at, position}
-use Rattle.table_laws.proofs.Listed.{listed-few}
-use Rattle.table_laws.proofs.SearchLaws.{position-read, position-on, position-end}
+use Rattle.table_laws.proofs.Listed.{listed_few}
+use Rattle.table_laws.proofs.SearchLaws.{position_read, position_on, position_end}
 use Rattle.table.proofs.records.position_of.Statement.{statement}
 use Rattle.table.proofs.records.position_of.Tie as tie
 
@@ -28,7 +28,7 @@ add-place : tie.Need-overflow-add-place invariant-loop decreases-loop
 add-place c =
     let s = c.before.before.before.before.before in
     let f : s.args.places < length s.args.table.now = omega arith in
-    let q = listed-few s.args.places s.args.table.now f in
+    let q = listed_few s.args.places s.args.table.now f in
     let e = c.before.loop.invariant.1 in
     omega arith
 
@@ -36,7 +36,7 @@ shared-slice-read-place : tie.Need-shared-slice-read-place invariant-loop decrea
 shared-slice-read-place c =
     let s = c.before.before.before.before.before.before in
     let f : s.args.places < length s.args.table.now = omega arith in
-    let q = listed-few s.args.places s.args.table.now f in
+    let q = listed_few s.args.places s.args.table.now f in
     let e = c.before.before.loop.invariant.1 in
     omega arith
 
@@ -54,7 +54,7 @@ returns c =
     let t = a.table.now in
     let f : a.places < length t = omega arith in
     let h : l.i < length (listed a.places t) = omega (arith, l.invariant.1) in
-    let q = position-read a.places a.width t f a.key.now l.i h _ c.before.comes-before.ensures c.if1.true in
+    let q = position_read a.places a.width t f a.key.now l.i h _ c.before.comes-before.ensures c.if1.true in
     omega (arith, l.invariant.2)
 
 add-i : tie.Need-overflow-add-i invariant-loop decreases-loop
@@ -71,7 +71,7 @@ loop-again c =
     let t = a.table.now in
     let f : a.places < length t = omega arith in
     let h : l.i < length (listed a.places t) = omega (arith, l.invariant.1) in
-    let q = position-on a.places a.width t f a.key.now l.i h _ c.before.comes-before.ensures c.if1.false in
+    let q = position_on a.places a.width t f a.key.now l.i h _ c.before.comes-before.ensures c.if1.false in
     (omega arith, l.invariant.1, omega (arith, l.invariant.2))
 
 returns-2 : tie.Need-returns-2 invariant-loop decreases-loop
@@ -80,7 +80,7 @@ returns-2 c =
     let s = c.before.before.before.before.before in
     let a = s.args in
     let t = a.table.now in
-    let q = position-end a.places (key_at a.places a.width t) a.key.now (listed a.places t) l.i (omega (arith, l.invariant.1)) in
+    let q = position_end a.places (key_at a.places a.width t) a.key.now (listed a.places t) l.i (omega (arith, l.invariant.1)) in
     omega (arith, l.invariant.2)
 
 pub position-of-spec : {M : Type 1} → statement M

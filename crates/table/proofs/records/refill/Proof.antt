@@ -5,8 +5,8 @@ use Prim.Native.Nat.{◌-◌, ◌+◌}
 use native.Mathlib.Nat.{add-sub_cancel_left}
 use native.Mathlib.Omega.{arith}
 use lib.ListN.{length, take, drop}
-use Rattle.wire.proofs.Copy.{copy-whole, length-lent}
-use Rattle.table_laws.proofs.Stores.{refilled-done}
+use Rattle.wire.proofs.Copy.{copy_whole, length_lent}
+use Rattle.table_laws.proofs.Stores.{refilled_done}
 use Rattle.table.proofs.records.refill.Statement.{statement}
 use Rattle.table.proofs.records.refill.Tie as tie
 
@@ -45,8 +45,8 @@ returns c =
     let j : r + length new - r ≡ length new = add-sub_cancel_left r (length new) in
     let fits = spot.ensures.fits in
     let copied : c.before.before.copy.new.1.0 ≡ new
-    = c.before.before.copy.ensures.1 ∙ rw j (copy-whole new (take (length new) (drop r t)) (length-lent t r (length new) (omega arith))) in
-    rw (j, copied) (refilled-done a.places a.width t a.place a.at new spot.result spot.ensures)
+    = c.before.before.copy.ensures.1 ∙ rw j (copy_whole new (take (length new) (drop r t)) (length_lent t r (length new) (omega arith))) in
+    rw (j, copied) (refilled_done a.places a.width t a.place a.at new spot.result spot.ensures)
 
 pub refill-spec : {M : Type 1} → statement M
 refill-spec = tie.close (tie.spec spot-requires add-from add-to sub-copy part-copy-start part-copy-end copy-requires same_length returns)

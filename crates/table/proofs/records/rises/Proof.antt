@@ -3,7 +3,7 @@ use mathlib.Core.Path.{sym}
 use Prim.Native.Nat.{◌-◌}
 use borrow.Author.Rules.{rules}
 use Rattle.table_laws.specs.Table.{key_at}
-use Rattle.table_laws.proofs.Listed.{first-rises, before_lent}
+use Rattle.table_laws.proofs.Listed.{first_rises, before_lent}
 use Rattle.table.proofs.records.rises.Statement.{statement}
 use Rattle.table.proofs.records.rises.Tie as tie
 
@@ -29,7 +29,7 @@ returns : tie.Need-returns
 returns c =
     let s = c.before.before.before.before.before.before.before.before in
     let a = s.args in
-    sym (first-rises a.places a.width a.table.now s.requires.0 a.place a.next s.requires.1 s.requires.2 c.before.before.before.before.before.before.spot.result c.before.before.before.before.before.spot2.result
+    sym (first_rises a.places a.width a.table.now s.requires.0 a.place a.next s.requires.1 s.requires.2 c.before.before.before.before.before.before.spot.result c.before.before.before.before.before.spot2.result
     c.before.before.before.before.before.before.spot.ensures c.before.before.before.before.before.spot2.ensures c.before.before.if1.true)
 
 add-end : tie.Need-overflow-add-end
@@ -53,7 +53,7 @@ returns-2 c =
     let a = s.args in
     let at = c.before.before.before.before.before.spot2 in
     before_lent a.places a.width a.table.now (key_at a.places a.width a.table.now a.place) a.next at.result at.ensures
-    _ c.place-before.ensures
+    _ c.place_before.ensures
 
 pub rises-spec : {M : Type 1} → statement M
 rises-spec =

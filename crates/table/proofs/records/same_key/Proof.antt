@@ -5,13 +5,13 @@ use mathlib.Core.Logic.{⊎_elim}
 use Prim.Native.Nat.{◌+◌, ◌≤◌, ◌-◌}
 use native.Mathlib.Omega.{arith}
 use lib.ListN.{length, drop}
-use Rattle.key.specs.Keys.{sameKey}
-use Rattle.key.proofs.Same.{same-differ, same-agree, same_end}
+use Rattle.key.specs.Keys.{same_key}
+use Rattle.key.proofs.Same.{same_differ, same_agree, same_end}
 use Rattle.table.proofs.records.same_key.Statement.{statement}
 use Rattle.table.proofs.records.same_key.Tie as tie
 
 abbrev invariant-loop : tie.invariant-loop
-invariant-loop a b same₀ i₀ same i = (i ≤ length a) × (length a ≡ length b) × (sameKey a b ≡ (same && sameKey (drop i a) (drop i b)))
+invariant-loop a b same₀ i₀ same i = (i ≤ length a) × (length a ≡ length b) × (same_key a b ≡ (same && same_key (drop i a) (drop i b)))
 
 abbrev decreases-loop : tie.decreases-loop
 decreases-loop a b same₀ i₀ same i = length a - i
@@ -38,13 +38,13 @@ loop-again c =
     let a = s.args.a.now in
     let b = s.args.b.now in
     let long = l.invariant.1 in
-    let more : Bool = sameKey (drop (l.i + 1) a) (drop (l.i + 1) b) in (
+    let more : Bool = same_key (drop (l.i + 1) a) (drop (l.i + 1) b) in (
       omega arith,
       long,
       ⊎_elim
-          (λ w. l.invariant.2 ∙ ap (λ (t : Bool). l.same && t) (same-differ a b l.i (omega arith) (omega arith) w.0.taken) ∙ and-false l.same
+          (λ w. l.invariant.2 ∙ ap (λ (t : Bool). l.same && t) (same_differ a b l.i (omega arith) (omega arith) w.0.taken) ∙ and-false l.same
           ∙ sym (ap (λ (t : Bool). t && more) w.1))
-          (λ w. l.invariant.2 ∙ ap (λ (t : Bool). l.same && t) (same-agree a b l.i (omega arith) (omega arith) w.0.left)
+          (λ w. l.invariant.2 ∙ ap (λ (t : Bool). l.same && t) (same_agree a b l.i (omega arith) (omega arith) w.0.left)
           ∙ sym (ap (λ (t : Bool). t && more) w.1))
           c.if1.branch,
     )

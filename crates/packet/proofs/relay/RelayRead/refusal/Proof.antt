@@ -1,7 +1,7 @@
 -- `packet::relay::RelayRead::refusal` meets its contract, case by case. Assumes nothing.
 use borrow.Author.Rules.{rules}
 use mathlib.Core.Path.{sym, ap}
-use Rattle.packet.specs.RelayReads.{relayRefusal}
+use Rattle.packet.specs.RelayReads.{relay_refusal}
 use Rattle.packet.proofs.relay.RelayRead.refusal.Statement.{statement}
 use Rattle.packet.proofs.relay.RelayRead.refusal.Tie as tie
 
@@ -12,11 +12,11 @@ enum_told : tie.Need-enum-told
 enum_told c = search rules
 
 returns : tie.Need-returns
-unfolding relayRefusal
-returns c = ap relayRefusal (sym c.before.self.given.1)
+unfolding relay_refusal
+returns c = ap relay_refusal (sym c.before.self.given.1)
 
 returns-2 : tie.Need-returns-2
-unfolding relayRefusal
+unfolding relay_refusal
 returns-2 c = search rules
 
 pub refusal-spec : {M : Type 1} → statement M
