@@ -25,7 +25,7 @@ fn address(bytes: &[u8]) -> [u8; 16]
     ensures { result ≡ bytes.now }
 {
     let mut address = [0u8; 16];
-    bytes::copy(bytes, &mut address);
+    address.copy_from_slice(bytes);
     address
 }
 
@@ -38,7 +38,7 @@ pub(crate) fn of(node: Node) -> [u8; layout::RECORD_END]
     let key = node.key;
     let mut record = [0u8; layout::RECORD_END];
     wire::write_number(port, &mut record[layout::PORT..layout::RECORD_END]);
-    bytes::copy(&address, &mut record[layout::ADDRESS..layout::PORT]);
+    record[layout::ADDRESS..layout::PORT].copy_from_slice(&address);
     record[layout::FAMILY] = node.family;
     key.write(&mut record[0..layout::FAMILY]);
     record

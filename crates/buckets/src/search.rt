@@ -15,7 +15,7 @@ use key::in_place;
 pub(crate) const MOST: usize = 4;
 
 // Where the records of the nearest found so far begin, nearest first: the first `count` of `starts`.
-#[derive(Drop)]
+#[derive(Clone, Copy)]
 pub(crate) struct Found {
     pub count: usize,
     pub starts: [usize; MOST],

@@ -7,7 +7,7 @@ use packet::client::RelayPacket;
 use packet::relay::ClientPacket;
 
 // What a reader tells of a packet: its kind, 16 for data; its connection number; its ping number; and where its payload stands.
-#[derive(Drop)]
+#[derive(Clone, Copy)]
 pub struct Fields {
     pub kind: u8,
     pub number: u8,

@@ -3,7 +3,7 @@
 use refusal::Refusal;
 
 // What stands at the front of bytes: the start of a frame whose end is still to come, a length that no frame has, or a whole frame of so many bytes.
-#[derive(Drop)]
+#[derive(Clone, Copy)]
 pub enum Front {
     Unfinished,
     BadLength,
@@ -11,14 +11,14 @@ pub enum Front {
 }
 
 // A reader between two calls: how many bytes at the front of its keep start an unfinished frame. A new one holds 0; one that was refused with 18 holds 2,051.
-#[derive(Drop)]
+#[derive(Clone, Copy)]
 pub struct Reader {
     pub held: usize,
 }
 
 // What a call shows. A frame begins at the front of the piece or of the keep, with its length; the number is where it ends. `More`: no frame is complete, and all of
 // the piece is used.
-#[derive(Drop)]
+#[derive(Clone, Copy)]
 pub enum Shown {
     More,
     InPiece(usize),
@@ -27,7 +27,7 @@ pub enum Shown {
 }
 
 // What a call answers: what it shows, the reader for the next call, and how many bytes of the piece were used.
-#[derive(Drop)]
+#[derive(Clone, Copy)]
 pub struct Read {
     pub shown: Shown,
     pub reader: Reader,

@@ -64,8 +64,8 @@ fn refused(why: Refusal, held: usize) -> Read
 
 // The piece goes on after the bytes held, which start an unfinished frame.
 fn go_on(held: usize, keep: &mut [u8], piece: &[u8]) -> Read
-    requires* keep_bytes_bound { do ⌜ keep_bytes ≤ (← ⟦keep.len()⟧) ⌝ }
-    requires* held_bound { do ⌜ held ≤ (← ⟦keep.len()⟧) ⌝ }
+    requires keep_bytes_bound { keep_bytes ≤ length keep.old }
+    requires held_bound { held ≤ length keep.old }
     requires keep_value { front (take held keep.old) ≡ Unfinished }
     ensures value { result ≡ (read_held Unfinished (take held keep.old) piece.now keep.old).read }
     ensures keep_after { keep.new ≡ (read_held Unfinished (take held keep.old) piece.now keep.old).keep }
@@ -80,13 +80,13 @@ fn go_on(held: usize, keep: &mut [u8], piece: &[u8]) -> Read
 
 // Copies all of the piece behind the bytes held.
 fn hold(held: usize, keep: &mut [u8], piece: &[u8]) -> Read
-    requires* { do ⌜ held + (← ⟦piece.len()⟧) ≤ (← ⟦keep.len()⟧) ⌝ }
+    requires { held + length piece.now ≤ length keep.old }
     ensures value { result ≡ (read_front Unfinished (take held keep.old) piece.now keep.old).read }
     ensures keep_after { keep.new ≡ (read_front Unfinished (take held keep.old) piece.now keep.old).keep }
 {
     let used = piece.len();
     let all = held + used;
-    bytes::copy(piece, &mut keep[held..all]);
+    keep[held..all].copy_from_slice(piece);
     let reader = Reader { held: all };
     Read {
         shown: Shown::More,
@@ -97,7 +97,7 @@ fn hold(held: usize, keep: &mut [u8], piece: &[u8]) -> Read
 
 // Shows a whole frame of so many bytes; of one that began in an earlier piece, what it lacks is copied behind the bytes held.
 fn finish(size: usize, held: usize, keep: &mut [u8], piece: &[u8]) -> Read
-    requires* size_bound { do ⌜ size ≤ (← ⟦keep.len()⟧) ⌝ }
+    requires size_bound { size ≤ length keep.old }
     requires size_bound_2 { size ≤ held + length piece.now }
     requires held_le_size { held ≤ size }
     ensures value { result ≡ (read_front (Whole size) (take held keep.old) piece.now keep.old).read }
@@ -112,7 +112,7 @@ fn finish(size: usize, held: usize, keep: &mut [u8], piece: &[u8]) -> Read
         };
     }
     let lacked = size - held;
-    bytes::copy(&piece[..lacked], &mut keep[held..size]);
+    keep[held..size].copy_from_slice(&piece[..lacked]);
     Read {
         shown: Shown::InKeep(size),
         reader,

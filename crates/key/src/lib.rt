@@ -7,7 +7,7 @@ ghost use Rattle.key.specs.Keys.{same_key, Compares, key_of, with_key};
 
 pub mod in_place;
 
-#[derive(Drop)]
+#[derive(Clone, Copy)]
 pub struct Key(pub [u8; 32]);
 
 impl Key {

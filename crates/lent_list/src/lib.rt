@@ -20,7 +20,7 @@ use node::Node;
 use refusal::Refusal;
 
 // What stands at an index of a list. An enum holds no array, so the node itself is beside it.
-#[derive(Drop)]
+#[derive(Clone, Copy)]
 pub enum Held {
     Node,
     Nothing,
@@ -28,7 +28,7 @@ pub enum Held {
 }
 
 // What was found, and the node; the blank node where there is none.
-#[derive(Drop)]
+#[derive(Clone, Copy)]
 pub struct HeldNode {
     pub held: Held,
     pub node: Node,

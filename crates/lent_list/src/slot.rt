@@ -26,7 +26,7 @@ fn address(bytes: &[u8]) -> [u8; 16]
     ensures { result ≡ bytes.now }
 {
     let mut address = [0u8; 16];
-    bytes::copy(bytes, &mut address);
+    address.copy_from_slice(bytes);
     address
 }
 
@@ -39,7 +39,7 @@ fn write(node: Node, out: &mut [u8])
     let port = node.port as u64;
     let key = node.key;
     out[layout::FAMILY] = node.family;
-    bytes::copy(&address, &mut out[layout::ADDRESS..layout::PORT]);
+    out[layout::ADDRESS..layout::PORT].copy_from_slice(&address);
     wire::write_number(port, &mut out[layout::PORT..layout::KEY]);
     key.write(&mut out[layout::KEY..layout::SLOT_END]);
 }

@@ -13,7 +13,7 @@ use node::Node;
 use refusal::Refusal;
 
 // The first `count` slots hold nodes. What the others hold is never read; in a list made by `begin` and changed only here they are blank.
-#[derive(Drop)]
+#[derive(Clone, Copy)]
 pub struct NearestList {
     pub target: Key,
     pub size: usize,
@@ -22,14 +22,14 @@ pub struct NearestList {
 }
 
 // What `begin`, `check` and `remove` answer.
-#[derive(Drop)]
+#[derive(Clone, Copy)]
 pub enum Answer {
     Done,
     Refused(Refusal),
 }
 
 // What `offer` answers: yes or no for kept, or why it was refused.
-#[derive(Drop)]
+#[derive(Clone, Copy)]
 pub enum OfferAnswer {
     Kept,
     NotKept,
@@ -37,19 +37,19 @@ pub enum OfferAnswer {
 }
 
 // A variant cannot hold an array, so each call hands back the list and its answer side by side.
-#[derive(Drop)]
+#[derive(Clone, Copy)]
 pub struct Begun {
     pub list: NearestList,
     pub answer: Answer,
 }
 
-#[derive(Drop)]
+#[derive(Clone, Copy)]
 pub struct Offered {
     pub list: NearestList,
     pub answer: OfferAnswer,
 }
 
-#[derive(Drop)]
+#[derive(Clone, Copy)]
 pub struct Removed {
     pub list: NearestList,
     pub answer: Answer,

@@ -15,7 +15,7 @@ use key::Key;
 
 // A node by value. The family is the byte as given, so that a node of unknown family can be made, and is refused where the rules say so.
 // An IPv4 address stands in the first 4 address bytes.
-#[derive(Drop)]
+#[derive(Clone, Copy)]
 pub struct Node {
     pub family: u8,
     pub address: [u8; 16],

@@ -10,7 +10,7 @@ use key::Key;
 use refusal::Refusal;
 
 // What stands at a place. An enum holds no array, so the node itself is beside it.
-#[derive(Drop)]
+#[derive(Clone, Copy)]
 pub enum Found {
     // The next node starts, or the bytes end, at `next`.
     Node { next: usize },
@@ -18,7 +18,7 @@ pub enum Found {
 }
 
 // What was found, and the node; the blank node where there is none.
-#[derive(Drop)]
+#[derive(Clone, Copy)]
 pub struct NodeRead {
     pub found: Found,
     pub node: Node,
@@ -77,7 +77,7 @@ fn padded(bytes: &[u8]) -> [u8; 16]
     ensures { result ≡ bytes.now ++ replicate (16 - length bytes.now) 0 }
 {
     let mut address = [0u8; 16];
-    bytes::copy(bytes, &mut address);
+    address[..bytes.len()].copy_from_slice(bytes);
     address
 }
 

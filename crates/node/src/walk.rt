@@ -11,7 +11,7 @@ use refusal::Refusal;
 pub const MOST_NODES: usize = 4;
 
 // What a step does. An enum holds no array, so the node itself is beside it.
-#[derive(Drop)]
+#[derive(Clone, Copy)]
 pub enum Shown {
     Node,
     End,
@@ -20,7 +20,7 @@ pub enum Shown {
 
 // What was shown, the node (the blank node where none was shown), and the walker's place and count after the step. Only a step that
 // shows a node moves them.
-#[derive(Drop)]
+#[derive(Clone, Copy)]
 pub struct Stepped {
     pub shown: Shown,
     pub node: Node,

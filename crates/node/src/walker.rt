@@ -8,7 +8,7 @@ ghost use Rattle.node.specs.Steps.{Steps};
 use crate::walk;
 use crate::walk::Stepped;
 
-#[derive(Drop)]
+#[derive(Clone, Copy)]
 pub struct Walker<'a> {
     pub list: &'a [u8],
     pub place: usize,

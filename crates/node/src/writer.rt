@@ -9,7 +9,7 @@ use crate::{Node, family};
 use key::Key;
 use refusal::Refusal;
 
-#[derive(Drop)]
+#[derive(Clone, Copy)]
 pub enum Written {
     Bytes(usize),
     Refused(Refusal),
@@ -44,7 +44,7 @@ fn put(node: Node, out: &mut [u8])
     let key = port + family::PORT_BYTES;
     let end = key + Key::BYTES;
     out[0] = node.family;
-    bytes::copy(&address[..length], &mut out[family::FAMILY_BYTES..port]);
+    out[family::FAMILY_BYTES..port].copy_from_slice(&address[..length]);
     wire::write_number(number, &mut out[port..key]);
     owner.write(&mut out[key..end]);
 }

@@ -10,7 +10,7 @@ use key::Key;
 use refusal::Refusal;
 
 // What the relay sends: numbers as they are, keys and payloads by their place in the packet.
-#[derive(Drop)]
+#[derive(Clone, Copy)]
 pub enum RelayPacket {
     // The number 0 says that none was given.
     RoutingResponse {
@@ -28,7 +28,7 @@ pub enum RelayPacket {
     Data(ConnectionNumber, Part),
 }
 
-#[derive(Drop)]
+#[derive(Clone, Copy)]
 pub enum ClientRead {
     Packet(RelayPacket),
     Refused(Refusal),

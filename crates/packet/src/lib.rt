@@ -9,7 +9,7 @@ mod parts;
 pub mod relay;
 
 // A connection number: a client's own word for one of its routes. Document 01 calls it a route number; it has nothing to do with a seat.
-#[derive(Drop)]
+#[derive(Clone, Copy)]
 pub struct ConnectionNumber(pub u8);
 
 impl ConnectionNumber {
@@ -18,7 +18,7 @@ impl ConnectionNumber {
 }
 
 // Where a payload stands in a packet.
-#[derive(Drop)]
+#[derive(Clone, Copy)]
 pub struct Part {
     pub start: usize,
     pub length: usize,

@@ -10,7 +10,7 @@ use key::Key;
 use refusal::Refusal;
 
 // What a client sends: numbers as they are, keys and payloads by their place in the packet.
-#[derive(Drop)]
+#[derive(Clone, Copy)]
 pub enum ClientPacket {
     RoutingRequest { key: usize },
     DropRoute(ConnectionNumber),
@@ -20,7 +20,7 @@ pub enum ClientPacket {
     Data(ConnectionNumber, Part),
 }
 
-#[derive(Drop)]
+#[derive(Clone, Copy)]
 pub enum RelayRead {
     Packet(ClientPacket),
     Refused(Refusal),

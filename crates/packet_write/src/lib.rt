@@ -10,7 +10,7 @@ use key::Key;
 use packet::{ConnectionNumber, kind};
 use refusal::Refusal;
 
-#[derive(Drop)]
+#[derive(Clone, Copy)]
 pub enum Written {
     Bytes(usize),
     Refused(Refusal),
@@ -137,7 +137,7 @@ pub fn data(number: ConnectionNumber, data: &[u8], out: &mut [u8]) -> Written
         return Written::Refused(Refusal::OutputTooShort);
     }
     out[0] = number.0;
-    bytes::copy(data, &mut out[1..size]);
+    out[1..size].copy_from_slice(data);
     Written::Bytes(size)
 }
 
@@ -175,6 +175,6 @@ fn put_addressed(kind: u8, key: Key, data: &[u8], out: &mut [u8]) -> Written
     }
     out[0] = kind;
     key.write(&mut out[1..kind::KIND_AND_KEY]);
-    bytes::copy(data, &mut out[kind::KIND_AND_KEY..size]);
+    out[kind::KIND_AND_KEY..size].copy_from_slice(data);
     Written::Bytes(size)
 }

@@ -15,7 +15,7 @@ pub mod record;
 pub const HEAD: usize = 3;
 
 // What a call answers. Accepted: the seat of the call, and how many bytes it wrote.
-#[derive(Drop)]
+#[derive(Clone, Copy)]
 pub enum Answer {
     Accepted(Seat, usize),
     Refused(Refusal),
@@ -23,7 +23,7 @@ pub enum Answer {
 
 // What stands at the front of bytes: a record for a seat, and how many bytes it takes, of which those behind the head are the packet; the beginning
 // of a record that the bytes end inside; or, where there are no bytes, nothing.
-#[derive(Drop)]
+#[derive(Clone, Copy)]
 pub enum RecordRead {
     Record(Seat, usize),
     CutShort,

@@ -19,7 +19,7 @@ const LEAST_SPACE: usize = entry::HEAD + calls::LEAST_OUTPUT;
 const KEY_END: usize = stored::HEAD + Key::BYTES;
 
 // Why a run of stored calls stopped.
-#[derive(Drop)]
+#[derive(Clone, Copy)]
 pub enum Stop {
     // Every call was played.
     End,
@@ -32,14 +32,14 @@ pub enum Stop {
 }
 
 // What came of the next stored call: how many bytes of the stored calls it took, and how many of the output.
-#[derive(Drop)]
+#[derive(Clone, Copy)]
 enum Next {
     Stopped(Stop),
     Played(usize, usize),
 }
 
 // What a run came to: how many calls were played, how many bytes of the stored calls they took, and how many were written.
-#[derive(Drop)]
+#[derive(Clone, Copy)]
 pub enum Run {
     Stopped {
         why: Stop,

@@ -7,7 +7,7 @@ use stored::StoredRead;
 use telling::{fault, say};
 
 // How many calls were played, and the place behind the last of them.
-#[derive(Drop)]
+#[derive(Clone, Copy)]
 struct Played {
     calls: usize,
     at: usize,

@@ -5,7 +5,7 @@ use crate::layout;
 use packet::ConnectionNumber;
 
 // The room's constants and its constructor; the room itself is bytes that the host lends.
-#[derive(Drop)]
+#[derive(Clone, Copy)]
 pub struct Room {}
 
 impl Room {

@@ -216,10 +216,7 @@ pub(crate) fn new_seat(memory: &[u8], key: Key) -> [u8; NEW_SEAT]
     ensures { result ≡ new_seat (word_at 2 memory.now) key.0 }
 {
     let mut record = [0u8; NEW_SEAT];
-    bytes::copy(
-        &memory[CLOCK_START..SEATS_START],
-        &mut record[PING_IN_SEAT..OUTSTANDING_IN_SEAT],
-    );
+    record[PING_IN_SEAT..OUTSTANDING_IN_SEAT].copy_from_slice(&memory[CLOCK_START..SEATS_START]);
     key.write(&mut record[0..Key::BYTES]);
     record
 }

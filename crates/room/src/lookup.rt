@@ -13,21 +13,21 @@ use packet::ConnectionNumber;
 use seat::Seat;
 
 // A seat, or none.
-#[derive(Drop)]
+#[derive(Clone, Copy)]
 pub enum FoundSeat {
     At(Seat),
     None,
 }
 
 // A connection number, or none.
-#[derive(Drop)]
+#[derive(Clone, Copy)]
 pub enum FoundNumber {
     At(ConnectionNumber),
     None,
 }
 
 // What a connection number names: a wanted key, or nothing, and then the key of zeros.
-#[derive(Drop)]
+#[derive(Clone, Copy)]
 pub struct Wanted {
     pub held: bool,
     pub key: Key,

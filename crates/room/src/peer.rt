@@ -12,7 +12,7 @@ use packet::ConnectionNumber;
 use seat::Seat;
 
 // The connected peer of a client: its seat, and its own number for the client.
-#[derive(Drop)]
+#[derive(Clone, Copy)]
 pub enum Peer {
     Joined(Seat, ConnectionNumber),
     Alone,

@@ -18,7 +18,7 @@ const LEAVE: u8 = 1;
 const PACKET: u8 = 2;
 
 // A call. The key of an arrival is the 32 bytes behind the head, and a packet as many as are told.
-#[derive(Drop)]
+#[derive(Clone, Copy)]
 pub enum StoredCall {
     Arrive,
     Leave(Seat),
@@ -26,7 +26,7 @@ pub enum StoredCall {
 }
 
 // What stands at the front of bytes: a call, and how many bytes it takes, or none.
-#[derive(Drop)]
+#[derive(Clone, Copy)]
 pub enum StoredRead {
     Call(StoredCall, usize),
     None,

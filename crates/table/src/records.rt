@@ -239,7 +239,7 @@ pub(crate) fn refill(
 {
     let from = spot(table, places, width, place) + at;
     let to = from + part.len();
-    bytes::copy(part, &mut table[from..to]);
+    table[from..to].copy_from_slice(part);
 }
 
 // The place is listed where its key belongs, and its record begins with `record`.

@@ -1,0 +1,13 @@
+-- `banavoge_buckets_offer` meets its contract: that of `buckets`, with its answer as one number. Assumes nothing.
+use mathlib.Core.Path.{◌∙◌}
+use mir.Syntax.{w32}
+use mir.ValLaws.{to_z-of_z}
+use Rattle.banavoge.proofs.k_buckets.banavoge_buckets_offer.Goals as goal
+
+pub returns : goal.returns
+returns c =
+    record {
+      given = c.offer-answer.result;
+      relates = c.offer-answer.ensures;
+      codes = to_z-of_z w32 c.kept.result (record { sfits = c.kept.type-inv }) ∙ c.kept.ensures;
+    }

@@ -1,0 +1,28 @@
+-- `banavoge_seat_of` meets its contract: 11 for a room that is not whole, else the seat that the search finds, or 3. Assumes nothing.
+use mathlib.Core.Path.{sym, ◌∙◌}
+use native.Mathlib.Omega.{arith}
+use mir.Syntax.{w32}
+use mir.ValLaws.{to_z-of_z, to_z_pos}
+use Rattle.banavoge_laws.proofs.SittingLaws.{not_whole_code, seat_code, none_code}
+use Rattle.banavoge.proofs.sitting.banavoge_seat_of.Goals as goal
+
+pub returns-then-not-is_whole : goal.returns-then-not-is_whole
+returns-then-not-is_whole c =
+    let a = c.args in
+    let broken = not_whole_code 40 32 a.room.now a.key.now (sym c.is_whole.ensures ∙ c.if-not-is_whole.true) in
+    to_z-of_z w32 c.refused.result (record { sfits = c.refused.type-inv }) ∙ c.refused.ensures ∙ sym broken
+
+pub returns-in-At : goal.returns-in-At
+returns-in-At c =
+    let a = c.args in
+    let whole = sym c.is_whole.ensures ∙ c.if-not-is_whole.false in
+    let seat = c.seat-1.given in
+    to_z_pos w32 seat.0.0.0 (omega (arith, c.struct_known-1.given))
+    ∙ sym (seat_code 40 32 a.room.now a.key.now whole c.seat_of.result c.seat_of.ensures seat.0.0 seat.1)
+
+pub returns-in-None : goal.returns-in-None
+returns-in-None c =
+    let a = c.args in
+    let whole = sym c.is_whole.ensures ∙ c.if-not-is_whole.false in
+    to_z-of_z w32 c.refused-in-None.result (record { sfits = c.refused-in-None.type-inv }) ∙ c.refused-in-None.ensures
+    ∙ sym (none_code 40 32 a.room.now a.key.now whole c.seat_of.result c.seat_of.ensures c.in-None.is)

@@ -1,0 +1,206 @@
+-- `change::keep` meets its contract: each way out is a case of the laws of offers by value, on the list that stands in the memory. Assumes nothing.
+use mathlib.Core.Path.{◌≡◌, ◌∙◌, sym, ap, ap₂}
+use mathlib.Core.Bool.{Bool, true, false}
+use mathlib.Core.List.{List, ◌++◌}
+use mathlib.Core.Logic.{◌⊎◌, inl, inr, ⊎_elim}
+use Prim.Native.Nat.{ℕ, ◌+◌, ◌-◌, ◌*◌, ◌<◌, ◌≤◌}
+use native.Mathlib.Omega.{arith}
+use lib.ListN.{length, get_or, take, drop, set}
+use Rattle.wire.specs.Numbers.{Bytes}
+use Rattle.wire.proofs.Numbers.{bytes_each, bytes_take, bytes_drop}
+use Rattle.wire.proofs.Copy.{length_lent}
+use Rattle.key.specs.Keys.{IsKey, same_key, key_of}
+use Rattle.key.proofs.Lent.{key_itself}
+use Rattle.lists.specs.Insert.{insert_at}
+use Rattle.node.specs.declared.Node.{Node}
+use Rattle.node.proofs.Owned.{is_node}
+use Rattle.node.proofs.WriteLaws.{with_part}
+use Rattle.nearest.specs.declared.NearestList.{NearestList}
+use Rattle.nearest.specs.declared.Offered.{Offered}
+use Rattle.nearest.specs.Lists.{node_key}
+use Rattle.nearest.specs.Calls.{offer_answer, offered}
+use Rattle.nearest.proofs.Front.{no_node}
+use Rattle.nearest.proofs.Judge.{whole}
+use Rattle.nearest.proofs.OfferLaws.{AtPlace, count_small, place_within, offer_replaced, offer_added, offer_put_out, offer_too_far}
+use Rattle.lent_list_laws.specs.Layout.{slots_at, list_at, slot_bytes, slots_bytes, stored}
+use Rattle.lent_list_laws.proofs.RoundTrips.{stored_same}
+use Rattle.lent_list_laws.proofs.ChangeLaws.{slots_of, changed, nodes_there, key_there, placed, slots_stored, count_stored}
+use Rattle.lent_list.proofs.ShiftLaws.{put_at}
+use Rattle.lent_list.proofs.change.keep.Goals as goal
+
+-- what is answered, and what is left
+abbrev Keeps : List ℕ → Node → Bool → List ℕ → Type 0
+Keeps m n r left = (offer_answer r ≡ (offered (list_at m) n).answer) × (left ≡ stored (offered (list_at m) n).list m)
+
+keeps : (m : List ℕ) (n : Node) (r : Bool) (l : NearestList) (left : List ℕ) → ◌≡◌ {A = Offered} (record { list = l; answer = offer_answer r }) (offered (list_at m) n)
+    → left ≡ stored l m → Keeps m n r left
+
+keeps m n r l left o s = (ap (λ (x : Offered). x.answer) o, s ∙ ap (λ (x : Offered). stored x.list m) o)
+
+-- the key does not stand at the place
+abbrev Fresh : List ℕ → Node → ℕ → Type 0
+Fresh m n p = ((list_at m).count ≤ p) ⊎ (same_key (node_key (get_or (list_at m).nodes p no_node)) (node_key n) ≡ false)
+
+-- the slots with the node put in, up to a count
+abbrev opened : List Node → ℕ → Node → ℕ → List Node
+opened ns p n c = take c (insert_at p n ns) ++ drop c ns
+
+-- what is known once the place is found
+record Placed (m : List ℕ) (n : Node) (p : ℕ) : Type 0 where
+  room : 850 ≤ length m
+  bytes : Bytes m
+  at : AtPlace (list_at m) n p
+
+module _ {m : List ℕ} {n : Node} {p : ℕ} (known : Placed m n p) where
+  -- a key compared where it stands
+  compared : {held : List ℕ} {r : Bool} → p < (list_at m).count → held ≡ take 32 (drop (p * 51 + 19) (slots_of m)) → r ≡ same_key (key_of held) (key_of (node_key n))
+      → r ≡ same_key (node_key (get_or (list_at m).nodes p no_node)) (node_key n)
+  compared {held} h e q =
+      let w = count_small (list_at m) n p known.at in
+      q ∙ ap₂ same_key (key_there m known.room p (omega arith) held e) (key_itself (node_key n) known.at.new_key.long)
+
+  keeps-replaced : p < (list_at m).count → same_key (node_key (get_or (list_at m).nodes p no_node)) (node_key n) ≡ true
+      → (slots : List ℕ) → slots ≡ take (p * 51) (slots_of m) ++ (slot_bytes n ++ drop (p * 51 + 51) (slots_of m)) → Keeps m n true (with_part m 34 850 slots)
+  unfolding offer_answer
+  keeps-replaced h same slots e =
+      let ns = set (list_at m).nodes p n in
+      let w = count_small (list_at m) n p known.at in
+      let put = put_at (slots_of m) (length_lent m 34 816 known.room) (bytes_take 816 (drop 34 m) (bytes_drop 34 m known.bytes)) p (omega arith) n in
+      keeps m n true (changed (list_at m) (list_at m).count ns) _ (offer_replaced (list_at m) n p known.at h same)
+      (slots_stored m known.room known.bytes ns slots (e ∙ put ∙ ap (λ (x : List Node). slots_bytes (set x p n)) (nodes_there m)))
+
+  module _ (fresh : Fresh m n p) where
+    keeps-added : (list_at m).count < (list_at m).size → (slots : List ℕ) → slots ≡ slots_bytes (opened (slots_at 16 (slots_of m)) p n ((list_at m).count + 1))
+        → Keeps m n true (set (with_part m 34 850 slots) 1 ((list_at m).count + 1))
+    unfolding offer_answer
+    keeps-added h slots e =
+        let c = (list_at m).count + 1 in
+        let ns = opened (slots_at 16 (slots_of m)) p n c in
+        let w = count_small (list_at m) n p known.at in
+        keeps m n true (changed (list_at m) c ns) _
+        (offer_added (list_at m) n p known.at fresh h ns (ap (λ (x : List Node). opened x p n c) (nodes_there m)))
+        (count_stored m known.room known.bytes ns slots e c (omega arith))
+
+    module _ (full : (list_at m).size ≤ (list_at m).count) where
+      keeps-put-out : p < (list_at m).count → (slots : List ℕ) → slots ≡ slots_bytes (opened (slots_at 16 (slots_of m)) p n ((list_at m).count - 1 + 1))
+          → Keeps m n true (with_part m 34 850 slots)
+      unfolding offer_answer
+      keeps-put-out h slots e =
+          let c = (list_at m).count - 1 + 1 in
+          let ns = opened (slots_at 16 (slots_of m)) p n c in
+          keeps m n true (changed (list_at m) (list_at m).count ns) _
+          (offer_put_out (list_at m) n p known.at fresh full h ns (ap (λ (x : List Node). opened x p n c) (nodes_there m)))
+          (slots_stored m known.room known.bytes ns slots e)
+
+      keeps-too-far : (list_at m).count ≤ p → Keeps m n false m
+      unfolding offer_answer
+      keeps-too-far h = keeps m n false (list_at m) m (offer_too_far (list_at m) n p known.at fresh full h) (sym (stored_same m known.bytes))
+
+-- ---- what is known on the way
+module _ (c : tie.After-slice-known) where
+  abbrev memory : List ℕ
+  memory = c.before.args.memory.now
+
+  abbrev new : Node
+  new = c.before.args.t2
+
+  bytes : Bytes memory
+  bytes = bytes_each memory (λ i. (c.slice-known.given i).fits)
+
+  new_key : IsKey (node_key new)
+  new_key = (is_node new c.before.well-formed.1.0.0 c.before.well-formed.1.0.1.1).key
+
+  -- the bytes of the slots
+  long : length (slots_of memory) ≡ 816
+  long = length_lent memory 34 816 c.before.requires.0
+
+  -- the size and the count, as they are read
+  small : (get_or memory 0 0 ≤ 16) × (get_or memory 1 0 ≤ get_or memory 0 0)
+  unfolding list_at
+  small = let w = whole (list_at memory) c.before.requires.1 in (w.small, w.within)
+
+pub overflow_cast-size : goal.overflow_cast-size
+overflow_cast-size c = omega (arith, c.type_inv.memory 0)
+
+pub overflow_cast-count : goal.overflow_cast-count
+overflow_cast-count c = omega (arith, c.type_inv.memory 1)
+
+pub place-place-requires : goal.place-place-requires
+place-place-requires c =
+    let h = c.requires.0 in
+    let l = small c in
+    (length_lent (memory c) 2 32 (omega arith), long c, omega arith, (new_key c).long)
+
+module _ (c : tie.After-place) where
+  abbrev start : tie.After-slice-known
+  start = c.before.before.before.before.before.before.before.before.before
+
+  at_place : Placed (memory start) (new start) c.place.result
+  at_place =
+      let s = start.before in
+      record {
+        room = s.pre.0;
+        bytes = bytes start;
+        at = placed (memory start) s.pre.0 (bytes start) (new start) c.place.result s.pre.1 s.pre.2 (new_key start) c.place.ensures;
+      }
+
+pub key_at-held-requires : goal.key_at-held-requires
+key_at-held-requires c =
+    let k = start c in
+    let l = small k in
+    let d = c.if-place-count.true in
+    (long k, omega arith)
+
+pub write_at-requires : goal.write_at-requires
+write_at-requires c =
+    let k = start c in
+    let l = small k in
+    let d = c.if-place-count.true in
+    (long k, omega arith)
+
+pub returns-then-equals : goal.returns-then-equals
+unfolding list_at
+returns-then-equals c =
+    let k = at_place c in
+    let q = compared k c.if-place-count.true c.key_at-held.ensures c.equals.ensures in
+    keeps-replaced k c.if-place-count.true (sym q ∙ c.if-equals.true) _ c.write_at.ensures
+
+-- the key does not stand at the place
+not_there : (c : tie.Joined1) → Fresh (memory (start c.before)) (new (start c.before)) c.before.place.result
+unfolding list_at
+not_there c =
+    let k = at_place c.before in
+    ⊎_elim (λ w. inr (sym (compared k w.0.taken w.3.ensures w.7.ensures) ∙ w.8.left)) (λ w. inl w.left) c.if1.branch
+
+pub open_at-requires : goal.open_at-requires
+unfolding list_at
+open_at-requires c =
+    let l = small (start c) in
+    let d = c.if-count-size.true in
+    (long (start c), place_within (list_at (memory (start c))) (new (start c)) c.place-place.result (at_place c).at, omega arith)
+
+pub overflow_add-memory : goal.overflow_add-memory
+overflow_add-memory c = let l = small (start c) in omega arith
+
+pub overflow_cast-memory : goal.overflow_cast-memory
+overflow_cast-memory c = let l = small (start c) in omega arith
+
+pub returns-then-count-size : goal.returns-then-count-size
+unfolding list_at
+returns-then-count-size c = keeps-added (at_place c) (not_there c) c.if-count-size.true _ c.open_at.ensures
+
+pub open_at-requires-then-place-count-2 : goal.open_at-requires-then-place-count-2
+open_at-requires-then-place-count-2 c =
+    let l = small (start c) in
+    let d = c.if-place-count-2.true in
+    (long (start c), omega arith, omega arith)
+
+pub returns-then-place-count-2 : goal.returns-then-place-count-2
+unfolding list_at
+returns-then-place-count-2 c =
+    keeps-put-out (at_place c) (not_there c) c.if-count-size.false c.if-place-count-2.true
+    _ c.open_at-then-place-count-2.ensures
+
+pub returns : goal.returns
+unfolding list_at
+returns c = keeps-too-far (at_place c) (not_there c) c.if-count-size.false c.if-place-count-2.false

@@ -1,0 +1,10 @@
+-- `search::find` meets its contract. The invariant: the nodes passed have other keys, and the rest decides. Assumes nothing.
+use mathlib.Core.Path.{◌≡◌}
+use Prim.Native.Nat.{◌+◌, ◌-◌, ◌≤◌}
+use Rattle.lent_list.proofs.search.find.Given as goal
+
+abbrev pub invariant-loop-i : goal.invariant-loop-i
+invariant-loop-i l = (l.i ≤ l.count) × (rest l.slots l.count l.key 0 ≡ l.i + rest l.slots l.count l.key l.i)
+
+abbrev pub decreases-loop-i : goal.decreases-loop-i
+decreases-loop-i l = l.count - l.i

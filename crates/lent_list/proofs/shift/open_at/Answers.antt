@@ -1,0 +1,13 @@
+-- `shift::open_at` meets its contract. Assumes nothing.
+use mathlib.Core.Path.{◌∙◌}
+use Rattle.wire.proofs.Numbers.{bytes_each}
+use Rattle.lent_list.proofs.ShiftLaws.{opened_bytes}
+use Rattle.lent_list.proofs.shift.open_at.Goals as goal
+
+pub returns : goal.returns
+returns c =
+    let a = c.args in
+    let h = c.requires in
+    c.write_at.ensures
+    ∙ opened_bytes a.slots.now h.0 (bytes_each a.slots.now (λ i. (c.type_inv.slots i))) a.place a.last h.1 h.2 a.node
+    _ c.move_back.ensures

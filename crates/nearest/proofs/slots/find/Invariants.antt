@@ -1,0 +1,13 @@
+-- `slots::find` meets its contract. The invariant: the nodes passed have other keys, and the rest decides. Assumes nothing.
+use mathlib.Core.Path.{◌≡◌}
+use Prim.Native.Nat.{◌+◌, ◌-◌, ◌≤◌}
+use lib.ListN.{take, drop}
+use Rattle.nearest.specs.Slots.{index_of}
+use Rattle.nearest.proofs.slots.find.Given as goal
+
+abbrev pub invariant-loop-i : goal.invariant-loop-i
+invariant-loop-i l =
+    (l.i ≤ l.count) × (index_of l.key.0 (take l.count l.nodes) ≡ l.i + index_of l.key.0 (drop l.i (take l.count l.nodes)))
+
+abbrev pub decreases-loop-i : goal.decreases-loop-i
+decreases-loop-i l = l.count - l.i

@@ -1,0 +1,16 @@
+-- `slots::open_at` meets its contract. The invariant: the slots passed are those of the list with the node put in, and its next element is
+-- carried. Assumes nothing.
+use mathlib.Core.Path.{◌≡◌}
+use mathlib.Core.List.{◌++◌}
+use Prim.Native.Nat.{◌+◌, ◌-◌, ◌≤◌}
+use lib.ListN.{get_or, take, drop}
+use Rattle.lists.specs.Insert.{insert_at}
+use Rattle.nearest.proofs.Front.{no_node}
+use Rattle.nearest.proofs.slots.open_at.Given as goal
+
+abbrev pub invariant-loop-i : goal.invariant-loop-i
+invariant-loop-i l =
+    (l.place ≤ l.i) × (l.i ≤ l.last + 1) × (l.out ≡ take l.i (insert_at l.place l.initial.carried l.initial.out) ++ drop l.i l.initial.out) × (l.carried ≡ get_or (insert_at l.place l.initial.carried l.initial.out) l.i no_node)
+
+abbrev pub decreases-loop-i : goal.decreases-loop-i
+decreases-loop-i l = l.last + 1 - l.i

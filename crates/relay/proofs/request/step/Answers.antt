@@ -1,0 +1,72 @@
+-- `request::step` meets its contract: the comparison with the client's own key, and then the two lookups, decide as the rules do. Assumes nothing.
+use Rattle.room_laws.specs.Lookup.{route_wanting, lowest_route}
+use Rattle.records.specs.Output.{none, given}
+use Rattle.relay_laws.specs.Calls.{answer_of}
+use Rattle.relay.proofs.RequestCases.{request_own, request_old, request_full, request_given, number_right_lem}
+use Rattle.relay.proofs.request.step.Goals as goal
+
+pub answer_only-requires : goal.answer_only-requires
+answer_only-requires c = (c.requires.2, none)
+
+pub returns-then-equals : goal.returns-then-equals
+unfolding answer_of
+returns-then-equals c =
+    let a = c.args in
+    let same = c.equals in
+    let w = c.answer_only in
+    request_own a.seats a.numbers a.memory.now a.seat.0 a.key.0 a.wanted.0 same.result same.ensures c.if-equals.true
+    a.out.now (answer_of w.result) w.new.0 w.ensures
+
+pub answer_only-requires-in-At : goal.answer_only-requires-in-At
+answer_only-requires-in-At c =
+    let a = c.args in
+    let look = c.number_of in
+    let old = c.old-1.given in
+    (c.requires.2, given old.0.0.0 (number_right_lem (route_wanting a.seats a.numbers a.memory.now a.seat.0 a.wanted.0) look.result look.ensures old.0.0 old.1))
+
+pub returns-in-At : goal.returns-in-At
+unfolding answer_of
+returns-in-At c =
+    let a = c.args in
+    let same = c.equals in
+    let look = c.number_of in
+    let old = c.old-1.given in
+    let w = c.answer_only-in-At in
+    request_old a.seats a.numbers a.memory.now a.seat.0 a.key.0 a.wanted.0 c.requires.0 c.requires.1
+    same.result same.ensures c.if-equals.false a.out.now w.new.0 look.result look.ensures
+    old.0.0 old.1 (answer_of w.result) w.ensures
+
+pub answer_only-requires-in_default-lowest_free : goal.answer_only-requires-in_default-lowest_free
+answer_only-requires-in_default-lowest_free c = (c.requires.2, none)
+
+pub returns-in_default-lowest_free : goal.returns-in_default-lowest_free
+unfolding answer_of
+returns-in_default-lowest_free c =
+    let a = c.args in
+    let same = c.equals in
+    let look = c.number_of in
+    let look-free = c.lowest_free in
+    let w = c.answer_only-in_default-lowest_free in
+    request_full a.seats a.numbers a.memory.now a.seat.0 a.key.0 a.wanted.0 c.requires.0 c.requires.1
+    same.result same.ensures c.if-equals.false a.out.now w.new.0 look.result look.ensures c.in_default.is
+    look-free.result look-free.ensures c.in_default-lowest_free.is (answer_of w.result) w.ensures
+
+pub give-requires : goal.give-requires
+give-requires c =
+    let a = c.args in
+    let look = c.lowest_free in
+    let number = c.number-1.given in
+    (c.requires.0, c.requires.2, number_right_lem (lowest_route a.seats a.numbers a.memory.now a.seat.0) look.result look.ensures number.0.0 number.1)
+
+pub returns : goal.returns
+unfolding answer_of
+returns c =
+    let a = c.args in
+    let same = c.equals in
+    let look = c.number_of in
+    let look-free = c.lowest_free in
+    let number = c.number-1.given in
+    let g = c.give in
+    request_given a.seats a.numbers a.memory.now a.seat.0 a.key.0 a.wanted.0 c.requires.0 c.requires.1
+    same.result same.ensures c.if-equals.false a.out.now g.new.1.1.1.1.1.1.1.0 look.result look.ensures
+    c.in_default.is look-free.result look-free.ensures g.result number.0.0 number.1 g.new.0 g.ensures

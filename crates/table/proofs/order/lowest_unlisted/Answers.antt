@@ -1,0 +1,37 @@
+-- `order::lowest_unlisted` meets its contract. The invariant: the places passed are listed, and those left decide. Assumes nothing.
+use mathlib.Core.Path.{◌≡◌, refl, sym, ap, ◌∙◌}
+use Prim.Native.Nat.{ℕ, ◌-◌}
+use native.Mathlib.Omega.{arith}
+use Rattle.table_laws.specs.Table.{listed, lowest}
+use Rattle.table.proofs.LowestLaws.{mark_none, mark_not, mark_is, lowest_here, lowest_next, lowest_end}
+use Rattle.table.proofs.order.lowest_unlisted.Goals as goal
+
+pub mark_listed-requires : goal.mark_listed-requires
+mark_listed-requires c = (c.requires.0, refl, mark_none)
+
+pub loop-place-init : goal.loop-place-init
+loop-place-init c =
+    let p = c.args.places in
+    let q : p - 0 ≡ p = omega arith in
+    (omega arith, c.mark_listed.auto.1.1.0, c.mark_listed.ensures, ap (λ (x : ℕ). lowest 0 x (listed p c.args.table.now)) (sym q))
+
+pub returns-then-marks-place-eq0 : goal.returns-then-marks-place-eq0
+returns-then-marks-place-eq0 c =
+    let l = c.loop-place in
+    let ns = listed c.args.places c.args.table.now in
+    sym (l.invariant.3 ∙ lowest_here c.args.places l.place ns (omega arith) (mark_not c.mark_listed.new.1.1.0 ns l.place l.invariant.2 (omega arith) c.if-marks-place-eq0.true))
+
+pub loop-place-preserved : goal.loop-place-preserved
+loop-place-preserved c =
+    let l = c.loop-place in
+    let ns = listed c.args.places c.args.table.now in (
+      omega arith,
+      l.invariant.1,
+      l.invariant.2,
+      l.invariant.3 ∙ lowest_next c.args.places l.place ns (omega arith) (mark_is c.mark_listed.new.1.1.0 ns l.place l.invariant.2 (omega arith) c.if-marks-place-eq0.false),
+    )
+
+pub returns : goal.returns
+returns c =
+    let l = c.loop-place in
+    sym (l.invariant.3 ∙ lowest_end c.args.places l.place (listed c.args.places c.args.table.now) (omega arith))
