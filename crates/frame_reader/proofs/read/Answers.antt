@@ -18,7 +18,6 @@ alone held = ap front (sym (append-nil held))
 -- with the outcome known
 settled : (reader : Reader) (keep piece : List ℕ) {o : Outcome} {r : Read} {left : List ℕ} → read_frame reader keep piece ≡ o → r ≡ o.read → left ≡ o.keep
     → (r ≡ (read_frame reader keep piece).read) × (left ≡ (read_frame reader keep piece).keep)
-
 settled reader keep piece e p q = (p ∙ ap (λ (x : Outcome). x.read) (sym e), q ∙ ap (λ (x : Outcome). x.keep) (sym e))
 
 pub returns-then-keep-lt-KEEP_BYTES : goal.returns-then-keep-lt-KEEP_BYTES

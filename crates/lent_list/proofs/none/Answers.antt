@@ -6,5 +6,4 @@ use Rattle.lent_list.proofs.none.Goals as goal
 
 pub returns : goal.returns
 returns c = ?
-
 returns c = ap {B = HeldNode} (λ (n : Node). record { held = c.before.args.held; node = n }) c.blank.ensures

@@ -29,7 +29,6 @@ unfolding client.client_bytes relay.relay_bytes client.FitsClient relay.FitsRela
 put number bytes out answer left small are s h l p = record {
   as_client = record { fits = (small, are); writes = accepted_writes (client_judged (client.routed_data number bytes)) (number ∷ bytes) out _ answer left (client_data_judged number bytes s h l) p };
   as_relay = record { fits = (small, are); writes = accepted_writes (relay_judged (relay.routed_data number bytes)) (number ∷ bytes) out _ answer left (relay_data_judged number bytes s h l) p };
-
 }
 
 refuse : (number : ℕ) (bytes out : List ℕ) (why : Refusal) → number < 256 → Bytes bytes → client_judged (client.routed_data number bytes) ≡ refused why
@@ -38,7 +37,6 @@ unfolding client.client_bytes relay.relay_bytes client.FitsClient relay.FitsRela
 refuse number bytes out why small are p q = record {
   as_client = record { fits = (small, are); writes = refused_writes (client_judged (client.routed_data number bytes)) (number ∷ bytes) out why p };
   as_relay = record { fits = (small, are); writes = refused_writes (relay_judged (relay.routed_data number bytes)) (number ∷ bytes) out why q };
-
 }
 
 pub returns-then-not-size_right : goal.returns-then-not-size_right

@@ -9,7 +9,6 @@ use Rattle.packet_write.proofs.WriteLaws.{puts_short, puts_written}
 use Rattle.packet_write.proofs.put_pair.Goals as goal
 
 written : (out : List ℕ) (a b : ℕ) → 1 < length out → set (set out 0 a) 1 b ≡ (a ∷ b ∷ []) ++ drop 2 out
-
 written out a b h = ap (λ (l : List ℕ). set l 1 b) (written_first out a (omega arith)) ∙ written_byte (a ∷ []) out 1 b refl h
 
 pub returns-then-out-lt2 : goal.returns-then-out-lt2

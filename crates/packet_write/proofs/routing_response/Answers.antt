@@ -15,7 +15,6 @@ use Rattle.packet_laws.proofs.Judged.{relay_response_judged, relay_response_numb
 use Rattle.packet_write.proofs.routing_response.Goals as goal
 
 head : (out : List ℕ) (k n : ℕ) → 2 ≤ length out → set (set out 0 k) 1 n ≡ (k ∷ n ∷ []) ++ drop 2 out
-
 head out k n h = ap (λ (l : List ℕ). set l 1 n) (written_first out k (omega arith)) ∙ written_byte (k ∷ []) out 1 n refl (omega arith)
 
 written : (out new key : List ℕ) (k n : ℕ) → 34 ≤ length out → new ≡ with_key key (take 32 (drop 2 (set (set out 0 k) 1 n)))

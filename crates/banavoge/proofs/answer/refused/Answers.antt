@@ -13,5 +13,4 @@ overflow_sub-result c = less_fits c.number-number.result (omega (arith, c.number
 pub returns : goal.returns
 unfolding refusal_code
 returns c = ?
-
 returns c = less_is c.number.result (omega (arith, c.number.type-inv)) ∙ ap (λ (n : ℕ). neg_ℤ (pos n)) c.number.ensures

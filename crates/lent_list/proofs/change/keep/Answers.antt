@@ -34,7 +34,6 @@ Keeps m n r left = (offer_answer r ≡ (offered (list_at m) n).answer) × (left 
 
 keeps : (m : List ℕ) (n : Node) (r : Bool) (l : NearestList) (left : List ℕ) → ◌≡◌ {A = Offered} (record { list = l; answer = offer_answer r }) (offered (list_at m) n)
     → left ≡ stored l m → Keeps m n r left
-
 keeps m n r l left o s = (ap (λ (x : Offered). x.answer) o, s ∙ ap (λ (x : Offered). stored x.list m) o)
 
 -- the key does not stand at the place

@@ -35,7 +35,6 @@ Takes m k r left = (remove_answer r ≡ (removed (list_at m) k).answer) × (left
 
 takes : (m : List ℕ) (k : Key) (r : Bool) (l : NearestList) (left : List ℕ) → ◌≡◌ {A = Removed} (record { list = l; answer = remove_answer r }) (removed (list_at m) k)
     → left ≡ stored l m → Takes m k r left
-
 takes m k r l left o s = (ap (λ (x : Removed). x.answer) o, s ∙ ap (λ (x : Removed). stored x.list m) o)
 
 all_slots : (m : List ℕ) → length (list_at m).nodes ≡ 16

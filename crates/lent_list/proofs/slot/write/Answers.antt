@@ -27,7 +27,6 @@ all_taken s = take_all 16 s.args.node.address (let h = (held s).long in omega ar
 copied : (s : tie.Start) (part new : List ℕ)
     → new ≡ take (length s.args.node.address) s.args.node.address ++ drop (length s.args.node.address) part
     → new ≡ take (length (take 16 s.args.node.address)) (take 16 s.args.node.address) ++ drop (length (take 16 s.args.node.address)) part
-
 copied s part new e = e ∙ ap (λ (a : List ℕ). take (length a) a ++ drop (length a) part) (sym (all_taken s))
 
 pub slice_bounds-copy_from_slice-end : goal.slice_bounds-copy_from_slice-end

@@ -41,7 +41,6 @@ passed c = record {
   kind = taken c.before.before.before.before.before;
   long = long c.before.before.before;
   ping = pinged c.before true (not-false c.before.ping-right.result c.if4.false);
-
 }
 
 pub returns-then-not-size_right : goal.returns-then-not-size_right

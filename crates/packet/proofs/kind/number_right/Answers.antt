@@ -11,7 +11,6 @@ use Rattle.packet.proofs.kind.number_right.Goals as goal
 pub returns-then-number-eq0 : goal.returns-then-number-eq0
 unfolding number_right
 returns-then-number-eq0 c = ?
-
 returns c = sym (ap (λ (k : ℕ). number_right k c.before.before.args.number) c.before.match.keys1 ∙ ap (number_right 1) c.if1.true)
 
 pub returns-else-number-eq0 : goal.returns-else-number-eq0
@@ -23,7 +22,6 @@ returns-else-number-eq0 c =
 pub returns-in-2 : goal.returns-in-2
 unfolding number_right
 returns-in-2 c = ?
-
 returns-3 c = in_range (λ (k : ℕ). leb 16 c.before.before.before.args.number ≡ number_right k c.before.before.before.args.number) 2 2 c.before.before.before.args.kind (omega arith) (omega arith) (refl, (refl, tt))
 
 pub returns-in_default : goal.returns-in_default

@@ -19,5 +19,4 @@ overflow_add-result-3 c =
 
 pub returns : goal.returns
 returns c = ?
-
 returns c = ap (λ (w : ℕ). 10 + (1 + c.before.args.seats + c.before.args.seats * w)) c.seat-bytes.ensures

@@ -18,5 +18,4 @@ overflow_add-result c =
 
 pub returns : goal.returns
 returns c = ?
-
 returns c = ap₂ (λ (x y : ℕ). x + y) c.before.routes-start.ensures c.routes-bytes.ensures
