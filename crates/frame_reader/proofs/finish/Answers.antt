@@ -32,6 +32,6 @@ returns c =
     let held_length = length-take-le a.held a.keep.now (omega arith) in
     let lacked-length = length-take-le (a.size - a.held) a.piece.now (omega arith) in (
       simp some (ap (λ (n : ℕ). record { shown = InKeep a.size; reader = record { held = 0 }; used = a.size - n }) (sym held_length)),
-      copied a.held (a.size - a.held) a.keep.now (take (a.size - a.held) a.piece.now) c.copy_from_slice.new.1.0 (sym lacked-length) (omega arith) c.copy_from_slice.ensures.1
+      copied a.held (a.size - a.held) a.keep.now (take (a.size - a.held) a.piece.now) c.copy_from_slice.new.self (sym lacked-length) (omega arith) c.copy_from_slice.ensures.1
           ∙ ap (λ (l : List ℕ). over l a.keep.now) (finished a.size a.held a.keep.now a.piece.now (omega arith) (omega arith)) ∙ simp some,
     )

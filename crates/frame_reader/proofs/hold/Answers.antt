@@ -13,5 +13,5 @@ returns c =
     let a = c.args in (
       ap (λ (n : ℕ). record { shown = More; reader = record { held = n }; used = length a.piece.now })
           (sym (there_length a.held a.keep.now a.piece.now (omega arith))),
-      copied a.held (a.held + length a.piece.now - a.held) a.keep.now a.piece.now c.copy_from_slice.new.1.0 (omega arith) (omega arith) c.copy_from_slice.ensures.1,
+      copied a.held (a.held + length a.piece.now - a.held) a.keep.now a.piece.now c.copy_from_slice.new.self (omega arith) (omega arith) c.copy_from_slice.ensures.1,
     )

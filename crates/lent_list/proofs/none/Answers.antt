@@ -5,5 +5,4 @@ use Rattle.lent_list.specs.declared.HeldNode.{HeldNode}
 use Rattle.lent_list.proofs.none.Goals as goal
 
 pub returns : goal.returns
-returns c = ?
-returns c = ap {B = HeldNode} (λ (n : Node). record { held = c.before.args.held; node = n }) c.blank.ensures
+returns c = ap {B = HeldNode} (λ (n : Node). record { held = c.args.held; node = n }) c.blank.ensures

@@ -1,5 +1,5 @@
 -- `packet_write::connect_notification` meets its contract: the number is judged, then the two bytes are put. Assumes nothing.
-use mathlib.Core.List.{◌∷◌}
+use mathlib.Core.List.{[], ◌∷◌}
 use Rattle.packet_laws.specs.FromRelay.{FitsRelay, relay_bytes, connect_notice}
 use Rattle.packet_laws.specs.Judged.{relay_judged}
 use Rattle.packet_write.proofs.WriteLaws.{accepted_writes, refused_writes}

@@ -78,7 +78,7 @@ pub shape_of-out : goal.shape_of-out
 shape_of-out c =
     let a = c.args in
     ap length
-    (written_byte_and_bytes a.out.now c.copy_from_slice.new.1.0 a.«data».now a.number.0 (1 + length a.«data».now - 1)
+    (written_byte_and_bytes a.out.now c.copy_from_slice.new.self a.«data».now a.number.0 (1 + length a.«data».now - 1)
     (add-sub_cancel_left 1 (length a.«data».now)) (omega arith) c.copy_from_slice.ensures.1)
     ∙ length_written (a.number.0 ∷ a.«data».now) a.out.now (1 + length a.«data».now) (omega arith) (omega arith)
 
@@ -89,5 +89,5 @@ returns c =
     c.type_inv.0.1.1.0.1 (bytes_each a.«data».now (λ i. (c.type_inv.data i)))
     (sym c.size_right.ensures ∙ c.if-not-size_right.false) c.if-number-lt-FIRST.false (omega arith)
     (puts_written (a.number.0 ∷ a.«data».now) a.out.now _ (1 + length a.«data».now) (omega arith) (omega arith)
-    (written_byte_and_bytes a.out.now c.copy_from_slice.new.1.0 a.«data».now a.number.0 (1 + length a.«data».now - 1)
+    (written_byte_and_bytes a.out.now c.copy_from_slice.new.self a.«data».now a.number.0 (1 + length a.«data».now - 1)
     (add-sub_cancel_left 1 (length a.«data».now)) (omega arith) c.copy_from_slice.ensures.1))

@@ -1,5 +1,5 @@
 -- `packet_write::drop_route` meets its contract: every number is put. Assumes nothing.
-use mathlib.Core.List.{◌∷◌}
+use mathlib.Core.List.{[], ◌∷◌}
 use Rattle.packet_laws.specs.FromClient.{FitsClient, client_bytes, drop_route}
 use Rattle.packet_laws.specs.Judged.{client_judged}
 use Rattle.packet_write.proofs.WriteLaws.{accepted_writes}

@@ -23,13 +23,13 @@ slice_bounds-write-end c = simp length-set (omega arith)
 
 pub slice_bounds-copy_from_slice-end : goal.slice_bounds-copy_from_slice-end
 slice_bounds-copy_from_slice-end c =
-    let l = length_written_key c.args.out.now c.write.new.1.0 c.args.key.0 c.args.kind (omega arith) c.write.ensures (key_long c) in omega arith
+    let l = length_written_key c.args.out.now c.write.new.out c.args.key.0 c.args.kind (omega arith) c.write.ensures (key_long c) in omega arith
 
 pub shape_of-out : goal.shape_of-out
 shape_of-out c =
     let a = c.args in
     ap length
-    (written_key_and_bytes a.out.now c.write.new.1.0 a.key.0 a.kind (omega arith) c.write.ensures c.copy_from_slice.new.1.0 a.«data».now
+    (written_key_and_bytes a.out.now c.write.new.out a.key.0 a.kind (omega arith) c.write.ensures c.copy_from_slice.new.self a.«data».now
     (33 + length a.«data».now - 33) (key_long c) (add-sub_cancel_left 33 (length a.«data».now)) (omega arith) c.copy_from_slice.ensures.1)
     ∙ length_written (a.kind ∷ (a.key.0 ++ a.«data».now)) a.out.now (33 + length a.«data».now) (size c) (omega arith)
 
@@ -37,5 +37,5 @@ pub returns : goal.returns
 returns c =
     let a = c.args in
     puts_written (a.kind ∷ (a.key.0 ++ a.«data».now)) a.out.now _ (33 + length a.«data».now) (size c) (omega arith)
-    (written_key_and_bytes a.out.now c.write.new.1.0 a.key.0 a.kind (omega arith) c.write.ensures c.copy_from_slice.new.1.0 a.«data».now
+    (written_key_and_bytes a.out.now c.write.new.out a.key.0 a.kind (omega arith) c.write.ensures c.copy_from_slice.new.self a.«data».now
     (33 + length a.«data».now - 33) (key_long c) (add-sub_cancel_left 33 (length a.«data».now)) (omega arith) c.copy_from_slice.ensures.1)

@@ -1,6 +1,6 @@
 -- `packet_write::put_number` meets its contract: the kind, then the number's bytes, then what stood behind them. Assumes nothing.
 use mathlib.Core.Path.{◌≡◌, ◌∙◌, refl, ap, ap₂}
-use mathlib.Core.List.{List, ◌∷◌, ◌++◌}
+use mathlib.Core.List.{List, [], ◌∷◌, ◌++◌}
 use Prim.Native.Nat.{ℕ, ◌≤◌}
 use native.Mathlib.Omega.{arith}
 use lib.ListN.{length, take, drop, set, length-set}
@@ -24,10 +24,10 @@ pub shape_of-out : goal.shape_of-out
 shape_of-out c =
     let a = c.args in
     let e = length_bytes_of 8 a.number in
-    ap length (written a.out.now c.write_number.new.1.0 a.kind a.number (omega arith) c.write_number.ensures) ∙ length_written (a.kind ∷ bytes_of 8 a.number) a.out.now 9 (omega arith) (omega arith)
+    ap length (written a.out.now c.write_number.new.out a.kind a.number (omega arith) c.write_number.ensures) ∙ length_written (a.kind ∷ bytes_of 8 a.number) a.out.now 9 (omega arith) (omega arith)
 
 pub returns : goal.returns
 returns c =
     let a = c.args in
     puts_written (a.kind ∷ bytes_of 8 a.number) a.out.now _ 9 (let e = length_bytes_of 8 a.number in omega arith) (omega arith)
-    (written a.out.now c.write_number.new.1.0 a.kind a.number (omega arith) c.write_number.ensures)
+    (written a.out.now c.write_number.new.out a.kind a.number (omega arith) c.write_number.ensures)

@@ -36,7 +36,7 @@ returns-then-out-lt-KIND_AND_KEY c =
 pub shape_of-out : goal.shape_of-out
 shape_of-out c =
     let a = c.args in
-    length_written_key a.out.now c.write.new.1.0 a.key.0 0 (omega arith) c.write.ensures (key_long c)
+    length_written_key a.out.now c.write.new.out a.key.0 0 (omega arith) c.write.ensures (key_long c)
 
 pub returns : goal.returns
 unfolding client_bytes
@@ -48,5 +48,5 @@ returns c =
       writes =
           accepted_writes (client_judged (routing_request a.key.0)) (0 ∷ a.key.0) a.out.now _ _ _ (client_request_judged a.key.0 l)
           (puts_written (0 ∷ a.key.0) a.out.now _ 33 (omega arith) (omega arith)
-          (written_key a.out.now c.write.new.1.0 a.key.0 0 (omega arith) c.write.ensures));
+          (written_key a.out.now c.write.new.out a.key.0 0 (omega arith) c.write.ensures));
     }

@@ -1,6 +1,6 @@
 -- `packet_write::routing_response` meets its contract: the number is judged; then the kind, the number and the key, then what stood behind them. Assumes nothing.
 use mathlib.Core.Path.{◌≡◌, ◌∙◌, refl, sym, ap, ap₂}
-use mathlib.Core.List.{List, ◌∷◌, ◌++◌}
+use mathlib.Core.List.{List, [], ◌∷◌, ◌++◌}
 use Prim.Native.Nat.{ℕ, ◌≤◌}
 use native.Mathlib.Omega.{arith}
 use lib.ListN.{length, take, drop, set, length-set}
@@ -62,7 +62,7 @@ bounds-out-1 c = simp length-set (omega arith)
 pub shape_of-out : goal.shape_of-out
 shape_of-out c =
     let a = c.args in
-    ap length (written a.out.now c.write.new.1.0 a.key.0 1 a.number.0 (omega arith) c.write.ensures) ∙ length_written (1 ∷ a.number.0 ∷ a.key.0) a.out.now 34 (let l = key_long c in omega arith) (omega arith)
+    ap length (written a.out.now c.write.new.out a.key.0 1 a.number.0 (omega arith) c.write.ensures) ∙ length_written (1 ∷ a.number.0 ∷ a.key.0) a.out.now 34 (let l = key_long c in omega arith) (omega arith)
 
 pub returns : goal.returns
 unfolding relay_bytes
@@ -74,5 +74,5 @@ returns c =
       writes =
           accepted_writes (relay_judged (routing_response a.number.0 a.key.0)) (1 ∷ a.number.0 ∷ a.key.0) a.out.now _ _ _ (relay_response_judged a.number.0 a.key.0 l (sym c.number_right.ensures ∙ c.if-not-number_right.false))
           (puts_written (1 ∷ a.number.0 ∷ a.key.0) a.out.now _ 34 (omega arith) (omega arith)
-          (written a.out.now c.write.new.1.0 a.key.0 1 a.number.0 (omega arith) c.write.ensures));
+          (written a.out.now c.write.new.out a.key.0 1 a.number.0 (omega arith) c.write.ensures));
     }

@@ -12,4 +12,4 @@ returns-in-Done c = sym (ap done_code c.in-Done.is)
 pub returns-in-Refused : goal.returns-in-Refused
 unfolding done_code
 returns-in-Refused c =
-    to_z-of_z w32 c.refused.result (record { sfits = c.refused.type-inv }) ∙ c.refused.ensures ∙ sym (ap done_code c.in-Refused.is)
+    to_z-of_z w32 c.refused.result (record { sfits = c.refused.type_inv }) ∙ c.refused.ensures ∙ sym (ap done_code c.in-Refused.is)

@@ -10,7 +10,7 @@ pub returns-then-not-done : goal.returns-then-not-done
 unfolding done_or
 returns-then-not-done c =
     let a = c.args in
-    to_z-of_z w32 c.refused.result (record { sfits = c.refused.type-inv }) ∙ c.refused.ensures ∙ sym (ap (done_or a.why) (not-true a.done c.if-not-done.true-raw))
+    to_z-of_z w32 c.refused.result (record { sfits = c.refused.type_inv }) ∙ c.refused.ensures ∙ sym (ap (done_or a.why) (not-true a.done c.if-not-done.true-raw))
 
 pub returns : goal.returns
 unfolding done_or

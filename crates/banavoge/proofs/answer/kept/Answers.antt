@@ -16,4 +16,4 @@ returns-in-NotKept c = sym (ap kept_code c.in-NotKept.is)
 pub returns-in-Refused : goal.returns-in-Refused
 unfolding kept_code
 returns-in-Refused c =
-    to_z-of_z w32 c.refused.result (record { sfits = c.refused.type-inv }) ∙ c.refused.ensures ∙ sym (ap kept_code c.in-Refused.is)
+    to_z-of_z w32 c.refused.result (record { sfits = c.refused.type_inv }) ∙ c.refused.ensures ∙ sym (ap kept_code c.in-Refused.is)

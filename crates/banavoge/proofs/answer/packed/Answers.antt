@@ -12,9 +12,9 @@ count-requires c = nodes_small c.args.answer c.in-Bytes.bytes c.requires c.in-By
 pub returns-in-Bytes : goal.returns-in-Bytes
 unfolding node_written_code
 returns-in-Bytes c =
-    to_z-of_z w32 c.count.result (record { sfits = c.count.type-inv }) ∙ c.count.ensures ∙ sym (ap node_written_code c.in-Bytes.is)
+    to_z-of_z w32 c.count.result (record { sfits = c.count.type_inv }) ∙ c.count.ensures ∙ sym (ap node_written_code c.in-Bytes.is)
 
 pub returns-in-Refused : goal.returns-in-Refused
 unfolding node_written_code
 returns-in-Refused c =
-    to_z-of_z w32 c.refused.result (record { sfits = c.refused.type-inv }) ∙ c.refused.ensures ∙ sym (ap node_written_code c.in-Refused.is)
+    to_z-of_z w32 c.refused.result (record { sfits = c.refused.type_inv }) ∙ c.refused.ensures ∙ sym (ap node_written_code c.in-Refused.is)

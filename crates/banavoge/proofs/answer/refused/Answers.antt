@@ -8,9 +8,9 @@ use Rattle.banavoge_laws.proofs.Codes.{less_fits, less_is}
 use Rattle.banavoge.proofs.answer.refused.Goals as goal
 
 pub overflow_sub-result : goal.overflow_sub-result
-overflow_sub-result c = less_fits c.number-number.result (omega (arith, c.number-number.type-inv))
+overflow_sub-result c = less_fits c.number-number.result (omega (arith, c.number-number.type_inv))
 
 pub returns : goal.returns
 unfolding refusal_code
-returns c = ?
-returns c = less_is c.number.result (omega (arith, c.number.type-inv)) ∙ ap (λ (n : ℕ). neg_ℤ (pos n)) c.number.ensures
+returns c =
+    less_is c.number-number.result (omega (arith, c.number-number.type_inv)) ∙ ap (λ (n : ℕ). neg_ℤ (pos n)) c.number-number.ensures

@@ -6,20 +6,16 @@ use Rattle.banavoge.proofs.frames.end_after.Goals as goal
 
 pub returns-in-More : goal.returns-in-More
 unfolding end_after
-returns-in-More c = ?
-returns c = sym (ap (λ (x : Shown). end_after x c.before.before.args.before) c.enum_told.given.1)
+returns-in-More c = sym (ap (λ (x : Shown). end_after x c.args.before) c.in-More.is)
 
 pub returns-in-InPiece : goal.returns-in-InPiece
 unfolding end_after
-returns-in-InPiece c = ?
-returns-2 c = sym (ap (λ (x : Shown). end_after x c.before.before.before.args.before) c.before.shown.given.1)
+returns-in-InPiece c = sym (ap (λ (x : Shown). end_after x c.args.before) c.in-InPiece.is)
 
 pub returns-in-InKeep : goal.returns-in-InKeep
 unfolding end_after
-returns-in-InKeep c = ?
-returns-3 c = sym (ap (λ (x : Shown). end_after x c.before.before.before.args.before) c.before.shown2.given.1)
+returns-in-InKeep c = sym (ap (λ (x : Shown). end_after x c.args.before) c.in-InKeep.is)
 
 pub returns-in-Refused : goal.returns-in-Refused
 unfolding end_after
-returns-in-Refused c = ?
-returns-4 c = sym (ap (λ (x : Shown). end_after x c.before.before.args.before) c.enum-told2.given.1)
+returns-in-Refused c = sym (ap (λ (x : Shown). end_after x c.args.before) c.in-Refused.is)

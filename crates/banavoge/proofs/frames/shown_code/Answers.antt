@@ -20,4 +20,4 @@ returns-in-InKeep c = sym (ap shown_code c.in-InKeep.is)
 pub returns-in-Refused : goal.returns-in-Refused
 unfolding shown_code
 returns-in-Refused c =
-    to_z-of_z w32 c.refused.result (record { sfits = c.refused.type-inv }) ∙ c.refused.ensures ∙ sym (ap shown_code c.in-Refused.is)
+    to_z-of_z w32 c.refused.result (record { sfits = c.refused.type_inv }) ∙ c.refused.ensures ∙ sym (ap shown_code c.in-Refused.is)

@@ -9,5 +9,5 @@ returns c =
     record {
       given = c.begin-answer.result;
       relates = c.begin-answer.ensures;
-      codes = to_z-of_z w32 c.done.result (record { sfits = c.done.type-inv }) ∙ c.done.ensures;
+      codes = to_z-of_z w32 c.done.result (record { sfits = c.done.type_inv }) ∙ c.done.ensures;
     }

@@ -13,5 +13,5 @@ returns c =
     record {
       given = c.nearest-answer.result;
       relates = c.nearest-answer.ensures;
-      codes = to_z-of_z w32 c.packed.result (record { sfits = c.packed.type-inv }) ∙ c.packed.ensures;
+      codes = to_z-of_z w32 c.packed.result (record { sfits = c.packed.type_inv }) ∙ c.packed.ensures;
     }

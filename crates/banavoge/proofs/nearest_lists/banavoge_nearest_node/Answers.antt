@@ -14,4 +14,4 @@ returns-in-Nothing c = held_none c.held_at-shown.result _ c.held_at-shown.ensure
 pub returns-in-Refused : goal.returns-in-Refused
 returns-in-Refused c =
     held_turned c.held_at-shown.result _ c.held_at-shown.ensures _ _ _ c.in-Refused.is
-    (to_z-of_z w32 c.refused.result (record { sfits = c.refused.type-inv }) ∙ c.refused.ensures)
+    (to_z-of_z w32 c.refused.result (record { sfits = c.refused.type_inv }) ∙ c.refused.ensures)

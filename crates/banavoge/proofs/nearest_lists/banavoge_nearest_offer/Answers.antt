@@ -9,5 +9,5 @@ returns c =
     record {
       given = c.offer-answer.result;
       relates = c.offer-answer.ensures;
-      codes = to_z-of_z w32 c.kept.result (record { sfits = c.kept.type-inv }) ∙ c.kept.ensures;
+      codes = to_z-of_z w32 c.kept.result (record { sfits = c.kept.type_inv }) ∙ c.kept.ensures;
     }

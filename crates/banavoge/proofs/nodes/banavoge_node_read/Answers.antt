@@ -21,5 +21,5 @@ returns-in-Refused c =
     record {
       bytes = bytes_each c.args.bytes.now (λ i. (c.type_inv.bytes i));
       does =
-          node_turned c.args.at c.read-read.result (read_node (drop c.args.at c.args.bytes.now)) c.in-Refused.why _ _ c.read-read.ensures.exact c.in-Refused.is (to_z-of_z w32 c.refused.result (record { sfits = c.refused.type-inv }) ∙ c.refused.ensures);
+          node_turned c.args.at c.read-read.result (read_node (drop c.args.at c.args.bytes.now)) c.in-Refused.why _ _ c.read-read.ensures.exact c.in-Refused.is (to_z-of_z w32 c.refused.result (record { sfits = c.refused.type_inv }) ∙ c.refused.ensures);
     }

@@ -12,7 +12,7 @@ pub returns-in-Node : goal.returns-in-Node
 returns-in-Node c =
     let a = c.args in
     let step = c.step_from-stepped in
-    let left = c.tell_node.new.1.1 in
+    let left = c.tell_node.new.family in
     record {
       bytes = bytes_each a.list.now (λ i. (c.type_inv.list i));
       does =
@@ -39,5 +39,5 @@ returns-in-Refused c =
       bytes = bytes_each a.list.now (λ i. (c.type_inv.list i));
       does =
           step_turned a.place a.count step.result (step_of a.list.now a.place a.count) why.0.0 _ _ step.ensures.exact why.1
-          (to_z-of_z w32 c.refused.result (record { sfits = c.refused.type-inv }) ∙ c.refused.ensures);
+          (to_z-of_z w32 c.refused.result (record { sfits = c.refused.type_inv }) ∙ c.refused.ensures);
     }

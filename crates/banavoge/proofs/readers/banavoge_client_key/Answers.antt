@@ -19,4 +19,4 @@ returns-in-Packet c =
 pub returns-in-Refused : goal.returns-in-Refused
 returns-in-Refused c =
     refuses_key relay_fields (client_read c.args.packet.now) _ client_key c.in-Refused.why _ (client_turned (client_read c.args.packet.now) c.read.result c.in-Refused.why c.read.ensures.exact c.in-Refused.is)
-    (to_z-of_z w32 c.refused.result (record { sfits = c.refused.type-inv }) ∙ c.refused.ensures)
+    (to_z-of_z w32 c.refused.result (record { sfits = c.refused.type_inv }) ∙ c.refused.ensures)

@@ -41,6 +41,6 @@ returns-in-Refused c =
       relates = c.arrive.ensures;
       codes =
           ap₂ told
-          (to_z-of_z w32 c.refused.result (record { sfits = c.refused.type-inv }) ∙ c.refused.ensures ∙ sym (ap (λ (x : Answer). count_code (answer_of x)) given.1))
+          (to_z-of_z w32 c.refused.result (record { sfits = c.refused.type_inv }) ∙ c.refused.ensures ∙ sym (ap (λ (x : Answer). count_code (answer_of x)) given.1))
           (sym (ap (λ (x : Answer). seat_after (answer_of x) a.seat.now) given.1));
     }

@@ -16,5 +16,5 @@ returns c =
     record {
       given = _;
       relates = c.packet-given.ensures;
-      codes = to_z-of_z w32 c.count_of.result (record { sfits = c.count_of.type-inv }) ∙ c.count_of.ensures;
+      codes = to_z-of_z w32 c.count_of.result (record { sfits = c.count_of.type_inv }) ∙ c.count_of.ensures;
     }

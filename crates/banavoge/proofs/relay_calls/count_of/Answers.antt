@@ -23,5 +23,5 @@ returns-in-Accepted c =
 pub returns-in-Refused : goal.returns-in-Refused
 unfolding count_code answer_of
 returns-in-Refused c =
-    to_z-of_z w32 c.refused.result (record { sfits = c.refused.type-inv }) ∙ c.refused.ensures
+    to_z-of_z w32 c.refused.result (record { sfits = c.refused.type_inv }) ∙ c.refused.ensures
     ∙ sym (ap (λ (x : Answer). count_code (answer_of x)) c.in-Refused.is)

@@ -9,4 +9,4 @@ use Rattle.banavoge.proofs.rooms.banavoge_room_check.Goals as goal
 pub returns : goal.returns
 unfolding room_code
 returns c =
-    to_z-of_z w32 c.done_or.result (record { sfits = c.done_or.type-inv }) ∙ c.done_or.ensures ∙ ap (done_or RoomNotWhole) c.is_whole-is_whole.ensures
+    to_z-of_z w32 c.done_or.result (record { sfits = c.done_or.type_inv }) ∙ c.done_or.ensures ∙ ap (done_or RoomNotWhole) c.is_whole-is_whole.ensures

@@ -9,5 +9,5 @@ returns c =
     record {
       given = _;
       relates = c.empty-made.ensures;
-      codes = to_z-of_z w32 c.done_or.result (record { sfits = c.done_or.type-inv }) ∙ c.done_or.ensures;
+      codes = to_z-of_z w32 c.done_or.result (record { sfits = c.done_or.type_inv }) ∙ c.done_or.ensures;
     }

@@ -20,7 +20,7 @@ returns-in-Stopped c =
       given = _;
       relates = c.play.ensures;
       codes =
-          ap₂ tell (to_z-of_z w32 c.stop_code.result (record { sfits = c.stop_code.type-inv }) ∙ c.stop_code.ensures ∙ sym (ap run_code e))
+          ap₂ tell (to_z-of_z w32 c.stop_code.result (record { sfits = c.stop_code.type_inv }) ∙ c.stop_code.ensures ∙ sym (ap run_code e))
           (sym (ap (λ (x : Run). run_counts x (counts a.played.now a.read.now a.written.now)) e));
     }
 
@@ -33,6 +33,6 @@ returns-in-Refused c =
       given = _;
       relates = c.play.ensures;
       codes =
-          ap₂ tell (to_z-of_z w32 c.refused.result (record { sfits = c.refused.type-inv }) ∙ c.refused.ensures ∙ sym (ap run_code e))
+          ap₂ tell (to_z-of_z w32 c.refused.result (record { sfits = c.refused.type_inv }) ∙ c.refused.ensures ∙ sym (ap run_code e))
           (sym (ap (λ (x : Run). run_counts x (counts a.played.now a.read.now a.written.now)) e));
     }

@@ -10,14 +10,14 @@ pub returns-then-not-is_whole : goal.returns-then-not-is_whole
 returns-then-not-is_whole c =
     let a = c.args in
     let broken = not_whole_told 40 32 a.room.now a.seat (sym c.is_whole.ensures ∙ c.if-not-is_whole.true) in
-    tells_refusal 40 32 a.room.now a.seat _ _ RoomNotWhole broken (to_z-of_z w32 c.refused.result (record { sfits = c.refused.type-inv }) ∙ c.refused.ensures)
+    tells_refusal 40 32 a.room.now a.seat _ _ RoomNotWhole broken (to_z-of_z w32 c.refused.result (record { sfits = c.refused.type_inv }) ∙ c.refused.ensures)
 
 pub returns-then-not-is_taken : goal.returns-then-not-is_taken
 returns-then-not-is_taken c =
     let a = c.args in
     let whole = sym c.is_whole.ensures ∙ c.if-not-is_whole.false in
     let empty = vacant_told 40 32 a.room.now a.seat whole (sym c.is_taken.ensures ∙ c.if-not-is_taken.true) in
-    tells_refusal 40 32 a.room.now a.seat _ _ NotSeated empty (to_z-of_z w32 c.refused-then-not-is_taken.result (record { sfits = c.refused-then-not-is_taken.type-inv }) ∙ c.refused-then-not-is_taken.ensures)
+    tells_refusal 40 32 a.room.now a.seat _ _ NotSeated empty (to_z-of_z w32 c.refused-then-not-is_taken.result (record { sfits = c.refused-then-not-is_taken.type_inv }) ∙ c.refused-then-not-is_taken.ensures)
 
 pub returns : goal.returns
 returns c =

@@ -10,7 +10,7 @@ pub returns-then-not-is_whole : goal.returns-then-not-is_whole
 returns-then-not-is_whole c =
     let a = c.args in
     let broken = not_whole_code 40 32 a.room.now a.key.now (sym c.is_whole.ensures ∙ c.if-not-is_whole.true) in
-    to_z-of_z w32 c.refused.result (record { sfits = c.refused.type-inv }) ∙ c.refused.ensures ∙ sym broken
+    to_z-of_z w32 c.refused.result (record { sfits = c.refused.type_inv }) ∙ c.refused.ensures ∙ sym broken
 
 pub returns-in-At : goal.returns-in-At
 returns-in-At c =
@@ -24,5 +24,5 @@ pub returns-in-None : goal.returns-in-None
 returns-in-None c =
     let a = c.args in
     let whole = sym c.is_whole.ensures ∙ c.if-not-is_whole.false in
-    to_z-of_z w32 c.refused-in-None.result (record { sfits = c.refused-in-None.type-inv }) ∙ c.refused-in-None.ensures
+    to_z-of_z w32 c.refused-in-None.result (record { sfits = c.refused-in-None.type_inv }) ∙ c.refused-in-None.ensures
     ∙ sym (none_code 40 32 a.room.now a.key.now whole c.seat_of.result c.seat_of.ensures c.in-None.is)

@@ -15,5 +15,5 @@ returns c =
     record {
       given = c.«data».result;
       relates = c.«data».ensures;
-      codes = to_z-of_z w32 c.written.result (record { sfits = c.written.type-inv }) ∙ c.written.ensures;
+      codes = to_z-of_z w32 c.written.result (record { sfits = c.written.type_inv }) ∙ c.written.ensures;
     }

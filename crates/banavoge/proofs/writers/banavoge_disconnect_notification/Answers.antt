@@ -14,5 +14,5 @@ returns c =
     record {
       given = c.disconnect_notification.result;
       relates = c.disconnect_notification.ensures;
-      codes = to_z-of_z w32 c.written.result (record { sfits = c.written.type-inv }) ∙ c.written.ensures;
+      codes = to_z-of_z w32 c.written.result (record { sfits = c.written.type_inv }) ∙ c.written.ensures;
     }

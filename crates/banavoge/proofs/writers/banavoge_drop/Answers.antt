@@ -14,5 +14,5 @@ returns c =
     record {
       given = c.drop_route.result;
       relates = c.drop_route.ensures;
-      codes = to_z-of_z w32 c.written.result (record { sfits = c.written.type-inv }) ∙ c.written.ensures;
+      codes = to_z-of_z w32 c.written.result (record { sfits = c.written.type_inv }) ∙ c.written.ensures;
     }

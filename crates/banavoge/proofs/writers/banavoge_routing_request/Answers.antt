@@ -14,5 +14,5 @@ returns c =
     record {
       given = c.routing_request.result;
       relates = c.routing_request.ensures;
-      codes = to_z-of_z w32 c.written.result (record { sfits = c.written.type-inv }) ∙ c.written.ensures;
+      codes = to_z-of_z w32 c.written.result (record { sfits = c.written.type_inv }) ∙ c.written.ensures;
     }

@@ -1,5 +1,6 @@
 -- `search::nearest` meets its contract. The invariant: the nodes of the buckets passed are put in. Assumes nothing.
 use mathlib.Core.Path.{◌≡◌}
+use mathlib.Core.List.{[]}
 use native.Mathlib.Omega.{arith}
 use Rattle.buckets.proofs.KeptLaws.{none_passed, bucket_passed, buckets_passed}
 use Rattle.buckets.proofs.search.nearest.Goals as goal

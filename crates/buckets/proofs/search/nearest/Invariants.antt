@@ -1,4 +1,5 @@
 -- `search::nearest` meets its contract. The invariant: the nodes of the buckets passed are put in. Assumes nothing.
+use mathlib.Core.List.{[]}
 use Prim.Native.Nat.{◌-◌, ◌≤◌}
 use Rattle.nearest_first.specs.Kept.{kept_onto}
 use Rattle.buckets_laws.specs.Layout.{held_below}

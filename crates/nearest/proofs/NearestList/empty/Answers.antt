@@ -7,5 +7,5 @@ use Rattle.nearest.proofs.NearestList.empty.Goals as goal
 
 pub returns : goal.returns
 unfolding empty_of
-returns c = ?
-returns c = ap (λ (n : Node). record { target = c.before.args.target; size = 8; count = 0; nodes = replicate 16 n }) c.blank.ensures
+returns c =
+    ap (λ (n : Node). record { target = c.args.target; size = 8; count = 0; nodes = replicate 16 n }) c.blank-blank.ensures

@@ -17,5 +17,4 @@ overflow_add-result-3 c = let h = address_fits c.args.family in let e = c.addres
 
 pub returns : goal.returns
 unfolding packed_length
-returns c = ?
-returns c = ap (λ (n : ℕ). 1 + n + 2 + 32) c.address-length.ensures
+returns c = ap (λ (n : ℕ). 1 + n + 2 + 32) c.address_length.ensures

@@ -6,5 +6,4 @@ use Rattle.node.specs.declared.reader.NodeRead.{NodeRead}
 use Rattle.node.proofs.reader.refused.Goals as goal
 
 pub returns : goal.returns
-returns c = ?
-returns c = ap {B = NodeRead} (λ (n : Node). record { found = Refused c.before.args.why; node = n }) c.blank.ensures
+returns c = ap {B = NodeRead} (λ (n : Node). record { found = Refused c.args.why; node = n }) c.blank.ensures

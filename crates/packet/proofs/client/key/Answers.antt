@@ -1,6 +1,6 @@
 -- `packet::client::key` meets its contract: the key at the place that was shown, or the key of zeros. Assumes nothing.
 use mathlib.Core.Path.{◌≡◌, ◌∙◌, refl, sym, ap}
-use mathlib.Core.List.{List, ◌∷◌}
+use mathlib.Core.List.{List, [], ◌∷◌}
 use Prim.Native.Nat.{ℕ}
 use lib.ListN.{replicate}
 use types.Run.{OneOf, miss}

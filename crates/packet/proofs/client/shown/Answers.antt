@@ -42,18 +42,18 @@ overflow_sub-result-in_default c = let h = length_two _ _ c.requires in omega ar
 
 pub returns-in-1 : goal.returns-in-1
 unfolding from_relay shown_relay
-returns-in-1 c = ?
-returns c = sym (ap (λ (k : ℕ). shown_relay (from_relay k (drop 1 c.before.before.before.args.packet.now))) c.before.match.keys1 ∙ ap (λ (n : ℕ). RoutingResponse (record { 0 = n }) 2) (get_or-drop 1 c.before.before.before.args.packet.now 0 0))
+returns-in-1 c =
+    sym (ap (λ (k : ℕ). shown_relay (from_relay k (drop 1 c.args.packet.now))) c.in-1.is ∙ ap (λ (n : ℕ). RoutingResponse (record { 0 = n }) 2) (get_or-drop 1 c.args.packet.now 0 0))
 
 pub returns-in-2 : goal.returns-in-2
 unfolding from_relay shown_relay
-returns-in-2 c = ?
-returns-2 c = sym (ap (λ (k : ℕ). shown_relay (from_relay k (drop 1 c.before.before.before.args.packet.now))) c.before.match.keys2 ∙ ap (λ (n : ℕ). ConnectNotification (record { 0 = n })) (get_or-drop 1 c.before.before.before.args.packet.now 0 0))
+returns-in-2 c =
+    sym (ap (λ (k : ℕ). shown_relay (from_relay k (drop 1 c.args.packet.now))) c.in-2.is ∙ ap (λ (n : ℕ). ConnectNotification (record { 0 = n })) (get_or-drop 1 c.args.packet.now 0 0))
 
 pub returns-in-3 : goal.returns-in-3
 unfolding from_relay shown_relay
-returns-in-3 c = ?
-returns-3 c = sym (ap (λ (k : ℕ). shown_relay (from_relay k (drop 1 c.before.before.before.args.packet.now))) c.before.match.keys3 ∙ ap (λ (n : ℕ). DisconnectNotification (record { 0 = n })) (get_or-drop 1 c.before.before.before.args.packet.now 0 0))
+returns-in-3 c =
+    sym (ap (λ (k : ℕ). shown_relay (from_relay k (drop 1 c.args.packet.now))) c.in-3.is ∙ ap (λ (n : ℕ). DisconnectNotification (record { 0 = n })) (get_or-drop 1 c.args.packet.now 0 0))
 
 pub returns-in-4 : goal.returns-in-4
 unfolding from_relay shown_relay

@@ -29,5 +29,5 @@ returns-in-1 c = sym (ap client_takes c.in-1.is)
 
 pub returns-in-1-2 : goal.returns-in-1-2
 unfolding client_takes
-returns-in-1-2 c = ?
-returns-5 c = sym (in_range (λ (k : ℕ). client_takes k ≡ true) 5 1 c.before.before.before.before.args.kind (omega arith) (omega arith) (refl, (refl, (refl, (refl, (refl, tt))))))
+returns-in-1-2 c =
+    sym (in_range (λ (k : ℕ). client_takes k ≡ true) 5 1 c.args.kind (omega arith) (omega arith) (refl, (refl, (refl, (refl, (refl, tt))))))

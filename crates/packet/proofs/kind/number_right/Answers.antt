@@ -10,8 +10,8 @@ use Rattle.packet.proofs.kind.number_right.Goals as goal
 
 pub returns-then-number-eq0 : goal.returns-then-number-eq0
 unfolding number_right
-returns-then-number-eq0 c = ?
-returns c = sym (ap (λ (k : ℕ). number_right k c.before.before.args.number) c.before.match.keys1 ∙ ap (number_right 1) c.if1.true)
+returns-then-number-eq0 c =
+    sym (ap (λ (k : ℕ). number_right k c.args.number) c.in-1.is ∙ ap (number_right 1) c.if-number-eq0.true)
 
 pub returns-else-number-eq0 : goal.returns-else-number-eq0
 unfolding number_right
@@ -21,8 +21,8 @@ returns-else-number-eq0 c =
 
 pub returns-in-2 : goal.returns-in-2
 unfolding number_right
-returns-in-2 c = ?
-returns-3 c = in_range (λ (k : ℕ). leb 16 c.before.before.before.args.number ≡ number_right k c.before.before.before.args.number) 2 2 c.before.before.before.args.kind (omega arith) (omega arith) (refl, (refl, tt))
+returns-in-2 c =
+    in_range (λ (k : ℕ). leb 16 c.args.number ≡ number_right k c.args.number) 2 2 c.args.kind (omega arith) (omega arith) (refl, (refl, tt))
 
 pub returns-in_default : goal.returns-in_default
 returns-in_default c = sym (number_other c.args.kind c.args.number (omega arith) (omega arith) (omega arith))

@@ -29,5 +29,5 @@ returns-in-0 c = sym (ap relay_takes c.in-0.is)
 
 pub returns-in-0-2 : goal.returns-in-0-2
 unfolding relay_takes
-returns-in-0-2 c = ?
-returns-5 c = sym (in_range (λ (k : ℕ). relay_takes k ≡ true) 4 3 c.before.before.before.before.args.kind (omega arith) (omega arith) (refl, (refl, (refl, (refl, tt)))))
+returns-in-0-2 c =
+    sym (in_range (λ (k : ℕ). relay_takes k ≡ true) 4 3 c.args.kind (omega arith) (omega arith) (refl, (refl, (refl, (refl, tt)))))

@@ -1,6 +1,6 @@
 -- `packet::relay::payload` meets its contract: the part that was shown, or the empty part at the front. Assumes nothing.
 use mathlib.Core.Path.{◌≡◌, refl, sym, subst}
-use mathlib.Core.List.{◌∷◌}
+use mathlib.Core.List.{[], ◌∷◌}
 use types.Run.{OneOf, miss}
 use denote.Enum.Declared.{tag_of}
 use Rattle.packet.specs.declared.relay.ClientPacket.{ClientPacket}

@@ -36,13 +36,12 @@ overflow_sub-result-in_default c = let h = length_two _ _ c.requires in omega ar
 
 pub returns-in-0 : goal.returns-in-0
 unfolding from_client shown_client
-returns-in-0 c = ?
-returns c = sym (ap (λ (k : ℕ). shown_client (from_client k (drop 1 c.before.before.args.packet.now))) c.match.keys1)
+returns-in-0 c = sym (ap (λ (k : ℕ). shown_client (from_client k (drop 1 c.args.packet.now))) c.in-0.is)
 
 pub returns-in-3 : goal.returns-in-3
 unfolding from_client shown_client
-returns-in-3 c = ?
-returns-2 c = sym (ap (λ (k : ℕ). shown_client (from_client k (drop 1 c.before.before.before.args.packet.now))) c.before.match.keys2 ∙ ap (λ (n : ℕ). DropRoute (record { 0 = n })) (get_or-drop 1 c.before.before.before.args.packet.now 0 0))
+returns-in-3 c =
+    sym (ap (λ (k : ℕ). shown_client (from_client k (drop 1 c.args.packet.now))) c.in-3.is ∙ ap (λ (n : ℕ). DropRoute (record { 0 = n })) (get_or-drop 1 c.args.packet.now 0 0))
 
 pub returns-in-4 : goal.returns-in-4
 unfolding from_client shown_client

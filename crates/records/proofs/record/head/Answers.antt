@@ -43,7 +43,7 @@ pub shape_of-out : goal.shape_of-out
 shape_of-out c =
     let a = c.args in
     same_len_mid {X = ℕ} (a.at + 1) (a.at + 3 - (a.at + 1)) (set a.out.now a.at a.seat.0)
-    c.write_number.new.1.0 c.write_number.auto.1.0
+    c.write_number.new.out c.write_number.auto.1.0
     ∙ length-set a.out.now a.at a.seat.0
 
 pub returns : goal.returns
@@ -53,5 +53,5 @@ returns c =
     let told = c.in-Bytes.is in
     let room = c.requires size told in
     head_done a.written a.seat.0 a.at size a.out.now _ told
-    (head_written a.out.now c.write_number.new.1.0 a.at a.seat.0 size (omega arith)
+    (head_written a.out.now c.write_number.new.out a.at a.seat.0 size (omega arith)
     c.write_number.ensures)

@@ -1,6 +1,6 @@
 -- `packet_call::act` meets its contract: what the reader showed tells what was read, and each kind has its step. Assumes nothing.
 use native.Mathlib.Omega.{arith}
-use mathlib.Core.List.{◌∷◌}
+use mathlib.Core.List.{◌∷◌, []}
 use Rattle.packet_laws.specs.FromClient.{relay_read, Within}
 use Rattle.packet_laws.specs.FromRelay as relay
 use Rattle.packet.specs.RelayReads.{client_packet_of, client_part}

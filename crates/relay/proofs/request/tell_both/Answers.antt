@@ -16,7 +16,7 @@ returns-in-Joined c =
     let next = connected_next a.seat.0 a.number.0 a.out.now a.at w.result w.new.0 first in
     let same = appends_length _ a.out.now a.at w.result w.new.0 first (omega arith) in
     tells_both a.seat.0 a.number.0 a.peer p.0.0 p.0.1.0 p.1 theirs
-    a.out.now a.at w.result c.connected.result w.new.0 c.connected.new.0 (omega arith) first (connected_fits p.0.1.0.0 theirs (omega arith) c.connected.ensures)
+    a.out.now a.at w.result c.connected.result w.new.0 c.connected.new.out (omega arith) first (connected_fits p.0.1.0.0 theirs (omega arith) c.connected.ensures)
 
 pub returns-in-Alone : goal.returns-in-Alone
 returns-in-Alone c =

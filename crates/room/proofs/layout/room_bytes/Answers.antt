@@ -18,5 +18,4 @@ overflow_add-result-3 c =
     rw c.seat_bytes-width.ensures (let q = seats_area c.args.seats c.args.numbers c.requires.0 c.requires.1 in omega arith)
 
 pub returns : goal.returns
-returns c = ?
-returns c = ap (λ (w : ℕ). 10 + (1 + c.before.args.seats + c.before.args.seats * w)) c.seat-bytes.ensures
+returns c = ap (λ (w : ℕ). 10 + (1 + c.args.seats + c.args.seats * w)) c.seat_bytes-width.ensures

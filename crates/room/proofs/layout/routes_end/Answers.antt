@@ -17,5 +17,4 @@ overflow_add-result c =
     omega arith
 
 pub returns : goal.returns
-returns c = ?
-returns c = ap₂ (λ (x y : ℕ). x + y) c.before.routes-start.ensures c.routes-bytes.ensures
+returns c = ap₂ (λ (x y : ℕ). x + y) c.routes_start.ensures c.routes_bytes.ensures

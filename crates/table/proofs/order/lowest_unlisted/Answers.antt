@@ -19,7 +19,7 @@ pub returns-then-marks-place-eq0 : goal.returns-then-marks-place-eq0
 returns-then-marks-place-eq0 c =
     let l = c.loop-place in
     let ns = listed c.args.places c.args.table.now in
-    sym (l.invariant.3 ∙ lowest_here c.args.places l.place ns (omega arith) (mark_not c.mark_listed.new.1.1.0 ns l.place l.invariant.2 (omega arith) c.if-marks-place-eq0.true))
+    sym (l.invariant.3 ∙ lowest_here c.args.places l.place ns (omega arith) (mark_not c.mark_listed.new.marks ns l.place l.invariant.2 (omega arith) c.if-marks-place-eq0.true))
 
 pub loop-place-preserved : goal.loop-place-preserved
 loop-place-preserved c =
@@ -28,7 +28,7 @@ loop-place-preserved c =
       omega arith,
       l.invariant.1,
       l.invariant.2,
-      l.invariant.3 ∙ lowest_next c.args.places l.place ns (omega arith) (mark_is c.mark_listed.new.1.1.0 ns l.place l.invariant.2 (omega arith) c.if-marks-place-eq0.false),
+      l.invariant.3 ∙ lowest_next c.args.places l.place ns (omega arith) (mark_is c.mark_listed.new.marks ns l.place l.invariant.2 (omega arith) c.if-marks-place-eq0.false),
     )
 
 pub returns : goal.returns

@@ -25,5 +25,5 @@ returns c =
     let m = get_or t 0 0 in
     let k : 1 + p - 1 ≡ p = omega arith in
     rw k
-    (freed_done p t a.place (m - 1) i.result (m - 1) c.close.new.0 (omega arith) refl i.ensures refl (omega arith)
+    (freed_done p t a.place (m - 1) i.result (m - 1) c.close.new.order (omega arith) refl i.ensures refl (omega arith)
     (c.close.ensures ∙ ap (λ (x : ℕ). closed (m - 1) i.result (take x (drop 1 t))) k))

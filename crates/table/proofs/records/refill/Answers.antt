@@ -17,6 +17,6 @@ returns c =
     let r = spot.result + a.at in
     let j : r + length new - r ≡ length new = add-sub_cancel_left r (length new) in
     let fits = spot.ensures.fits in
-    let copied : c.copy_from_slice.new.1.0 ≡ new
+    let copied : c.copy_from_slice.new.self ≡ new
     = c.copy_from_slice.ensures.1 ∙ rw j (copy_whole new (take (length new) (drop r t)) (length_lent t r (length new) (omega arith))) in
     rw (j, copied) (refilled_done a.places a.width t a.place a.at new spot.result spot.ensures)
