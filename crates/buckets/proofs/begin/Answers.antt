@@ -11,7 +11,7 @@ use Rattle.buckets.proofs.BeginSteps.{zeroed_none, zeroed_more, begun_done, begu
 use Rattle.buckets.proofs.begin.Goals as goal
 
 key : (s : tie.Start invariant-loop decreases-loop) → IsKey s.args.base.0
-key s = is_key s.args.base s.well-formed.1.0.0 s.well-formed.1.0.1.1
+key s = is_key s.args.base s.well_formed.1.0.0 s.well_formed.1.0.1.1
 
 pub returns-then-memory-lt-BYTES : goal.returns-then-memory-lt-BYTES
 returns-then-memory-lt-BYTES c =

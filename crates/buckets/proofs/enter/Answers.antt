@@ -5,7 +5,7 @@ use Rattle.buckets.proofs.EnterSteps.{enters_held, enters_full, enters_new}
 use Rattle.buckets.proofs.enter.Goals as goal
 
 held : (s : tie.Start) → IsNode s.args.node
-held s = is_node s.args.node s.well-formed.1.0.0 s.well-formed.1.0.1.1
+held s = is_node s.args.node s.well_formed.1.0.0 s.well_formed.1.0.1.1
 
 pub returns-then-place-lt-PLACES : goal.returns-then-place-lt-PLACES
 returns-then-place-lt-PLACES c =

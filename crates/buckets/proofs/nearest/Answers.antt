@@ -8,7 +8,7 @@ use Rattle.buckets.proofs.CallSteps.{asks_broken, kept_known, asks_short, asks_a
 use Rattle.buckets.proofs.nearest.Goals as goal
 
 key : (s : tie.Start) → IsKey s.args.target.0
-key s = is_key s.args.target s.well-formed.1.0.0 s.well-formed.1.0.1.1
+key s = is_key s.args.target s.well_formed.1.0.0 s.well_formed.1.0.1.1
 
 pub returns-then-not-is_whole : goal.returns-then-not-is_whole
 returns-then-not-is_whole c =

@@ -14,7 +14,7 @@ use Rattle.buckets.proofs.offer.Goals as goal
 
 -- a node by value has fields as their types have them
 fits : (s : tie.Start) → Fits s.args.node
-fits s = (s.well-formed.1.0.1.1.0.1, is_node s.args.node s.well-formed.1.0.0 s.well-formed.1.0.1.1)
+fits s = (s.well_formed.1.0.1.1.0.1, is_node s.args.node s.well_formed.1.0.0 s.well_formed.1.0.1.1)
 
 pub returns-then-not-is_whole : goal.returns-then-not-is_whole
 returns-then-not-is_whole c =

@@ -7,7 +7,7 @@ use Rattle.lent_list.proofs.begin.Goals as goal
 
 -- a key by value
 key : (s : tie.Start) → IsKey s.args.target.0
-key s = is_key s.args.target s.well-formed.1.0.0 s.well-formed.1.0.1.1
+key s = is_key s.args.target s.well_formed.1.0.0 s.well_formed.1.0.1.1
 
 pub returns-in-Refused : goal.returns-in-Refused
 returns-in-Refused c =

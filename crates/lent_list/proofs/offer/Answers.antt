@@ -29,7 +29,7 @@ module _ (c : tie.After-slice-known) where
 
   -- a node by value has the fields that a slot holds
   fits : Fits node
-  fits = let g = c.before.well-formed.1.0 in (g.1.1.0.1, is_node node g.0 g.1.1)
+  fits = let g = c.before.well_formed.1.0 in (g.1.1.0.1, is_node node g.0 g.1.1)
 
   bytes : Bytes memory
   bytes = bytes_each memory (λ i. (c.slice-known.given i).fits)

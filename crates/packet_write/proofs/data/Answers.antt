@@ -44,7 +44,7 @@ returns-then-not-size_right c =
     let a = c.args in
     let s = sym c.size_right.ensures ∙ c.if-not-size_right.true in
     refuse a.number.0 a.«data».now a.out.now _
-    c.type_inv.0.1.1.0.1 (bytes_each a.«data».now (λ i. (c.type_inv.data i)))
+    c.well_formed.0.1.1.0.1 (bytes_each a.«data».now (λ i. (c.type_inv.data i)))
     (client_data_size a.number.0 a.«data».now s) (relay_data_size a.number.0 a.«data».now s)
 
 pub returns-then-number-lt-FIRST : goal.returns-then-number-lt-FIRST
@@ -52,7 +52,7 @@ returns-then-number-lt-FIRST c =
     let a = c.args in
     let s = (sym c.size_right.ensures ∙ c.if-not-size_right.false) in
     refuse a.number.0 a.«data».now a.out.now _
-    c.type_inv.0.1.1.0.1 (bytes_each a.«data».now (λ i. (c.type_inv.data i)))
+    c.well_formed.0.1.1.0.1 (bytes_each a.«data».now (λ i. (c.type_inv.data i)))
     (client_data_number a.number.0 a.«data».now s c.if-number-lt-FIRST.true) (relay_data_number a.number.0 a.«data».now s c.if-number-lt-FIRST.true)
 
 pub returns-then-data-eq0 : goal.returns-then-data-eq0
@@ -61,14 +61,14 @@ returns-then-data-eq0 c =
     let s = (sym c.size_right.ensures ∙ c.if-not-size_right.false) in
     let h = c.if-number-lt-FIRST.false in
     refuse a.number.0 a.«data».now a.out.now _
-    c.type_inv.0.1.1.0.1 (bytes_each a.«data».now (λ i. (c.type_inv.data i)))
+    c.well_formed.0.1.1.0.1 (bytes_each a.«data».now (λ i. (c.type_inv.data i)))
     (client_data_length a.number.0 a.«data».now s h c.if-data-eq0.true) (relay_data_length a.number.0 a.«data».now s h c.if-data-eq0.true)
 
 pub returns-then-out-size : goal.returns-then-out-size
 returns-then-out-size c =
     let a = c.args in
     put a.number.0 a.«data».now a.out.now _ _
-    c.type_inv.0.1.1.0.1 (bytes_each a.«data».now (λ i. (c.type_inv.data i)))
+    c.well_formed.0.1.1.0.1 (bytes_each a.«data».now (λ i. (c.type_inv.data i)))
     (sym c.size_right.ensures ∙ c.if-not-size_right.false) c.if-number-lt-FIRST.false (omega arith) (puts_short (a.number.0 ∷ a.«data».now) a.out.now (omega arith))
 
 pub slice_bounds-copy_from_slice-end : goal.slice_bounds-copy_from_slice-end
@@ -86,7 +86,7 @@ pub returns : goal.returns
 returns c =
     let a = c.args in
     put a.number.0 a.«data».now a.out.now _ _
-    c.type_inv.0.1.1.0.1 (bytes_each a.«data».now (λ i. (c.type_inv.data i)))
+    c.well_formed.0.1.1.0.1 (bytes_each a.«data».now (λ i. (c.type_inv.data i)))
     (sym c.size_right.ensures ∙ c.if-not-size_right.false) c.if-number-lt-FIRST.false (omega arith)
     (puts_written (a.number.0 ∷ a.«data».now) a.out.now _ (1 + length a.«data».now) (omega arith) (omega arith)
     (written_byte_and_bytes a.out.now c.copy_from_slice.new.self a.«data».now a.number.0 (1 + length a.«data».now - 1)

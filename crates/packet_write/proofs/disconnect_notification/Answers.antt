@@ -8,7 +8,7 @@ use Rattle.packet_write.proofs.disconnect_notification.Goals as goal
 
 fits : (s : tie.Start) → FitsRelay (disconnect_notice s.args.number.0)
 unfolding FitsRelay
-fits s = s.well-formed.0.1.1.0.1
+fits s = s.well_formed.0.1.1.0.1
 
 pub returns-then-number-lt-FIRST : goal.returns-then-number-lt-FIRST
 unfolding relay_bytes

@@ -8,7 +8,7 @@ use Rattle.packet_write.proofs.drop_route.Goals as goal
 
 fits : (s : tie.Start) → FitsClient (drop_route s.args.number.0)
 unfolding FitsClient
-fits s = s.well-formed.0.1.1.0.1
+fits s = s.well_formed.0.1.1.0.1
 
 pub returns : goal.returns
 unfolding client_bytes

@@ -14,7 +14,7 @@ use Rattle.packet_write.proofs.oob_send.Goals as goal
 
 -- a key by value
 key : (s : tie.Start) → IsKey s.args.key.0
-key s = is_key s.args.key s.well-formed.0.0 s.well-formed.0.1.1
+key s = is_key s.args.key s.well_formed.0.0 s.well_formed.0.1.1
 
 key_long : (s : tie.Start) → length s.args.key.0 ≡ 32
 key_long s = (key s).long

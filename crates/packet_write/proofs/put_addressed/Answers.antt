@@ -10,7 +10,7 @@ use Rattle.wire.proofs.Copy.{length_written}
 use Rattle.packet_write.proofs.put_addressed.Goals as goal
 
 key_long : (s : tie.Start) → length s.args.key.0 ≡ 32
-key_long s = sym (length-map s.args.key.0 _) ∙ s.well-formed.1.0.1.1.0.1.0.1
+key_long s = sym (length-map s.args.key.0 _) ∙ s.well_formed.1.0.1.1.0.1.0.1
 
 size : (s : tie.Start) → length (s.args.kind ∷ (s.args.key.0 ++ s.args.«data».now)) ≡ 33 + length s.args.«data».now
 size s = let l = key_long s in let e = length-append s.args.key.0 s.args.«data».now in omega arith

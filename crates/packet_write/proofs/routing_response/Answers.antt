@@ -25,14 +25,14 @@ written out new key k n h e =
 
 -- a key by value
 key : (s : tie.Start) → IsKey s.args.key.0
-key s = is_key s.args.key s.well-formed.1.0.0 s.well-formed.1.0.1.1
+key s = is_key s.args.key s.well_formed.1.0.0 s.well_formed.1.0.1.1
 
 key_long : (s : tie.Start) → length s.args.key.0 ≡ 32
 key_long s = (key s).long
 
 fits : (s : tie.Start) → FitsRelay (routing_response s.args.number.0 s.args.key.0)
 unfolding FitsRelay
-fits s = (s.well-formed.0.1.1.0.1, key s)
+fits s = (s.well_formed.0.1.1.0.1, key s)
 
 pub returns-then-not-number_right : goal.returns-then-not-number_right
 unfolding relay_bytes

@@ -6,7 +6,7 @@ use Rattle.table_laws.proofs.WithoutLaws.{without_fits, without_unfit}
 use Rattle.table.proofs.is_whole_without.Goals as goal
 
 key_long : (s : tie.Start) → length s.args.key.0 ≡ 32
-key_long s = sym (length-map s.args.key.0 _) ∙ s.well-formed.1.1.1.0.1.1.0.1.0.1
+key_long s = sym (length-map s.args.key.0 _) ∙ s.well_formed.1.1.1.0.1.1.0.1.0.1
 
 pub returns-then-not-fits : goal.returns-then-not-fits
 returns-then-not-fits c =

@@ -12,7 +12,7 @@ use Rattle.buckets_laws.specs.Layout.{node_fields, node_record}
 use Rattle.buckets.proofs.record.of.Goals as goal
 
 held : (s : tie.Start) → IsNode s.args.node
-held s = is_node s.args.node s.well-formed.0.0 s.well-formed.0.1.1
+held s = is_node s.args.node s.well_formed.0.0 s.well_formed.0.1.1
 
 -- the parts, one behind the other
 joined : {key k address a port p : List ℕ} (family : ℕ) → key ≡ k → address ≡ a → port ≡ p → key ++ (family ∷ (address ++ (port ++ []))) ≡ k ++ (family ∷ (a ++ p))

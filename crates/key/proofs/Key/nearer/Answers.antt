@@ -8,13 +8,13 @@ use Rattle.key.proofs.Owned.{is_key}
 use Rattle.key.proofs.Key.nearer.Goals as goal
 
 known-t1 : (s : tie.Start invariant-loop decreases-loop) → IsKey s.args.t1.0
-known-t1 s = is_key s.args.t1 s.well-formed.0.0 s.well-formed.0.1.1
+known-t1 s = is_key s.args.t1 s.well_formed.0.0 s.well_formed.0.1.1
 
 known-t2 : (s : tie.Start invariant-loop decreases-loop) → IsKey s.args.t2.0
-known-t2 s = is_key s.args.t2 s.well-formed.1.0.0 s.well-formed.1.0.1.1
+known-t2 s = is_key s.args.t2 s.well_formed.1.0.0 s.well_formed.1.0.1.1
 
 known-t3 : (s : tie.Start invariant-loop decreases-loop) → IsKey s.args.t3.0
-known-t3 s = is_key s.args.t3 s.well-formed.1.1.0.0 s.well-formed.1.1.0.1.1
+known-t3 s = is_key s.args.t3 s.well_formed.1.1.0.0 s.well_formed.1.1.0.1.1
 
 -- what is compared are keys
 compares : (s : tie.Start invariant-loop decreases-loop) (r : Bool) → nearer s.args.t1.0 s.args.t2.0 s.args.t3.0 ≡ r

@@ -11,7 +11,7 @@ use Rattle.key.specs.Keys.{with_key}
 use Rattle.key.proofs.Key.write.Goals as goal
 
 long : (s : tie.Start invariant-loop decreases-loop) → length s.args.t1.0 ≡ 32
-long s = sym (length-map s.args.t1.0 _) ∙ s.well-formed.0.1.1.0.1.0.1
+long s = sym (length-map s.args.t1.0 _) ∙ s.well_formed.0.1.1.0.1.0.1
 
 pub returns-then-out-lt-BYTES : goal.returns-then-out-lt-BYTES
 unfolding with_key

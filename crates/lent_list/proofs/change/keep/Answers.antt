@@ -107,7 +107,7 @@ module _ (c : tie.After-slice-known) where
   bytes = bytes_each memory (λ i. (c.slice-known.given i).fits)
 
   new_key : IsKey (node_key new)
-  new_key = (is_node new c.before.well-formed.1.0.0 c.before.well-formed.1.0.1.1).key
+  new_key = (is_node new c.before.well_formed.1.0.0 c.before.well_formed.1.0.1.1).key
 
   -- the bytes of the slots
   long : length (slots_of memory) ≡ 816

@@ -101,7 +101,7 @@ pub overflow_cast-count : goal.overflow_cast-count
 overflow_cast-count c = omega (arith, c.type_inv.memory 1)
 
 pub find-index-requires : goal.find-index-requires
-find-index-requires c = (long c, small c, (is_key c.args.t2 c.type_inv.1.0.0 c.type_inv.1.0.1.1).long)
+find-index-requires c = (long c, small c, (is_key c.args.t2 c.well_formed.1.0.0 c.well_formed.1.0.1.1).long)
 
 pub returns-then-count-index : goal.returns-then-count-index
 unfolding list_at

@@ -10,7 +10,7 @@ use Rattle.lent_list.proofs.memory.store.Goals as goal
 
 -- a key by value has 32 bytes
 key_long : (s : tie.Start) → length s.args.list.target.0 ≡ 32
-key_long s = sym (length-map s.args.list.target.0 _) ∙ s.well-formed.0.1.1.0.1.1.0.1.0.1
+key_long s = sym (length-map s.args.list.target.0 _) ∙ s.well_formed.0.1.1.0.1.1.0.1.0.1
 
 pub returns-then-memory-lt-BYTES : goal.returns-then-memory-lt-BYTES
 returns-then-memory-lt-BYTES c =

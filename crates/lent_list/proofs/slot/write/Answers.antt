@@ -15,7 +15,7 @@ use Rattle.lent_list.proofs.slot.write.Goals as goal
 
 -- a node by value has 16 address bytes and a key of 32
 held : (s : tie.Start) → IsNode s.args.node
-held s = is_node s.args.node s.well-formed.0.0 s.well-formed.0.1.1
+held s = is_node s.args.node s.well_formed.0.0 s.well_formed.0.1.1
 
 fitting : (s : tie.Start) → Fitting s.args.out.now s.args.node.address s.args.node.key.0 16
 fitting s = let h = s.requires in record { room = h; many = (held s).long; most = omega arith; whole = (held s).key.long }

@@ -29,9 +29,9 @@ module _ (c : tie.After-place) where
   at : AtPlace list new c.place.result
   at =
       let s = c.before.before.before.before.before.before.before.before.before in
-      let t = s.well-formed.0.1.1.0.1.1.0 in
-      let k = s.well-formed.1.0.1.1.1.1.1.0.1.1.0 in
-      let g = s.well-formed.0.1.1.1.1.1.0 in record {
+      let t = s.well_formed.0.1.1.0.1.1.0 in
+      let k = s.well_formed.1.0.1.1.1.1.1.0.1.1.0 in
+      let g = s.well_formed.0.1.1.1.1.1.0 in record {
         stands = sym c.before.before.before.before.before.before.before.before.check.ensures ∙ c.before.before.before.before.before.before.enum_told.given.1;
         family = sym c.before.before.before.before.before.known.ensures ∙ not-false _ c.before.before.before.before.if1.false;
         slots = sym (length-map list.nodes _) ∙ g.1.0.1;

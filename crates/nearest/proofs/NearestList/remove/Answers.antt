@@ -22,7 +22,7 @@ module _ (c : tie.After-find) where
   stands = sym c.before.before.before.before.check.ensures ∙ c.before.before.enum_told.given.1
 
   slots : length list.nodes ≡ 16
-  slots = sym (length-map list.nodes _) ∙ c.before.before.before.before.before.well-formed.0.1.1.1.1.1.0.1.0.1
+  slots = sym (length-map list.nodes _) ∙ c.before.before.before.before.before.well_formed.0.1.1.1.1.1.0.1.0.1
 
 pub returns-in-Refused : goal.returns-in-Refused
 returns-in-Refused c = remove_refused _ c.args.key _ (sym c.check-standing.ensures ∙ c.in-Refused.is)

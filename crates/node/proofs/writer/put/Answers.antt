@@ -15,7 +15,7 @@ use Rattle.node.proofs.writer.put.Goals as goal
 
 -- a node by value has 16 address bytes and a key of 32
 held : (s : tie.Start) → IsNode s.args.node
-held s = is_node s.args.node s.well-formed.0.0 s.well-formed.0.1.1
+held s = is_node s.args.node s.well_formed.0.0 s.well_formed.0.1.1
 
 -- the output is as long as the parts
 fitting : (c : tie.After-address-length)

@@ -16,7 +16,7 @@ use Rattle.node.proofs.writer.write.Goals as goal
 
 -- a node by value has 16 address bytes and a key of 32
 held : (s : tie.Start) → IsNode s.args.node
-held s = is_node s.args.node s.well-formed.0.0 s.well-formed.0.1.1
+held s = is_node s.args.node s.well_formed.0.0 s.well_formed.0.1.1
 
 known : (c : tie.Else1) → known_family c.before.before.before.args.node.family ≡ true
 known c = sym c.before.known.ensures ∙ not-false _ c.if1.false

@@ -8,7 +8,7 @@ use Rattle.relay.proofs.calls.arrive.Goals as goal
 
 -- a key has 32 bytes
 key_long : (s : tie.Start) → length s.args.key.0 ≡ 32
-key_long s = sym (length-map s.args.key.0 _) ∙ s.well-formed.1.0.1.1.0.1.0.1
+key_long s = sym (length-map s.args.key.0 _) ∙ s.well_formed.1.0.1.1.0.1.0.1
 
 pub returns-then-out-lt-LEAST_OUTPUT : goal.returns-then-out-lt-LEAST_OUTPUT
 unfolding answer_of

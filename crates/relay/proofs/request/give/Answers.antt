@@ -11,7 +11,7 @@ use Rattle.room.proofs.PeersFound.{found_right}
 use Rattle.relay.proofs.request.give.Goals as goal
 
 wanted-long : (s : tie.Start) → length s.args.wanted.0 ≡ 32
-wanted-long s = sym (length-map s.args.wanted.0 _) ∙ s.well-formed.1.1.1.1.1.0.1.1.0.1.0.1
+wanted-long s = sym (length-map s.args.wanted.0 _) ∙ s.well_formed.1.1.1.1.1.0.1.1.0.1.0.1
 
 pub tell_both-requires : goal.tell_both-requires
 tell_both-requires c =
