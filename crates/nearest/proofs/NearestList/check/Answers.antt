@@ -1,8 +1,6 @@
 -- `NearestList::check` meets its contract: each way out is a case of `Judge`. Assumes nothing.
-use mathlib.Core.Path.{◌≡◌, ◌∙◌, sym}
-use mathlib.Core.Bool.{true}
+use mathlib.Core.Path.{◌∙◌, sym}
 use native.Mathlib.Omega.{arith}
-use Rattle.nearest.specs.Lists.{size_right}
 use Rattle.nearest.proofs.Judge.{size_bounds, bad_size, too_long, unknown_held, not_rising, passes}
 use Rattle.nearest.proofs.NearestList.check.Goals as goal
 
