@@ -3,6 +3,8 @@
 //
 // Between two calls the reader is one number, how many bytes at the front of the keep start an unfinished frame; what stands behind them is never read. After 18
 // the number is one that no keep makes good.
+#![tactic(auto)]
+
 ghost use Rattle.std.specs.Prelude.{◌≡◌, ◌+◌, ◌≤◌, length, take};
 ghost use Rattle.frame.specs.Frames.{front};
 ghost use Rattle.frame.specs.declared.Front.TheVariants.{Unfinished, Whole};

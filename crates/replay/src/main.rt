@@ -1,5 +1,7 @@
 // Replays a history: reads stored calls from a file named as the argument, or from standard input, plays them from the empty room, and tells for each
 // who asked what, what was answered, and who was handed which packets.
+#![tactic(auto)]
+
 mod call;
 mod handed;
 mod history;

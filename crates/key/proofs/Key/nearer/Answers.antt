@@ -1,17 +1,9 @@
 -- `Key::nearer` meets its contract. The invariant: the bytes not yet compared decide. Assumes nothing.
-use mathlib.Core.Path.{◌≡◌, ◌∙◌, sym}
-use mathlib.Core.Bool.{Bool}
-use mathlib.Core.List.{List}
-use Prim.Native.Nat.{ℕ}
+use mathlib.Core.Path.{◌∙◌, sym}
 use native.Mathlib.Omega.{arith}
-use Rattle.key.specs.Keys.{IsKey, nearer, Compares}
 use Rattle.key.proofs.Distance.{from_start, byte_decides, byte_same, bytes_end}
 use Rattle.key.proofs.Owned.{is_key}
 use Rattle.key.proofs.Key.nearer.Goals as goal
-
--- what is compared are keys
-compares : (t a b : List ℕ) → IsKey t → IsKey a → IsKey b → (r : Bool) → nearer t a b ≡ r → Compares t a b r
-compares t a b ht ha hb r e = record { target_key = ht; a_key = ha; b_key = hb; answers = sym e }
 
 pub loop-i-init : goal.loop-i-init
 loop-i-init c = (omega arith, from_start c.args.self.0 c.args.a.0 c.args.b.0)
@@ -23,7 +15,7 @@ returns-then-to_a-to_b c =
     let a = is_key c.args.a c.well_formed.1.0.0 c.well_formed.1.0.1.1 in
     let b = is_key c.args.b c.well_formed.1.1.0.0 c.well_formed.1.1.0.1.1 in
     let x = t.long in
-    compares c.args.self.0 c.args.a.0 c.args.b.0 t a b _
+    sym
     (l.invariant.1 ∙ byte_decides c.args.self.0 c.args.a.0 c.args.b.0 (x ∙ sym a.long) (x ∙ sym b.long) l.i (omega arith)
     t.bytes a.bytes b.bytes c.if-to_a-to_b.true)
 
@@ -42,5 +34,5 @@ returns c =
     let a = is_key c.args.a c.well_formed.1.0.0 c.well_formed.1.0.1.1 in
     let b = is_key c.args.b c.well_formed.1.1.0.0 c.well_formed.1.1.0.1.1 in
     let x = t.long in
-    compares c.args.self.0 c.args.a.0 c.args.b.0 t a b _
+    sym
     (l.invariant.1 ∙ bytes_end c.args.self.0 c.args.a.0 c.args.b.0 (x ∙ sym a.long) (x ∙ sym b.long) l.i (omega arith))

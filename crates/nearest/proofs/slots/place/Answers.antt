@@ -17,7 +17,7 @@ returns-then-not-nearer c =
     let l = c.loop-i in
     let h : c.args.count ≤ length c.args.nodes = omega arith in
     let e = ap (position c.args.target.0 c.args.key.0) (front_next c.args.nodes c.args.count h _ l.i c.loop-i-test.true)
-    ∙ position_one c.args.target.0 c.args.key.0 _ _ false (sym c.nearer.ensures.answers ∙ c.if-not-nearer.true) in
+    ∙ position_one c.args.target.0 c.args.key.0 _ _ false (sym c.nearer.ensures ∙ c.if-not-nearer.true) in
     let i = l.invariant.1 in
     omega arith
 
@@ -26,7 +26,7 @@ loop-i-preserved c =
     let l = c.loop-i in
     let h : c.args.count ≤ length c.args.nodes = omega arith in
     let e = ap (position c.args.target.0 c.args.key.0) (front_next c.args.nodes c.args.count h _ l.i c.loop-i-test.true)
-    ∙ position_one c.args.target.0 c.args.key.0 _ _ true (sym c.nearer.ensures.answers ∙ c.if-not-nearer.false) in
+    ∙ position_one c.args.target.0 c.args.key.0 _ _ true (sym c.nearer.ensures ∙ c.if-not-nearer.false) in
     let i = l.invariant.1 in
     (omega arith, omega arith)
 

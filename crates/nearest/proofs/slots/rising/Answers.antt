@@ -23,7 +23,7 @@ returns-then-not-nearer c =
     let l = c.loop-i in
     let h : c.args.count ≤ length c.args.nodes = omega arith in
     let e = l.invariant.2 ∙ ap (rising_after c.args.target.0 (get_or c.args.nodes (l.i - 1) no_node)) (front_next c.args.nodes c.args.count h no_node l.i c.loop-i-test.true) in
-    sym (e ∙ after_one c.args.target.0 _ _ _ false (sym c.nearer.ensures.answers ∙ c.if-not-nearer.true))
+    sym (e ∙ after_one c.args.target.0 _ _ _ false (sym c.nearer.ensures ∙ c.if-not-nearer.true))
 
 pub loop-i-preserved : goal.loop-i-preserved
 loop-i-preserved c =
@@ -31,7 +31,7 @@ loop-i-preserved c =
     let h : c.args.count ≤ length c.args.nodes = omega arith in
     let e = l.invariant.2 ∙ ap (rising_after c.args.target.0 (get_or c.args.nodes (l.i - 1) no_node)) (front_next c.args.nodes c.args.count h no_node l.i c.loop-i-test.true) in
     let k : l.i + 1 - 1 ≡ l.i = omega arith in
-    (omega arith, omega arith, rw k (e ∙ after_one c.args.target.0 _ _ _ true (sym c.nearer.ensures.answers ∙ c.if-not-nearer.false)))
+    (omega arith, omega arith, rw k (e ∙ after_one c.args.target.0 _ _ _ true (sym c.nearer.ensures ∙ c.if-not-nearer.false)))
 
 pub returns : goal.returns
 returns c =
