@@ -9,5 +9,5 @@ returns c =
     let a = c.args in
     let h = c.requires in
     c.write_at.ensures
-    ∙ opened_bytes a.slots.now h.0 (bytes_each a.slots.now (λ i. (c.type_inv.slots i))) a.place a.last h.1 h.2 a.node
+    ∙ opened_bytes a.slots.now h.0 (bytes_each a.slots.now ?) a.place a.last h.1 h.2 a.node
     _ c.move_back.ensures
