@@ -1,4 +1,5 @@
 -- `offer` meets its contract: each way out is a case of `CallLaws` of `lent_list_laws`. Assumes nothing.
+use borrow.Author.Rules.{rules}
 use mathlib.Core.Path.{◌≡◌, ◌∙◌, refl, sym, ap}
 use mathlib.Core.Bool.{Bool, true, false}
 use mathlib.Core.List.{List}
@@ -24,7 +25,7 @@ returns-then-memory-lt-BYTES c =
     let g = c.well_formed.1.0 in
     let fits : Fits c.args.node = (g.1.1.0.1, is_node c.args.node g.0 g.1.1) in
     let h = c.if-memory-lt-BYTES.true in
-    offers_short c.args.node c.args.memory.now fits (bytes_each c.args.memory.now ?) _ c.too_short.ensures (omega arith)
+    offers_short c.args.node c.args.memory.now fits (bytes_each c.args.memory.now (λ i. search rules)) _ c.too_short.ensures (omega arith)
 
 pub returns-in-Refused : goal.returns-in-Refused
 returns-in-Refused c =
@@ -33,7 +34,7 @@ returns-in-Refused c =
     let h = c.if-memory-lt-BYTES.false in
     let why = c.in-Refused.why in
     let e = sym c.check-standing.ensures ∙ c.in-Refused.is in
-    offers_refused c.args.node c.args.memory.now fits (bytes_each c.args.memory.now ?) (omega arith) (not_offered (list_at c.args.memory.now) why) (offer_refused (list_at c.args.memory.now) c.args.node why e) why refl
+    offers_refused c.args.node c.args.memory.now fits (bytes_each c.args.memory.now (λ i. search rules)) (omega arith) (not_offered (list_at c.args.memory.now) why) (offer_refused (list_at c.args.memory.now) c.args.node why e) why refl
 
 pub returns-then-not-known : goal.returns-then-not-known
 returns-then-not-known c =
@@ -41,7 +42,7 @@ returns-then-not-known c =
     let fits : Fits c.args.node = (g.1.1.0.1, is_node c.args.node g.0 g.1.1) in
     let h = c.if-memory-lt-BYTES.false in
     let e = sym c.check-standing.ensures ∙ c.in_default.is in
-    offers_refused c.args.node c.args.memory.now fits (bytes_each c.args.memory.now ?) (omega arith) (not_offered (list_at c.args.memory.now) UnknownFamily)
+    offers_refused c.args.node c.args.memory.now fits (bytes_each c.args.memory.now (λ i. search rules)) (omega arith) (not_offered (list_at c.args.memory.now) UnknownFamily)
     (offer_unknown (list_at c.args.memory.now) c.args.node e (sym c.known.ensures ∙ c.if-not-known.true)) UnknownFamily refl
 
 pub keep-requires : goal.keep-requires
@@ -67,7 +68,7 @@ returns-then-keep c =
     let fits : Fits c.args.node = (g.1.1.0.1, is_node c.args.node g.0 g.1.1) in
     let h = c.if-memory-lt-BYTES.false in
     let x = c.keep in
-    kept c.args.node c.args.memory.now fits (bytes_each c.args.memory.now ?) (omega arith) _ true _ c.if-keep.true x.ensures.0 x.ensures.1
+    kept c.args.node c.args.memory.now fits (bytes_each c.args.memory.now (λ i. search rules)) (omega arith) _ true _ c.if-keep.true x.ensures.result_value x.ensures.memory_after
 
 pub returns : goal.returns
 unfolding offer_answer
@@ -76,4 +77,4 @@ returns c =
     let fits : Fits c.args.node = (g.1.1.0.1, is_node c.args.node g.0 g.1.1) in
     let h = c.if-memory-lt-BYTES.false in
     let x = c.keep in
-    kept c.args.node c.args.memory.now fits (bytes_each c.args.memory.now ?) (omega arith) _ false _ c.if-keep.false x.ensures.0 x.ensures.1
+    kept c.args.node c.args.memory.now fits (bytes_each c.args.memory.now (λ i. search rules)) (omega arith) _ false _ c.if-keep.false x.ensures.result_value x.ensures.memory_after

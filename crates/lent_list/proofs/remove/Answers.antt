@@ -1,4 +1,5 @@
 -- `remove` meets its contract: each way out is a case of `CallLaws` of `lent_list_laws`. Assumes nothing.
+use borrow.Author.Rules.{rules}
 use mathlib.Core.Path.{◌≡◌, ◌∙◌, refl, sym, ap}
 use mathlib.Core.Bool.{Bool, true, false}
 use mathlib.Core.List.{List}
@@ -22,14 +23,14 @@ use Rattle.lent_list.proofs.remove.Goals as goal
 pub returns-then-memory-lt-BYTES : goal.returns-then-memory-lt-BYTES
 returns-then-memory-lt-BYTES c =
     let h = c.if-memory-lt-BYTES.true in
-    removes_short c.args.key c.args.memory.now (bytes_each c.args.memory.now ?) _ c.too_short.ensures (omega arith)
+    removes_short c.args.key c.args.memory.now (bytes_each c.args.memory.now (λ i. search rules)) _ c.too_short.ensures (omega arith)
 
 pub returns-in-Refused : goal.returns-in-Refused
 returns-in-Refused c =
     let h = c.if-memory-lt-BYTES.false in
     let why = c.in-Refused.why in
     let e = sym c.check-standing.ensures ∙ c.in-Refused.is in
-    removes_refused c.args.key c.args.memory.now (bytes_each c.args.memory.now ?) (omega arith) (record { list = list_at c.args.memory.now; answer = Refused why })
+    removes_refused c.args.key c.args.memory.now (bytes_each c.args.memory.now (λ i. search rules)) (omega arith) (record { list = list_at c.args.memory.now; answer = Refused why })
     (remove_refused (list_at c.args.memory.now) c.args.key why e) why refl
 
 pub take_out-requires : goal.take_out-requires
@@ -50,11 +51,11 @@ unfolding remove_answer
 returns-then-take_out c =
     let h = c.if-memory-lt-BYTES.false in
     let x = c.take_out in
-    taken c.args.key c.args.memory.now (bytes_each c.args.memory.now ?) (omega arith) _ true _ c.if-take_out.true x.ensures.0 x.ensures.1
+    taken c.args.key c.args.memory.now (bytes_each c.args.memory.now (λ i. search rules)) (omega arith) _ true _ c.if-take_out.true x.ensures.result_value x.ensures.memory_after
 
 pub returns : goal.returns
 unfolding remove_answer
 returns c =
     let h = c.if-memory-lt-BYTES.false in
     let x = c.take_out in
-    taken c.args.key c.args.memory.now (bytes_each c.args.memory.now ?) (omega arith) _ false _ c.if-take_out.false x.ensures.0 x.ensures.1
+    taken c.args.key c.args.memory.now (bytes_each c.args.memory.now (λ i. search rules)) (omega arith) _ false _ c.if-take_out.false x.ensures.result_value x.ensures.memory_after

@@ -1,8 +1,9 @@
 -- `change::keep` meets its contract: each way out is a case of the laws of offers by value, on the list that stands in the memory. Assumes nothing.
+use borrow.Author.Rules.{rules}
 use mathlib.Core.Path.{◌≡◌, ◌∙◌, sym, ap, ap₂}
 use mathlib.Core.Bool.{Bool, true, false}
 use mathlib.Core.List.{List, ◌++◌}
-use mathlib.Core.Logic.{◌⊎◌, inl, inr, ⊎_elim}
+use mathlib.Core.Logic.{◌⊎◌, inl, inr}
 use Prim.Native.Nat.{ℕ, ◌+◌, ◌-◌, ◌*◌, ◌<◌, ◌≤◌}
 use native.Mathlib.Omega.{arith}
 use lib.ListN.{length, get_or, take, drop, set}
@@ -30,6 +31,7 @@ use Rattle.lent_list_laws.proofs.RoundTrips.{stored_same}
 use Rattle.lent_list_laws.proofs.ChangeLaws.{slots_of, changed, nodes_there, key_there, placed, slots_stored, count_stored}
 use Rattle.lent_list.proofs.ShiftLaws.{put_at}
 use Rattle.lent_list.proofs.change.keep.Goals as goal
+use Rattle.lent_list.proofs.change.keep.Goals.{then-place-count+else-equals, else-place-count}
 
 -- what is answered, and what is left
 abbrev Keeps : List ℕ → Node → Bool → List ℕ → Type 0
@@ -138,16 +140,17 @@ unfolding list_at
 returns-then-equals c =
     let m = c.args.memory.now in
     let n = c.args.node in
-    let k : Placed m n c.place-place.result = at_place m n c.place-place.result c.requires.0 (bytes_each m ?) c.requires.1 c.requires.2 (is_node n c.well_formed.1.0.0 c.well_formed.1.0.1.1).key c.place-place.ensures in
+    let k : Placed m n c.place-place.result = at_place m n c.place-place.result c.requires.0 (bytes_each m (λ i. search rules)) c.requires.1 c.requires.2 (is_node n c.well_formed.1.0.0 c.well_formed.1.0.1.1).key c.place-place.ensures in
     let q = compared k c.if-place-count.true c.key_at-held.ensures c.equals.ensures in
-    keeps_replaced k c.if-place-count.true (sym q ∙ c.if-equals.true) _ c.write_at.ensures
+    let t = keeps_replaced k c.if-place-count.true (sym q ∙ c.if-equals.true) _ c.write_at.ensures in
+    record { result_value = t.0; memory_after = t.1 }
 
 pub open_at-requires : goal.open_at-requires
 unfolding list_at
 open_at-requires c =
     let m = c.args.memory.now in
     let n = c.args.node in
-    let k : Placed m n c.place-place.result = at_place m n c.place-place.result c.requires.0 (bytes_each m ?) c.requires.1 c.requires.2 (is_node n c.well_formed.1.0.0 c.well_formed.1.0.1.1).key c.place-place.ensures in
+    let k : Placed m n c.place-place.result = at_place m n c.place-place.result c.requires.0 (bytes_each m (λ i. search rules)) c.requires.1 c.requires.2 (is_node n c.well_formed.1.0.0 c.well_formed.1.0.1.1).key c.place-place.ensures in
     let long = length_lent m 34 816 c.requires.0 in
     let l = small m c.requires.1 in
     let d = c.if-count-size.true in
@@ -164,9 +167,14 @@ unfolding list_at
 returns-then-count-size c =
     let m = c.args.memory.now in
     let n = c.args.node in
-    let k : Placed m n c.place-place.result = at_place m n c.place-place.result c.requires.0 (bytes_each m ?) c.requires.1 c.requires.2 (is_node n c.well_formed.1.0.0 c.well_formed.1.0.1.1).key c.place-place.ensures in
-    let fresh : Fresh m n c.place-place.result = ? in
-    keeps_added k fresh c.if-count-size.true _ c.open_at.ensures
+    let k : Placed m n c.place-place.result = at_place m n c.place-place.result c.requires.0 (bytes_each m (λ i. search rules)) c.requires.1 c.requires.2 (is_node n c.well_formed.1.0.0 c.well_formed.1.0.1.1).key c.place-place.ensures in
+    let fresh : Fresh m n c.place-place.result =
+    elim c.if-place-count.branch [
+      then-place-count+else-equals w ↦ inr (sym (compared k w.if-place-count.true w.key_at-held.ensures w.equals.ensures) ∙ w.if-equals.false)
+    | else-place-count w ↦ inl w.if-place-count.false
+    ] in
+    let t = keeps_added k fresh c.if-count-size.true _ c.open_at.ensures in
+    record { result_value = t.0; memory_after = t.1 }
 
 pub open_at-requires-then-place-count-2 : goal.open_at-requires-then-place-count-2
 open_at-requires-then-place-count-2 c =
@@ -181,15 +189,25 @@ unfolding list_at
 returns-then-place-count-2 c =
     let m = c.args.memory.now in
     let n = c.args.node in
-    let k : Placed m n c.place-place.result = at_place m n c.place-place.result c.requires.0 (bytes_each m ?) c.requires.1 c.requires.2 (is_node n c.well_formed.1.0.0 c.well_formed.1.0.1.1).key c.place-place.ensures in
-    let fresh : Fresh m n c.place-place.result = ? in
-    keeps_put_out k fresh c.if-count-size.false c.if-place-count-2.true _ c.open_at-then-place-count-2.ensures
+    let k : Placed m n c.place-place.result = at_place m n c.place-place.result c.requires.0 (bytes_each m (λ i. search rules)) c.requires.1 c.requires.2 (is_node n c.well_formed.1.0.0 c.well_formed.1.0.1.1).key c.place-place.ensures in
+    let fresh : Fresh m n c.place-place.result =
+    elim c.if-place-count.branch [
+      then-place-count+else-equals w ↦ inr (sym (compared k w.if-place-count.true w.key_at-held.ensures w.equals.ensures) ∙ w.if-equals.false)
+    | else-place-count w ↦ inl w.if-place-count.false
+    ] in
+    let t = keeps_put_out k fresh c.if-count-size.false c.if-place-count-2.true _ c.open_at-then-place-count-2.ensures in
+    record { result_value = t.0; memory_after = t.1 }
 
 pub returns : goal.returns
 unfolding list_at
 returns c =
     let m = c.args.memory.now in
     let n = c.args.node in
-    let k : Placed m n c.place-place.result = at_place m n c.place-place.result c.requires.0 (bytes_each m ?) c.requires.1 c.requires.2 (is_node n c.well_formed.1.0.0 c.well_formed.1.0.1.1).key c.place-place.ensures in
-    let fresh : Fresh m n c.place-place.result = ? in
-    keeps_too_far k fresh c.if-count-size.false c.if-place-count-2.false
+    let k : Placed m n c.place-place.result = at_place m n c.place-place.result c.requires.0 (bytes_each m (λ i. search rules)) c.requires.1 c.requires.2 (is_node n c.well_formed.1.0.0 c.well_formed.1.0.1.1).key c.place-place.ensures in
+    let fresh : Fresh m n c.place-place.result =
+    elim c.if-place-count.branch [
+      then-place-count+else-equals w ↦ inr (sym (compared k w.if-place-count.true w.key_at-held.ensures w.equals.ensures) ∙ w.if-equals.false)
+    | else-place-count w ↦ inl w.if-place-count.false
+    ] in
+    let t = keeps_too_far k fresh c.if-count-size.false c.if-place-count-2.false in
+    record { result_value = t.0; memory_after = t.1 }

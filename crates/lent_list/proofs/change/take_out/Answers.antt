@@ -1,4 +1,5 @@
 -- `change::take_out` meets its contract: each way out is a case of the laws of removals by value, on the list that stands in the memory. Assumes nothing.
+use borrow.Author.Rules.{rules}
 use mathlib.Core.Path.{◌≡◌, ◌∙◌, sym, ap}
 use mathlib.Core.Bool.{Bool, true, false}
 use mathlib.Core.List.{List, ◌∷◌, ◌++◌}
@@ -86,8 +87,9 @@ unfolding list_at
 returns-then-count-index c =
     let m = c.args.memory.now in
     let s : Sought m c.args.key c.find-index.result
-    = record { room = c.requires.0; bytes = bytes_each m ?; stands = c.requires.1; place = c.find-index.ensures } in
-    takes_nothing s c.if-count-index.true
+    = record { room = c.requires.0; bytes = bytes_each m (λ i. search rules); stands = c.requires.1; place = c.find-index.ensures } in
+    let t = takes_nothing s c.if-count-index.true in
+    record { result_value = t.0; memory_after = t.1 }
 
 pub close_at-requires : goal.close_at-requires
 close_at-requires c =
@@ -104,5 +106,6 @@ unfolding list_at
 returns c =
     let m = c.args.memory.now in
     let s : Sought m c.args.key c.find-index.result
-    = record { room = c.requires.0; bytes = bytes_each m ?; stands = c.requires.1; place = c.find-index.ensures } in
-    takes_one s c.if-count-index.false _ c.close_at.ensures
+    = record { room = c.requires.0; bytes = bytes_each m (λ i. search rules); stands = c.requires.1; place = c.find-index.ensures } in
+    let t = takes_one s c.if-count-index.false _ c.close_at.ensures in
+    record { result_value = t.0; memory_after = t.1 }
