@@ -1,10 +1,7 @@
 -- `held_at` meets its contract: each way out is a case of `HeldLaws`. Assumes nothing.
 use borrow.Author.Rules.{rules}
-use mathlib.Core.Path.{◌≡◌, ◌∙◌, sym}
+use mathlib.Core.Path.{◌∙◌, sym}
 use native.Mathlib.Omega.{arith}
-use Rattle.nearest.specs.declared.Answer.TheVariants.{Done}
-use Rattle.nearest.specs.Calls.{checked}
-use Rattle.lent_list_laws.specs.Layout.{list_at}
 use Rattle.lent_list_laws.proofs.ChangeLaws.{count_there}
 use Rattle.lent_list.proofs.HeldLaws.{held_short, held_refused, held_nothing, held_node}
 use Rattle.lent_list.proofs.held_at.Goals as goal

@@ -105,6 +105,7 @@ small : (m : List ℕ) → checked (list_at m) ≡ Done → (get_or m 0 0 ≤ 16
 unfolding list_at
 small m stands = let w = whole (list_at m) stands in (w.small, w.within)
 
+-- what is known once the place is found, from what the search and the caller told
 at_place : (m : List ℕ) (n : Node) (p : ℕ) → 850 ≤ length m → Bytes m → checked (list_at m) ≡ Done → known_family n.family ≡ true → IsKey (node_key n)
     → p ≡ position (take 32 (drop 2 m)) (node_key n) (take (get_or m 1 0) (slots_at 16 (slots_of m))) → Placed m n p
 at_place m n p room bytes stands family key e = record { room = room; bytes = bytes; at = placed m room bytes n p stands family key e }
@@ -140,7 +141,9 @@ unfolding list_at
 returns-then-equals c =
     let m = c.args.memory.now in
     let n = c.args.node in
-    let k : Placed m n c.place-place.result = at_place m n c.place-place.result c.requires.0 (bytes_each m (λ i. search rules)) c.requires.1 c.requires.2 (is_node n c.well_formed.1.0.0 c.well_formed.1.0.1.1).key c.place-place.ensures in
+    let bytes : Bytes m = bytes_each m (λ i. search rules) in
+    let key = (is_node n c.well_formed.1.0.0 c.well_formed.1.0.1.1).key in
+    let k = at_place m n c.place-place.result c.requires.0 bytes c.requires.1 c.requires.2 key c.place-place.ensures in
     let q = compared k c.if-place-count.true c.key_at-held.ensures c.equals.ensures in
     let t = keeps_replaced k c.if-place-count.true (sym q ∙ c.if-equals.true) _ c.write_at.ensures in
     record { result_value = t.0; memory_after = t.1 }
@@ -150,7 +153,9 @@ unfolding list_at
 open_at-requires c =
     let m = c.args.memory.now in
     let n = c.args.node in
-    let k : Placed m n c.place-place.result = at_place m n c.place-place.result c.requires.0 (bytes_each m (λ i. search rules)) c.requires.1 c.requires.2 (is_node n c.well_formed.1.0.0 c.well_formed.1.0.1.1).key c.place-place.ensures in
+    let bytes : Bytes m = bytes_each m (λ i. search rules) in
+    let key = (is_node n c.well_formed.1.0.0 c.well_formed.1.0.1.1).key in
+    let k = at_place m n c.place-place.result c.requires.0 bytes c.requires.1 c.requires.2 key c.place-place.ensures in
     let long = length_lent m 34 816 c.requires.0 in
     let l = small m c.requires.1 in
     let d = c.if-count-size.true in
@@ -167,11 +172,13 @@ unfolding list_at
 returns-then-count-size c =
     let m = c.args.memory.now in
     let n = c.args.node in
-    let k : Placed m n c.place-place.result = at_place m n c.place-place.result c.requires.0 (bytes_each m (λ i. search rules)) c.requires.1 c.requires.2 (is_node n c.well_formed.1.0.0 c.well_formed.1.0.1.1).key c.place-place.ensures in
+    let bytes : Bytes m = bytes_each m (λ i. search rules) in
+    let key = (is_node n c.well_formed.1.0.0 c.well_formed.1.0.1.1).key in
+    let k = at_place m n c.place-place.result c.requires.0 bytes c.requires.1 c.requires.2 key c.place-place.ensures in
     let fresh : Fresh m n c.place-place.result =
     elim c.if-place-count.branch [
-      then-place-count+else-equals w ↦ inr (sym (compared k w.if-place-count.true w.key_at-held.ensures w.equals.ensures) ∙ w.if-equals.false)
-    | else-place-count w ↦ inl w.if-place-count.false
+      | then-place-count+else-equals w ↦ inr (sym (compared k w.if-place-count.true w.key_at-held.ensures w.equals.ensures) ∙ w.if-equals.false)
+      | else-place-count w ↦ inl w.if-place-count.false
     ] in
     let t = keeps_added k fresh c.if-count-size.true _ c.open_at.ensures in
     record { result_value = t.0; memory_after = t.1 }
@@ -189,11 +196,13 @@ unfolding list_at
 returns-then-place-count-2 c =
     let m = c.args.memory.now in
     let n = c.args.node in
-    let k : Placed m n c.place-place.result = at_place m n c.place-place.result c.requires.0 (bytes_each m (λ i. search rules)) c.requires.1 c.requires.2 (is_node n c.well_formed.1.0.0 c.well_formed.1.0.1.1).key c.place-place.ensures in
+    let bytes : Bytes m = bytes_each m (λ i. search rules) in
+    let key = (is_node n c.well_formed.1.0.0 c.well_formed.1.0.1.1).key in
+    let k = at_place m n c.place-place.result c.requires.0 bytes c.requires.1 c.requires.2 key c.place-place.ensures in
     let fresh : Fresh m n c.place-place.result =
     elim c.if-place-count.branch [
-      then-place-count+else-equals w ↦ inr (sym (compared k w.if-place-count.true w.key_at-held.ensures w.equals.ensures) ∙ w.if-equals.false)
-    | else-place-count w ↦ inl w.if-place-count.false
+      | then-place-count+else-equals w ↦ inr (sym (compared k w.if-place-count.true w.key_at-held.ensures w.equals.ensures) ∙ w.if-equals.false)
+      | else-place-count w ↦ inl w.if-place-count.false
     ] in
     let t = keeps_put_out k fresh c.if-count-size.false c.if-place-count-2.true _ c.open_at-then-place-count-2.ensures in
     record { result_value = t.0; memory_after = t.1 }
@@ -203,11 +212,13 @@ unfolding list_at
 returns c =
     let m = c.args.memory.now in
     let n = c.args.node in
-    let k : Placed m n c.place-place.result = at_place m n c.place-place.result c.requires.0 (bytes_each m (λ i. search rules)) c.requires.1 c.requires.2 (is_node n c.well_formed.1.0.0 c.well_formed.1.0.1.1).key c.place-place.ensures in
+    let bytes : Bytes m = bytes_each m (λ i. search rules) in
+    let key = (is_node n c.well_formed.1.0.0 c.well_formed.1.0.1.1).key in
+    let k = at_place m n c.place-place.result c.requires.0 bytes c.requires.1 c.requires.2 key c.place-place.ensures in
     let fresh : Fresh m n c.place-place.result =
     elim c.if-place-count.branch [
-      then-place-count+else-equals w ↦ inr (sym (compared k w.if-place-count.true w.key_at-held.ensures w.equals.ensures) ∙ w.if-equals.false)
-    | else-place-count w ↦ inl w.if-place-count.false
+      | then-place-count+else-equals w ↦ inr (sym (compared k w.if-place-count.true w.key_at-held.ensures w.equals.ensures) ∙ w.if-equals.false)
+      | else-place-count w ↦ inl w.if-place-count.false
     ] in
     let t = keeps_too_far k fresh c.if-count-size.false c.if-place-count-2.false in
     record { result_value = t.0; memory_after = t.1 }

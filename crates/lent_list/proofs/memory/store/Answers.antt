@@ -1,9 +1,9 @@
 -- `memory::store` meets its contract: size, count, target and slots, one behind the other, are put over the front of the memory. Assumes nothing.
 use borrow.Author.Rules.{rules}
-use mathlib.Core.Path.{◌≡◌, ◌∙◌, sym}
+use mathlib.Core.Path.{sym}
 use Prim.Native.Nat.{◌%◌}
 use native.Mathlib.Omega.{arith}
-use lib.ListN.{length, length-set}
+use lib.ListN.{length-set}
 use Rattle.lent_list_laws.specs.Layout.{slots_bytes}
 use Rattle.lent_list_laws.proofs.StoreLaws.{stored_short, length_targeted, put_slots, list_written}
 use Rattle.lent_list.proofs.memory.store.Goals as goal

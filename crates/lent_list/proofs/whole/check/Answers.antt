@@ -1,13 +1,12 @@
 -- `whole::check` meets its contract: each way out is a case of `Judge` of `nearest`. Assumes nothing.
 use borrow.Author.Rules.{rules}
-use borrow.Author.Tests.{not-false}
 use mathlib.Core.Path.{◌≡◌, ◌∙◌, sym, ap}
 use mathlib.Core.Bool.{Bool, true, false}
 use mathlib.Core.List.{List}
-use Prim.Native.Nat.{ℕ, ◌≤◌}
+use Prim.Native.Nat.{ℕ}
 use native.Mathlib.Omega.{arith}
 use lib.ListN.{get_or, take, drop}
-use Rattle.nearest.specs.Lists.{held, size_right, all_known, rising}
+use Rattle.nearest.specs.Lists.{held, all_known, rising}
 use Rattle.nearest.proofs.Judge.{size_bounds, bad_size, too_long, unknown_held, not_rising, passes}
 use Rattle.lent_list_laws.specs.Layout.{slots_at, list_at}
 use Rattle.lent_list_laws.proofs.ChangeLaws.{slots_of, nodes_there}
