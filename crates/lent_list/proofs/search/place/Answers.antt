@@ -35,7 +35,7 @@ pub returns-then-not-nearer : goal.returns-then-not-nearer
 returns-then-not-nearer c =
     let a = c.args in
     let h = c.requires in
-    let e = one_more a.target.now a.slots.now a.key.now _ a.count c.loop-i.i _ false h.0 h.1 h.2 h.3 (omega arith) c.key_at.ensures c.nearer.ensures.answers c.if-not-nearer.true in
+    let e = one_more a.target.now a.slots.now a.key.now _ a.count c.loop-i.i _ false h.0 h.1 h.2 h.3 (omega arith) c.key_at.ensures c.nearer.ensures c.if-not-nearer.true in
     let i = c.loop-i.invariant.1 in
     omega arith
 
@@ -43,7 +43,7 @@ pub loop-i-preserved : goal.loop-i-preserved
 loop-i-preserved c =
     let a = c.args in
     let h = c.requires in
-    let e = one_more a.target.now a.slots.now a.key.now _ a.count c.loop-i.i _ true h.0 h.1 h.2 h.3 (omega arith) c.key_at.ensures c.nearer.ensures.answers c.if-not-nearer.false in
+    let e = one_more a.target.now a.slots.now a.key.now _ a.count c.loop-i.i _ true h.0 h.1 h.2 h.3 (omega arith) c.key_at.ensures c.nearer.ensures c.if-not-nearer.false in
     let i = c.loop-i.invariant.1 in
     (omega arith, omega arith)
 

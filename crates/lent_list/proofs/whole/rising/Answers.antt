@@ -47,7 +47,7 @@ returns-then-not-nearer c =
     let l = c.loop-i in
     let a = c.args in
     let h = c.requires in
-    sym (one_more a.target.now a.slots.now _ _ a.count l.i _ false h.0 h.1 h.2 (omega arith) (omega arith) l.invariant.2 c.key_at.ensures c.key_at-in-loop-i.ensures c.nearer.ensures.answers c.if-not-nearer.true)
+    sym (one_more a.target.now a.slots.now _ _ a.count l.i _ false h.0 h.1 h.2 (omega arith) (omega arith) l.invariant.2 c.key_at.ensures c.key_at-in-loop-i.ensures c.nearer.ensures c.if-not-nearer.true)
 
 pub loop-i-preserved : goal.loop-i-preserved
 loop-i-preserved c =
@@ -55,7 +55,7 @@ loop-i-preserved c =
     let a = c.args in
     let h = c.requires in
     let k : l.i + 1 - 1 ≡ l.i = omega arith in
-    (omega arith, omega arith, rw k (one_more a.target.now a.slots.now _ _ a.count l.i _ true h.0 h.1 h.2 (omega arith) (omega arith) l.invariant.2 c.key_at.ensures c.key_at-in-loop-i.ensures c.nearer.ensures.answers c.if-not-nearer.false))
+    (omega arith, omega arith, rw k (one_more a.target.now a.slots.now _ _ a.count l.i _ true h.0 h.1 h.2 (omega arith) (omega arith) l.invariant.2 c.key_at.ensures c.key_at-in-loop-i.ensures c.nearer.ensures c.if-not-nearer.false))
 
 pub returns : goal.returns
 returns c =
