@@ -1,6 +1,6 @@
 -- `answer::length` meets its contract. The invariant: the bytes counted are those of the nodes passed, at most 51 each. Assumes nothing.
 use mathlib.Core.Path.{◌≡◌, ◌∙◌, sym, ap}
-use Prim.Native.Nat.{ℕ, ◌+◌, ◌≤◌}
+use Prim.Native.Nat.{ℕ, ◌+◌}
 use native.Mathlib.Omega.{arith}
 use lib.ListN.{get_or}
 use Rattle.node.specs.Families.{packed_length}

@@ -1,10 +1,8 @@
 -- `search::position` meets its contract. The invariant: those passed are not nearer, so that the place is at none of them. Assumes nothing.
-use mathlib.Core.Path.{◌≡◌, ◌∙◌, sym}
-use Prim.Native.Nat.{◌+◌, ◌-◌, ◌≤◌}
+use mathlib.Core.Path.{◌∙◌, sym}
+use Prim.Native.Nat.{◌-◌}
 use native.Mathlib.Omega.{arith}
-use lib.ListN.{length, get_or}
-use Rattle.key.specs.Keys.{nearer}
-use Rattle.nearest.specs.Lists.{node_key}
+use lib.ListN.{get_or}
 use Rattle.nearest.proofs.Place.{place_le}
 use Rattle.buckets.specs.Kept.{node_at, kept_nodes}
 use Rattle.buckets.proofs.KeptLaws.{kept_length, nearer_lent, scan_goes_on, scan_stops}

@@ -4,7 +4,7 @@ use mathlib.Core.List.{List, [], ◌∷◌}
 use Prim.Native.Nat.{ℕ, ◌<◌}
 use native.Mathlib.Omega.{arith}
 use lib.ListN.{length, get_or}
-use Rattle.table_laws.specs.Table.{listed, used_places}
+use Rattle.table_laws.specs.Table.{used_places}
 use Rattle.buckets_laws.specs.Layout.{bucket_at, record_start}
 use Rattle.buckets_laws.proofs.WholeLaws.{whole_long}
 use Rattle.buckets.specs.Kept.{node_at, kept_nodes, KeptWith}
