@@ -29,7 +29,7 @@ returns-then-nearer c =
     let a = c.args in
     let h = c.loop-i-test.true in
     let e = nearer_lent a.memory.now a.target.now c.requires.2 (get_or a.kept.starts (l.i - 1) 0) a.at (c.requires.0.starts.inside (l.i - 1) (omega arith)) c.requires.1
-    c.nearer.result c.nearer.ensures.answers in
+    c.nearer.result c.nearer.ensures in
     let q = scan_stops a.memory.now a.target.now a.kept c.requires.0 a.at (l.i - 1) (omega arith)
     (sym e ∙ c.if-nearer.true) (let i = l.invariant.1 in omega arith) in
     omega arith
@@ -40,7 +40,7 @@ loop-i-preserved c =
     let a = c.args in
     let h = c.loop-i-test.true in
     let e = nearer_lent a.memory.now a.target.now c.requires.2 (get_or a.kept.starts (l.i - 1) 0) a.at (c.requires.0.starts.inside (l.i - 1) (omega arith)) c.requires.1
-    c.nearer.result c.nearer.ensures.answers in (
+    c.nearer.result c.nearer.ensures in (
       omega arith,
       scan_goes_on a.memory.now a.target.now a.kept c.requires.0 a.at (l.i - 1) (omega arith) (sym e ∙ c.if-nearer.false),
     )
