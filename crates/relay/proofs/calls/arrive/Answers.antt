@@ -10,7 +10,7 @@ pub returns-then-out-lt-LEAST_OUTPUT : goal.returns-then-out-lt-LEAST_OUTPUT
 unfolding answer_of
 returns-then-out-lt-LEAST_OUTPUT c =
     let a = c.args in
-    record { long = ?; leaves = too_short 40 32 a.memory.now a.out.now (arrive a.key.0) c.if-out-lt-LEAST_OUTPUT.true }
+    record { long = c.well_formed.1.0.1.1.0.1.0.1; leaves = too_short 40 32 a.memory.now a.out.now (arrive a.key.0) c.if-out-lt-LEAST_OUTPUT.true }
 
 pub returns-then-not-is_whole : goal.returns-then-not-is_whole
 unfolding answer_of
@@ -18,7 +18,7 @@ returns-then-not-is_whole c =
     let a = c.args in
     let call = arrive a.key.0 in
     record {
-      long = ?;
+      long = c.well_formed.1.0.1.1.0.1.0.1;
       leaves = long_enough 40 32 a.memory.now a.out.now call c.if-out-lt-LEAST_OUTPUT.false _ _ _
           (not_whole 40 32 a.memory.now a.out.now call (sym c.is_whole.ensures ∙ c.if-not-is_whole.true));
     }
@@ -31,7 +31,7 @@ returns c =
     let a = c.args in
     let call = arrive a.key.0 in
     record {
-      long = ?;
+      long = c.well_formed.1.0.1.1.0.1.0.1;
       leaves = long_enough 40 32 a.memory.now a.out.now call c.if-out-lt-LEAST_OUTPUT.false _ _ _
           (is_tested 40 32 a.memory.now a.out.now call (sym c.is_whole.ensures ∙ c.if-not-is_whole.false) _ _ _ c.step.ensures);
     }

@@ -14,7 +14,7 @@ pub tell_both-requires : goal.tell_both-requires
 tell_both-requires c =
     let a = c.args in
     let w = c.response-next in
-    let next = response_next a.seat.0 a.number.0 a.wanted.0 (?) a.out.now 0 w.result w.new.out (response_fits a.number.0 a.wanted.0 (given a.number.0 c.requires.2) (omega arith) w.ensures) in
+    let next = response_next a.seat.0 a.number.0 a.wanted.0 c.well_formed.1.1.1.1.1.0.1.1.0.1.0.1 a.out.now 0 w.result w.new.out (response_fits a.number.0 a.wanted.0 (given a.number.0 c.requires.2) (omega arith) w.ensures) in
     let o = c.of-peer in
     let right = found_right (peer_wanting a.seats a.numbers a.memory.now a.seat.0 a.key.0 a.wanted.0) o.result o.ensures in
     (omega arith, c.requires.2, right)
