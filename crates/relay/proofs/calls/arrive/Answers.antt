@@ -1,6 +1,5 @@
 -- `calls::arrive` meets its contract: the tests, then the step. Assumes nothing.
-use mathlib.Core.Path.{◌≡◌, sym, ◌∙◌}
-use lib.ListN.{length, length-map}
+use mathlib.Core.Path.{sym, ◌∙◌}
 use Rattle.rules.specs.Call.{arrive}
 use Rattle.relay_laws.specs.Calls.{answer_of}
 use Rattle.relay_laws.proofs.CallsLaws.{not_whole, is_tested, too_short, long_enough}

@@ -1,7 +1,5 @@
 -- `request::give` meets its contract: the route, the answer and the notifications. Assumes nothing.
-use mathlib.Core.Path.{◌≡◌, sym, ◌∙◌}
 use native.Mathlib.Omega.{arith}
-use lib.ListN.{length, length-map}
 use Rattle.room_laws.specs.Lookup.{peer_wanting}
 use Rattle.records.specs.Output.{given}
 use Rattle.records.proofs.Fits.{response_fits}
