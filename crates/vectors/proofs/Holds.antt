@@ -147,6 +147,7 @@ row_holds (list_row target size news holding answers) h =
 
 pub all_hold : (rows : List Row) → test_all rows ≡ true → (row : Row) → In row rows → Says row
 unfolding test_all
+all_hold [] h r i = elim i [ ]
 all_hold (row ∷ rows) h r here = row_holds row (first (test_row row) _ h)
 all_hold (other ∷ rows) h r (later i) = all_hold rows (second (test_row other) _ h) r i
 
