@@ -24,12 +24,7 @@ fn count_of(given: Answer) -> i32
 }
 
 // A key arrives; one that is seated leaves first: the byte count of what is sent, and its seat is set; or minus 10, 11 or 1, and the seat's place is left.
-pub fn banavoge_arrive(
-    room: &mut [u8],
-    key: &[u8; 32],
-    out: &mut [u8],
-    seat: &mut u8,
-) -> i32
+pub fn banavoge_arrive(room: &mut [u8], key: &[u8; 32], out: &mut [u8], seat: &mut u8) -> i32
     ensures { ToldAs (arrival_told seat.old) (Arrives 40 32 key.now room.old out.old room.new out.new) (told result seat.new) }
 {
     match calls::arrive(room, Key(*key), out) {
