@@ -87,9 +87,9 @@ module _ (sizes : Sizes) (start : Start) (past : Past) (room : Room) (whole : Wh
       unfolding room_after accept apply_all
       own_room_kept = rw own_outcome
 
-      pub own_key : OwnKey start past seat key (event room (packet_call seat bytes))
+      pub own_key_lem : OwnKey start past seat key (event room (packet_call seat bytes))
       unfolding event accept sitter sits_after
-      own_key = record {
+      own_key_lem = record {
         answer = rw own_outcome;
         sent = rw own_outcome;
         seats = λ here. refl;
@@ -126,5 +126,5 @@ module _ (sizes : Sizes) (calls : List Call) (before : List Event) (e : Event) (
   own_key_from_empty r =
       from_empty_lem sizes (λ past e. e.call ≡ packet_call seat bytes → sitter (from_empty sizes) past seat ≡ client_of key → OwnKey (from_empty sizes) past seat key e)
       (λ past room whole tie call c by.
-      subst (λ (x : Call). OwnKey (from_empty sizes) past seat key (event room x)) (sym c) (own_key sizes (from_empty sizes) past room whole tie seat key by bytes r))
+      subst (λ (x : Call). OwnKey (from_empty sizes) past seat key (event room x)) (sym c) (own_key_lem sizes (from_empty sizes) past room whole tie seat key by bytes r))
       calls before e later t c by

@@ -1,6 +1,6 @@
 // Keys: equality, and which of two is nearer to a third.
 ghost use Rattle.std.specs.Prelude.{◌≡◌};
-ghost use Rattle.key.specs.Keys.{same_key, Compares};
+ghost use Rattle.key.specs.Keys.{same_key, nearer};
 
 use key::{Key, in_place};
 
@@ -13,7 +13,7 @@ pub fn banavoge_same_key(a: &[u8; 32], b: &[u8; 32]) -> bool
 
 // Whether `a` is nearer to the target than `b`.
 pub fn banavoge_nearer(target: &[u8; 32], a: &[u8; 32], b: &[u8; 32]) -> bool
-    ensures { Compares target.now a.now b.now result }
+    ensures { result ≡ nearer target.now a.now b.now }
 {
     in_place::nearer(target, a, b)
 }

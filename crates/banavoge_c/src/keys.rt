@@ -1,6 +1,6 @@
 // Keys: equality, and which of two is nearer to a third.
 ghost use Rattle.std.specs.Prelude.{◌≡◌};
-ghost use Rattle.key.specs.Keys.{same_key, Compares};
+ghost use Rattle.key.specs.Keys.{same_key, nearer};
 
 #[unsafe(no_mangle)]
 pub extern "C" fn banavoge_same_key(a: &[u8; 32], b: &[u8; 32]) -> bool
@@ -11,7 +11,7 @@ pub extern "C" fn banavoge_same_key(a: &[u8; 32], b: &[u8; 32]) -> bool
 
 #[unsafe(no_mangle)]
 pub extern "C" fn banavoge_nearer(target: &[u8; 32], a: &[u8; 32], b: &[u8; 32]) -> bool
-    ensures { Compares target.now a.now b.now result }
+    ensures { result ≡ nearer target.now a.now b.now }
 {
     banavoge::keys::banavoge_nearer(target, a, b)
 }

@@ -36,7 +36,7 @@ use Rattle.buckets_laws.specs.Effect.{BucketEffect, base_key, is_kept, taken_by,
 use Rattle.buckets_laws.specs.Calls.{offer_left, Offers, Asks, answer_bytes, nearest_held, nearest_answered, nearest_left}
 use Rattle.buckets_laws.proofs.WholeLaws.{whole_long, whole_bucket, bucket_table}
 use Rattle.buckets_laws.proofs.AfterLaws.{not_kept_full, full_leaves}
-use Rattle.buckets_laws.proofs.BucketStored.{base_key}
+use Rattle.buckets_laws.proofs.BucketStored.{base_key_lem}
 use Rattle.buckets_laws.proofs.HeldLaws.{held_known}
 use Rattle.buckets_laws.proofs.OfferWays.{own_bucket, own_effect, effect_base, effect_own, not_whole_answer, not_whole_left, unknown_answer, unknown_left, known_answer, unkept_answer, unkept_left, kept_left}
 use Rattle.buckets.specs.declared.search.Found.{Found}
@@ -82,7 +82,7 @@ module _ (n : Node) (m : List ℕ) (bytes : Bytes m) (fits : Fits n) where
           e ∙ ap₂ shared_bits (key_itself (take 32 m) (let l = base_long in length_lent m 0 32 (omega arith))) (key_itself (node_key n) fits.1.key.long)
 
       all_bits : eqb (own_bucket m n) 256 ≡ same_key (base_of m) (node_key n)
-      all_bits = base_shares_all (base_of m) (node_key n) (base_key m bytes base_long) fits.1.key
+      all_bits = base_shares_all (base_of m) (node_key n) (base_key_lem m bytes base_long) fits.1.key
 
       -- the base key shares all its bits
       pub offers_base : 256 ≤ r → Offers n m m offer.NotKept
@@ -94,7 +94,7 @@ module _ (n : Node) (m : List ℕ) (bytes : Bytes m) (fits : Fits n) where
               let b = effect_base m n s in
               record { bytes = bytes; node = fits; answers = sym (unkept_answer m n w k base_key b refl); leaves = sym (unkept_left m n w k base_key b refl) }
           by false s =
-              absurd (let l = others_share_fewer (base_of m) (node_key n) (base_key m bytes base_long) fits.1.key (same_differs (base_of m) (node_key n) s) in
+              absurd (let l = others_share_fewer (base_of m) (node_key n) (base_key_lem m bytes base_long) fits.1.key (same_differs (base_of m) (node_key n) s) in
               let q = bits_are in omega arith)
 
       -- another key has a bucket

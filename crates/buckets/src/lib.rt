@@ -2,6 +2,8 @@
 //
 // A bucket is a table of 8 places whose records begin with their key. Every call but `begin` tests all buckets first. Nothing is ever put out: without a call that
 // removes, a full bucket holds the same keys for good. Where nodes come from, and who asks them for more, stay with the host.
+#![tactic(auto)]
+
 ghost use Rattle.std.specs.Prelude.{◌≡◌, true};
 ghost use Rattle.table_laws.specs.Table.{is_table};
 ghost use Rattle.buckets_laws.specs.Layout.{bucket_size, record_length};

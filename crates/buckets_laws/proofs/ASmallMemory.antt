@@ -129,9 +129,9 @@ unfolding bucket_whole is_table fits_table table_whole listed rising rising_afte
 doubled_key = refl
 
 -- the base key shares 256 bits with itself, and the last bucket is 255
-pub base_key : bucket_whole (key 100) 255 bucket1 ≡ false
+pub base_key_lem : bucket_whole (key 100) 255 bucket1 ≡ false
 unfolding bucket_whole all_belong belongs shared_bits alike bits bits_of bucket_nodes record_node record_at listed is_table fits_table table_whole rising rising_after
-base_key = refl
+base_key_lem = refl
 
 pub short_not_whole : buckets_whole small ≡ false
 unfolding buckets_whole

@@ -19,8 +19,8 @@ use Rattle.table_laws.proofs.BytesKept.{bytes_splice}
 use Rattle.buckets_laws.specs.Layout.{base_of, bucket_at, with_bucket}
 
 -- the base key is a key
-pub base_key : (m : List ℕ) → Bytes m → 106784 ≤ length m → IsKey (base_of m)
-base_key m b l = record { long = length-take-le 32 m (omega arith); bytes = bytes_take 32 m b }
+pub base_key_lem : (m : List ℕ) → Bytes m → 106784 ≤ length m → IsKey (base_of m)
+base_key_lem m b l = record { long = length-take-le 32 m (omega arith); bytes = bytes_take 32 m b }
 
 pub bucket_bytes : (m : List ℕ) (b : ℕ) → Bytes m → Bytes (bucket_at m b)
 unfolding bucket_at

@@ -105,8 +105,8 @@ module _ (m : List ℕ) (n : Node) (fits : Fits n) (w : buckets_whole m ≡ true
       (stored_each m (own_bucket m n) after (whole_long m w) low own_long (λ (c : ℕ) (t : List ℕ). In x (held_in m c) → In x (bucket_nodes t))
       (λ j. after_others before own_table n fits x j d) (λ c h j. j) q.0 q.1 q.2)
 
-  kept_in : is_kept (own_effect m n) ≡ true → In n (held_nodes (kept_in m n))
-  kept_in q =
+  kept_in_lem : is_kept (own_effect m n) ≡ true → In n (held_nodes (kept_in m n))
+  kept_in_lem q =
       in_bucket_held (kept_in m n) n (own_bucket m n) low
       (subst (λ (t : List ℕ). In n (bucket_nodes t)) (sym kept_own) (after_kept before own_table n fits q))
 
@@ -172,7 +172,7 @@ module _ {n : Node} {m left : List ℕ} {said : OfferAnswer} (o : Offers n m lef
   pub kept_is_held : said ≡ offer.Kept → In n (held_nodes left)
   kept_is_held =
       offer_ways o (λ (l : List ℕ) (a : OfferAnswer). a ≡ offer.Kept → In n (held_nodes l)) (λ w e. refused_not_kept BucketsNotWhole e)
-      (λ w k e. refused_not_kept UnknownFamily e) (λ w k s e. never_kept e) (λ w k b f e. never_kept e) (λ w k b q e. kept_in m n o.node w b q)
+      (λ w k e. refused_not_kept UnknownFamily e) (λ w k s e. never_kept e) (λ w k b f e. never_kept e) (λ w k b q e. kept_in_lem m n o.node w b q)
 
   -- one that is not leaves every byte
   pub unkept_leaves : (said ≡ offer.Kept → ⊥) → left ≡ m

@@ -22,7 +22,7 @@ use Rattle.buckets_laws.specs.Effect.{BucketEffect, full, base_key, taken_by, bu
 use Rattle.buckets_laws.specs.Calls.{offer_answered, offer_left, Offers}
 use Rattle.buckets_laws.proofs.WholeLaws.{whole_long}
 use Rattle.buckets_laws.proofs.AfterLaws.{not_kept_full}
-use Rattle.buckets_laws.proofs.BucketStored.{base_key}
+use Rattle.buckets_laws.proofs.BucketStored.{base_key_lem}
 
 -- the bucket of a node's key
 abbrev pub own_bucket : List ℕ → Node → ℕ
@@ -50,7 +50,7 @@ module _ (m : List ℕ) (n : Node) where
   -- a key other than the base key has a bucket
   pub own_low : Bytes m → Fits n → buckets_whole m ≡ true → same_key (base_of m) (node_key n) ≡ false → own_bucket m n < 256
   own_low b fits w e =
-      others_share_fewer (base_of m) (node_key n) (base_key m b (whole_long m w)) fits.1.key (same_apart (base_of m) (node_key n) e)
+      others_share_fewer (base_of m) (node_key n) (base_key_lem m b (whole_long m w)) fits.1.key (same_apart (base_of m) (node_key n) e)
 
   -- ---- the memory, by the effect
 

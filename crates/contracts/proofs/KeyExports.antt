@@ -1,6 +1,6 @@
 -- The exports on keys. Each contract is what stands here, and asks nothing of the caller. Assumes nothing.
 use mathlib.Core.Path.{◌≡◌}
-use Rattle.key.specs.Keys.{same_key, Compares}
+use Rattle.key.specs.Keys.{same_key, nearer}
 use Rattle.banavoge.proofs.keys.banavoge_same_key.Kinds as same-key-kinds
 use Rattle.banavoge.proofs.keys.banavoge_same_key.Reads as same-key-reads
 use Rattle.banavoge.proofs.keys.banavoge_nearer.Kinds as nearer-kinds
@@ -14,5 +14,5 @@ banavoge_same_key_lem = record { asks_nothing = λ κs args. tt; gives = λ κs 
 
 pub banavoge_nearer_lem : Promises 3 nearer-kinds.ps nearer-kinds.r nearer-reads.Asked nearer-reads.Post
     (λ κs (target, (a, (b, _))) answer _.
-    Compares target.now a.now b.now answer)
+    answer ≡ nearer target.now a.now b.now)
 banavoge_nearer_lem = record { asks_nothing = λ κs args. tt; gives = λ κs args answer left p. p }

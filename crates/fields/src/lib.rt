@@ -1,4 +1,6 @@
 // What a packet that was read has, as plain numbers: the form in which a host gets it. What a kind does not have is 0.
+#![tactic(auto)]
+
 ghost use Rattle.std.specs.Prelude.{◌≡◌};
 ghost use Rattle.fields.specs.Fields.{fields, client_shown, relay_shown};
 

@@ -1,5 +1,5 @@
 -- Document 02, Req 01: what a call of the reader answers, and every byte of its keep afterwards.
-use Rattle.std.specs.Prelude.{cond, List, ◌++◌, ℕ, ◌+◌, ◌-◌, leb, length, take, drop}
+use Rattle.std.specs.Prelude.{cond, List, ◌++◌, ℕ, ◌-◌, leb, length, take, drop}
 use Rattle.refusal.specs.declared.Refusal.{Refusal}
 use Rattle.refusal.specs.declared.Refusal.TheVariants.{OutputTooShort, BadFrame}
 use Rattle.frame.specs.declared.Front.{Front}

@@ -1,5 +1,7 @@
 // Frames of a TCP stream. Document 02: "Each frame is a 2-byte length and that many sealed bytes." Here are the types that a call of the reader takes and
 // answers; `specs/` has what it answers, `proofs/` the laws. The functions stand in `frame_reader`.
+#![tactic(auto)]
+
 use refusal::Refusal;
 
 // What stands at the front of bytes: the start of a frame whose end is still to come, a length that no frame has, or a whole frame of so many bytes.

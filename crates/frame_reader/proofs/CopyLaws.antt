@@ -5,19 +5,16 @@ use Prim.Native.Nat.{ℕ, ◌+◌, ◌-◌, ◌≤◌}
 use native.Mathlib.Omega.{arith}
 use lib.ListN.{length, take, drop, length-append}
 use lib.Seq.{length-take-le, drop-drop}
-use Rattle.wire.proofs.Copy.{copy_whole, length_lent}
 use Rattle.frame.specs.Reader.{over}
 use Rattle.frame.proofs.StreamLaws.{lacking}
 
 -- the part of the keep behind the bytes held comes back with the bytes copied: they stand behind those held
-pub copied : (held n : ℕ) (keep src part : List ℕ) → n ≡ length src → held + n ≤ length keep
-    → part ≡ take (length src) src ++ drop (length src) (take n (drop held keep))
+pub copied : (held n : ℕ) (keep src part : List ℕ) → n ≡ length src → held + n ≤ length keep → part ≡ src
     → take held keep ++ (part ++ drop n (drop held keep)) ≡ over (take held keep ++ src) keep
 copied held n keep src part e h p =
-    let whole : part ≡ src = p ∙ copy_whole src (take n (drop held keep)) (length_lent keep held n h ∙ e) in
     let all : held + n ≡ length (take held keep ++ src) =
     omega (arith, length-append (take held keep) src, length-take-le held keep (omega (arith, h)), e) in
-    ap₂ (λ (x y : List ℕ). take held keep ++ (x ++ y)) whole (drop-drop n held keep ∙ ap (λ (m : ℕ). drop m keep) all)
+    ap₂ (λ (x y : List ℕ). take held keep ++ (x ++ y)) p (drop-drop n held keep ∙ ap (λ (m : ℕ). drop m keep) all)
     ∙ sym (append_assoc (take held keep) src (drop (length (take held keep ++ src)) keep))
 
 -- the bytes held and what a frame lacks are the frame

@@ -1,5 +1,5 @@
 -- A complete frame as a part of one of two lent slices, the piece or the keep: "A complete frame is shown either inside the piece or inside the keep". What a contract
--- sees of a lent slice is `ptr`, the block of memory that it points into and the offset there, and `now`, its bytes.
+-- sees of a lent slice is `ref_ptr`, the block of memory that it points into and the offset there, and `now`, its bytes.
 use Rattle.std.specs.Prelude.{cond, List, ◌≡◌, ℕ, ◌+◌, ◌-◌, ◌≤◌, leb, length, take, drop}
 use Rattle.std.specs.Borrow.{Bor}
 use Rattle.frame.specs.declared.Shown.{Shown}
@@ -16,8 +16,8 @@ pub record LentPart : Type 0 where
 
 -- the slice `r` is that part: it points into the whole, at the part's place, and its bytes are those that stand there
 pub record IsPart (part : LentPart) (r : Lent) : Type 0 where
-  pub block : r.ptr.0 ≡ part.whole.ptr.0
-  pub offset : r.ptr.1 ≡ part.whole.ptr.1 + part.at
+  pub block : r.ref_ptr.0 ≡ part.whole.ref_ptr.0
+  pub offset : r.ref_ptr.1 ≡ part.whole.ref_ptr.1 + part.at
   pub bytes : r.now ≡ take part.count (drop part.at part.whole.now)
   pub inside : part.at + part.count ≤ length part.whole.now
 

@@ -3,6 +3,8 @@
 //
 // Between two calls the reader is one number, how many bytes at the front of the keep start an unfinished frame; what stands behind them is never read. After 18
 // the number is one that no keep makes good.
+#![tactic(auto)]
+
 ghost use Rattle.std.specs.Prelude.{◌≡◌, ◌+◌, ◌≤◌, length, take};
 ghost use Rattle.frame.specs.Frames.{front};
 ghost use Rattle.frame.specs.declared.Front.TheVariants.{Unfinished, Whole};
@@ -64,9 +66,9 @@ fn refused(why: Refusal, held: usize) -> Read
 
 // The piece goes on after the bytes held, which start an unfinished frame.
 fn go_on(held: usize, keep: &mut [u8], piece: &[u8]) -> Read
-    requires keep_bytes_bound { keep_bytes ≤ length keep.old }
-    requires held_bound { held ≤ length keep.old }
-    requires keep_value { front (take held keep.old) ≡ Unfinished }
+    requires long_keep { keep_bytes ≤ length keep.old }
+    requires held_in_keep { held ≤ length keep.old }
+    requires unfinished { front (take held keep.old) ≡ Unfinished }
     ensures value { result ≡ (read_held Unfinished (take held keep.old) piece.now keep.old).read }
     ensures keep_after { keep.new ≡ (read_held Unfinished (take held keep.old) piece.now keep.old).keep }
 {
@@ -97,9 +99,9 @@ fn hold(held: usize, keep: &mut [u8], piece: &[u8]) -> Read
 
 // Shows a whole frame of so many bytes; of one that began in an earlier piece, what it lacks is copied behind the bytes held.
 fn finish(size: usize, held: usize, keep: &mut [u8], piece: &[u8]) -> Read
-    requires size_bound { size ≤ length keep.old }
-    requires size_bound_2 { size ≤ held + length piece.now }
-    requires held_le_size { held ≤ size }
+    requires fits_keep { size ≤ length keep.old }
+    requires is_there { size ≤ held + length piece.now }
+    requires past_held { held ≤ size }
     ensures value { result ≡ (read_front (Whole size) (take held keep.old) piece.now keep.old).read }
     ensures keep_after { keep.new ≡ (read_front (Whole size) (take held keep.old) piece.now keep.old).keep }
 {

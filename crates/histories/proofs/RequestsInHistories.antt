@@ -30,7 +30,7 @@ use Rattle.after_calls.specs.Told.{RequestTells}
 use Rattle.after_calls.specs.OwnKey.{NoneForItself, ZeroGround, OwnKey}
 use Rattle.after_calls.proofs.OneSeat.{one_seat, connected_differ, asked_or_not}
 use Rattle.after_calls.proofs.Told.{request_tells, request_tells_from_empty}
-use Rattle.after_calls.proofs.OwnKey.{none_for_itself, zero_exactly, own_outcome, own_key, zero_exactly_from_empty, own_key_from_empty}
+use Rattle.after_calls.proofs.OwnKey.{none_for_itself, zero_exactly, own_outcome, own_key_lem, zero_exactly_from_empty, own_key_from_empty}
 use Rattle.room_laws.specs.View.{view_room}
 use Rattle.room_laws.specs.Store.{store_all}
 use Rattle.room_laws.proofs.WholeLaws.{whole_view}
@@ -111,7 +111,7 @@ module _ (s n : ℕ) (lents : List Lent) (events : List Event) (b : List ℕ) (h
     own_key_after_calls =
         after_calls_lem s n (λ past e. e.call ≡ packet_call seat bytes → sitter (from_empty (sizes_of s n)) past seat ≡ client_of key → OwnKey (from_empty (sizes_of s n)) past seat key e)
         (λ past room whole tie call c by.
-        subst (λ (x : Call). OwnKey (from_empty (sizes_of s n)) past seat key (event room x)) (sym c) (own_key (sizes_of s n) (from_empty (sizes_of s n)) past room whole tie seat key by bytes r))
+        subst (λ (x : Call). OwnKey (from_empty (sizes_of s n)) past seat key (event room x)) (sym c) (own_key_lem (sizes_of s n) (from_empty (sizes_of s n)) past room whole tie seat key by bytes r))
         lents events b h lent asking b' step long refl by
 
     own_left : with_output s n b out (packet_call seat bytes) ≡ answer_only seat 0 key

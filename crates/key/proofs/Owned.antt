@@ -1,15 +1,12 @@
 -- What holding a key by value tells of its bytes: there are 32, each below 256. Assumes nothing.
-use mathlib.Core.Path.{◌∙◌, sym}
-use mathlib.Core.List.{List, [], ◌∷◌, map}
+use mathlib.Core.List.{List, [], ◌∷◌}
 use Prim.Native.Nat.{ℕ}
-use mir.Syntax.{w8}
 use mir.Val.{Val}
 use denote.Builtin.{u8}
 use denote.Array.{each}
 use denote.RattleType.{owns, Valss}
 use denote.Shadow.{shadow}
 use denote.Struct.Declared.{shape}
-use lib.ListN.{length-map}
 use Rattle.wire.specs.Numbers.{Bytes}
 use Rattle.key.specs.declared.Key.{Key}
 use Rattle.key.specs.Keys.{IsKey}

@@ -3,7 +3,7 @@
 // A key is the first 32 bytes, or the key of zeros where there are fewer, as for `Key::read`, so every function answers for any bytes. Where there
 // are enough bytes, the keys are compared where they stand and none is copied: a search through many keys calls these in its inner loop.
 ghost use Rattle.std.specs.Prelude.{◌≡◌, ◌<◌, length, get_or};
-ghost use Rattle.key.specs.Keys.{same_key, nearer, Compares, key_of};
+ghost use Rattle.key.specs.Keys.{same_key, nearer, key_of};
 ghost use Rattle.key.specs.Bits.{shared_bits};
 
 use crate::Key;
@@ -60,7 +60,7 @@ pub fn equals(a: &[u8], b: &[u8]) -> bool
 // Whether `a` is nearer to the target than `b`. Whether the parts are 32 bytes long is tested after the loop: the compiler then does not know how often the
 // loop runs, does not unroll it, and inlines it into every caller, which so needs no stack for a call. Parts of one other length are gone through twice.
 pub fn nearer(target: &[u8], a: &[u8], b: &[u8]) -> bool
-    ensures { Compares (key_of target.now) (key_of a.now) (key_of b.now) result }
+    ensures { result ≡ nearer (key_of target.now) (key_of a.now) (key_of b.now) }
 {
     if target.len() == a.len() && a.len() == b.len() {
         let answer = nearer_of_parts(target, a, b);

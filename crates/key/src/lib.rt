@@ -2,8 +2,10 @@
 //
 // Here live its equality, the order of two keys by their distance to a third, and its bytes in lent memory. `in_place` compares keys where they stand
 // in lent memory. Where keys come from, and the secret half of each, stay with the host.
+#![tactic(auto)]
+
 ghost use Rattle.std.specs.Prelude.{◌≡◌};
-ghost use Rattle.key.specs.Keys.{same_key, Compares, key_of, with_key};
+ghost use Rattle.key.specs.Keys.{same_key, nearer, key_of, with_key};
 
 pub mod in_place;
 
@@ -30,7 +32,7 @@ impl Key {
 
     // Whether `a` is nearer to this key than `b`. The first byte in which `a` and `b` differ decides, so no distance is ever made.
     pub fn nearer(self, a: Key, b: Key) -> bool
-        ensures { Compares self.0 a.0 b.0 result }
+        ensures { result ≡ nearer self.0 a.0 b.0 }
     {
         let mut i = 0;
         while i < Key::BYTES {

@@ -1,20 +1,20 @@
 -- Laws of slots moved where they stand: the turns of the loops that move bytes by one slot, and the bytes of the slots with one node replaced, one
 -- put between them, and one taken from between them. Assumes nothing.
-use mathlib.Core.Path.{◌≡◌, ◌∙◌, refl, sym, ap, ap₂}
+use mathlib.Core.Path.{◌≡◌, ◌∙◌, sym, ap, ap₂}
 use mathlib.Core.List.{List, [], ◌∷◌, ◌++◌, append_assoc}
-use Prim.Native.Nat.{ℕ, zero, suc, ◌+◌, ◌-◌, ◌*◌, ◌<◌, ◌≤◌}
-use native.Mathlib.Nat.{le_of_suc-le-suc, not-suc-le-zero, sub-zero, sub_self, suc-sub-suc}
+use Prim.Native.Nat.{ℕ, suc, ◌+◌, ◌-◌, ◌*◌, ◌<◌, ◌≤◌}
+use native.Mathlib.Nat.{sub_self}
 use native.Mathlib.Omega.{arith}
 use native.Mathlib.Numerals.{add-one}
 use lib.ListN.{length, get_or, take, drop, set, length-append, length-drop, take-append-drop, get_or-append}
-use lib.Seq.{length-take-le, take_all, take-nil, take-suc, take-take, take-append-le, drop-cons, drop-drop, drop_at, set_at, set_split, append_snoc, get_or-take, get_or-drop, get_or-append-add}
+use lib.Seq.{length-take-le, take_all, take-suc, take-take, take-append-le, drop-cons, drop-drop, drop_at, set_at, set_split, append_snoc, get_or-take, get_or-drop, get_or-append-add}
 use Rattle.wire.specs.Numbers.{Bytes}
 use Rattle.wire.proofs.Numbers.{bytes_drop}
 use Rattle.wire.proofs.Copy.{written_byte, written_part, length_lent}
 use Rattle.lists.specs.Insert.{insert_at, remove_at}
 use Rattle.lists.proofs.Shift.{front_in, front_out}
 use Rattle.node.specs.declared.Node.{Node}
-use Rattle.lent_list_laws.specs.Layout.{slot_at, slots_at, slot_bytes, slots_bytes}
+use Rattle.lent_list_laws.specs.Layout.{slots_at, slot_bytes, slots_bytes}
 use Rattle.lent_list_laws.proofs.SlotLaws.{slots_number, slots_taken, slots_dropped, slots_append, slots_of_bytes}
 
 -- ---- the turns of the loops

@@ -2,6 +2,8 @@
 //
 // An offer and a removal do what those of `nearest` do, the test of the whole list first, where the list stands: keys are compared in place, and only the
 // slots that move are copied. A refused one writes nothing. Where the memory comes from, and how long it lives, stay with the host.
+#![tactic(auto)]
+
 ghost use Rattle.std.specs.Prelude.{◌≡◌};
 ghost use Rattle.lent_list_laws.specs.Calls.{short_refusal, Begins, Offers, Removes};
 ghost use Rattle.lent_list.specs.Held.{held_at, nothing_shown};

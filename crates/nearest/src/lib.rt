@@ -2,6 +2,8 @@
 //
 // A list is a value: a call takes it and hands it back, changed or as it stood, with its answer beside it. Where nodes come from, and who asks
 // them for more, stay with the host.
+#![tactic(auto)]
+
 ghost use Rattle.std.specs.Prelude.{◌≡◌};
 ghost use Rattle.nearest.specs.Lists.{default_size, empty_of, size_right};
 ghost use Rattle.nearest.specs.Calls.{begun, checked, offered, removed};

@@ -1,6 +1,4 @@
 -- What holding a node by value tells of it: 16 address bytes, a port of 16 bits, a key of 32 bytes. Assumes nothing.
-use mathlib.Core.Path.{◌∙◌, sym}
-use lib.ListN.{length-map}
 use denote.RattleType.{owns, Valss}
 use denote.Shadow.{shadow}
 use denote.Struct.Declared.{shape}
@@ -14,8 +12,8 @@ is_node n values g =
     let address = g.1.0 in
     let key = g.1.1.1.0.1.1.0 in
     record {
-      long = sym (length-map n.address _) ∙ address.1.0.1;
+      long = address.1.0.1;
       bytes = each_byte n.address address.0 address.1.1;
       port = g.1.1.0.1;
-      key = record { long = sym (length-map n.key.0 _) ∙ key.1.0.1; bytes = each_byte n.key.0 key.0 key.1.1 };
+      key = record { long = key.1.0.1; bytes = each_byte n.key.0 key.0 key.1.1 };
     }

@@ -27,7 +27,7 @@ use Rattle.node.specs.Families.{packed_length}
 use Rattle.node.specs.Nodes.{NodeInfo, packed_node, node_of, read_node, FitsNode}
 use Rattle.node.specs.Values.{info_of, value_of}
 use Rattle.node.specs.Steps.{Showing, shows, ends, refuses, showing_read, step_of, place_after, count_after, showing_of, shown_by, node_by, shown_step, Steps}
-use Rattle.node.specs.Walks.{Ending, ended, unfinished, Walk, walk_on, walk_from, packed_nodes, AllFit, Stops, at_end, four_shown, unknown, cut_short, Walked, Calls, says_end, is_refused, shows_node}
+use Rattle.node.specs.Walks.{Ending, ended, stopped, unfinished, Walk, walk_on, walk_from, packed_nodes, AllFit, Stops, at_end, four_shown, unknown, cut_short, Walked, Calls, says_end, is_refused, shows_node}
 use Rattle.node.proofs.NodeLaws as nodes
 use Rattle.node.proofs.StepLaws.{step_end, step_full, step_read, exact_answer}
 
@@ -51,6 +51,8 @@ module _ (list : List ℕ) (place count : ℕ) where
   unfolding walk_on showing_read
   stops_step steps [] ended h d at_end =
       by_step steps list place count ends (step_end list place count (let e = ap length d in let l = length-drop place list in omega arith))
+  stops_step steps [] (stopped _) h d s = elim s [ ]
+  stops_step steps [] unfinished h d s = elim s [ ]
   stops_step steps (byte ∷ rest) _ h d (four_shown k) = by_step steps list place count _ (step_full list place count (left_before byte rest d) k)
   stops_step steps (byte ∷ rest) _ h d (unknown k e) =
       by_step steps list place count _

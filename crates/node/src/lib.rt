@@ -2,6 +2,8 @@
 // "packed node format".
 //
 // A node says where a peer is reached and by which key. Nothing here opens a connection or keeps what it has read: that stays with the host.
+#![tactic(auto)]
+
 pub mod family;
 pub mod reader;
 pub mod walk;

@@ -16,7 +16,7 @@ start_of bytes part = cond (leb part.start (length bytes)) (cond (leb part.lengt
 abbrev pub no_part : Part
 no_part = record { start = 0; length = 0 }
 
--- "as part of the lent packet": what a returned slice holds, and where it stands. A reference points into a block, at an offset (`.ptr`); the slice is in the
+-- "as part of the lent packet": what a returned slice holds, and where it stands. A reference points into a block, at an offset (`.ref_ptr`); the slice is in the
 -- block of the lent packet, so many bytes behind the packet's first.
 pub record PartAt (packet : Bor (List ℕ)) (part : Part) (slice : Bor (List ℕ)) : Type 0 where
   pub holds : slice.now ≡ part_of packet.now part

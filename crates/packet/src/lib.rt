@@ -3,6 +3,8 @@
 //
 // Packets come and go opened: sealing, sockets and framing stay with the host. Nothing here keeps state; a reader shows what stands in the
 // lent packet.
+#![tactic(auto)]
+
 pub mod client;
 pub mod kind;
 mod parts;

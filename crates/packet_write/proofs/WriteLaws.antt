@@ -8,7 +8,7 @@ use lib.Dec.{leb}
 use lib.Seq.{take-append_seam}
 use lib.ListN.{length, take, drop, set, length-set}
 use borrow.Author.Tests.{le-leb, lt-leb}
-use Rattle.wire.proofs.Copy.{written_first, written_part, length_lent, length_written, copy_whole}
+use Rattle.wire.proofs.Copy.{written_first, written_part, length_lent, length_written}
 use Rattle.key.specs.Keys.{with_key}
 use Rattle.key.proofs.Lent.{with_key_whole}
 use Rattle.refusal.specs.declared.Refusal.{Refusal}
@@ -83,19 +83,15 @@ module _ (out new key : List ℕ) (k : ℕ) (room : 33 ≤ length out) (e : new 
 
   -- and then bytes are copied behind
   pub written_key_and_bytes : (copied bytes : List ℕ) (m : ℕ) → length key ≡ 32 → m ≡ length bytes → 33 + length bytes ≤ length out
-      → copied ≡ take (length bytes) bytes ++ drop (length bytes) (take m (drop 33 (with_kind_and_key out k new)))
+      → copied ≡ bytes
       → take 33 (with_kind_and_key out k new) ++ (copied ++ drop m (drop 33 (with_kind_and_key out k new))) ≡ (k ∷ (key ++ bytes)) ++ drop (33 + length bytes) out
   written_key_and_bytes copied bytes m h q all f =
-      let l = length_written_key h in
-      let b : copied ≡ bytes = f ∙ copy_whole bytes _ (length_lent (with_kind_and_key out k new) 33 m (omega arith) ∙ q) in
-      ap₂ (λ (x l : List ℕ). take 33 l ++ (x ++ drop m (drop 33 l))) b written_key ∙ written_part (k ∷ key) bytes out 33 m (omega arith)
+      ap₂ (λ (x l : List ℕ). take 33 l ++ (x ++ drop m (drop 33 l))) f written_key ∙ written_part (k ∷ key) bytes out 33 m (omega arith)
       ∙ ap (λ (n : ℕ). (k ∷ (key ++ bytes)) ++ drop (33 + n) out) q
 
 -- a first byte, and then bytes copied behind
-pub written_byte_and_bytes : (out copied bytes : List ℕ) (k m : ℕ) → m ≡ length bytes → 1 + length bytes ≤ length out
-    → copied ≡ take (length bytes) bytes ++ drop (length bytes) (take m (drop 1 (set out 0 k)))
+pub written_byte_and_bytes : (out copied bytes : List ℕ) (k m : ℕ) → m ≡ length bytes → 1 + length bytes ≤ length out → copied ≡ bytes
     → take 1 (set out 0 k) ++ (copied ++ drop m (drop 1 (set out 0 k))) ≡ (k ∷ bytes) ++ drop (1 + length bytes) out
 written_byte_and_bytes out copied bytes k m q all f =
-    let b : copied ≡ bytes = f ∙ copy_whole bytes _ (length_lent (set out 0 k) 1 m (simp length-set (omega arith)) ∙ q) in
-    ap₂ (λ (x l : List ℕ). take 1 l ++ (x ++ drop m (drop 1 l))) b (written_first out k (omega arith)) ∙ written_part (k ∷ []) bytes out 1 m refl
+    ap₂ (λ (x l : List ℕ). take 1 l ++ (x ++ drop m (drop 1 l))) f (written_first out k (omega arith)) ∙ written_part (k ∷ []) bytes out 1 m refl
     ∙ ap (λ (n : ℕ). (k ∷ bytes) ++ drop (1 + n) out) q

@@ -1,5 +1,7 @@
 // The writers, one for each kind that an end sends. Each judges the packet that it would make as the other end's reader does, then whether the
 // output has room (10, last), and only then writes.
+#![tactic(auto)]
+
 ghost use Rattle.std.specs.Prelude.{[], ◌∷◌, ◌++◌};
 ghost use Rattle.wire.specs.Numbers.{bytes_of};
 ghost use Rattle.packet_laws.specs.FromClient.{routing_request, drop_route, oob_send};

@@ -2,6 +2,8 @@
 //
 // The writers stand in `record`, one for each kind of packet that the relay sends; the reader stands here. Nothing else writes or reads a record.
 // `entry` writes what a run of stored calls puts before the records of a call.
+#![tactic(auto)]
+
 ghost use Rattle.std.specs.Prelude.{◌≡◌};
 ghost use Rattle.records.specs.Read.{first_record, shown_first};
 

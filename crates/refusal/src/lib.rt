@@ -1,6 +1,8 @@
 // Why a call is refused: document 01's section "Refusal numbers", in its order, and 18 to 20 of document 02.
 //
 // One enum serves the whole library, so that a host prints every refusal by one table.
+#![tactic(auto)]
+
 ghost use Rattle.std.specs.Prelude.{◌≡◌};
 ghost use Rattle.refusal.specs.Numbers.{refusal_number};
 

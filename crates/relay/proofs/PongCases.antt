@@ -1,13 +1,11 @@
 -- A pong: it clears the ping that is outstanding where it bears its number, and otherwise does nothing. Assumes nothing.
-use mathlib.Core.Path.{◌≡◌, refl, sym, ap, ◌∙◌}
-use mathlib.Core.Bool.{Bool, true, false}
+use mathlib.Core.Path.{◌≡◌, sym, ◌∙◌}
+use mathlib.Core.Bool.{true, false}
 use mathlib.Core.List.{List}
 use mathlib.Core.Logic.{◌≢◌}
 use Prim.Native.Nat.{ℕ}
 use lib.Dec.{eqb}
 use borrow.Author.Tests.{eq-eqb, ne_eqb}
-use Rattle.packet_laws.specs.FromClient.{pong}
-use Rattle.rules.specs.Room.{Key}
 use Rattle.rules.specs.Call.{accepted}
 use Rattle.rules.specs.Outcome.{act, pong_at, accept, sent_bytes, ping_answered}
 use Rattle.room_laws.specs.View.{seat_held}
@@ -15,8 +13,7 @@ use Rattle.room_laws.specs.Whole.{room_whole}
 use Rattle.room_laws.specs.Store.{store, store_all}
 use Rattle.room_laws.specs.Lookup.{outstanding_of}
 use Rattle.room_laws.proofs.LookupLaws.{outstanding_is}
-use Rattle.relay_laws.specs.Calls.{Leaves}
-use Rattle.relay.specs.Steps.{Sits, Pongs}
+use Rattle.relay.specs.Steps.{Pongs}
 
 module _ (s n : ℕ) (b : List ℕ) (whole : room_whole s n b ≡ true) (i number : ℕ) where
   pub pong_clears : outstanding_of s n b i ≡ number → (b' : List ℕ) → b' ≡ store s n b (ping_answered i) → Pongs s n i number b (accepted i 0) b'

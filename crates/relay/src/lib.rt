@@ -3,6 +3,8 @@
 //
 // A call, or a run of stored calls, is made on a room in lent memory, and writes records, each for a seat, into an output that the host lends; sockets,
 // sealing and opening stay with the host.
+#![tactic(auto)]
+
 mod arrive;
 pub mod calls;
 mod carry;

@@ -1,25 +1,20 @@
 -- The parts of a tick on the bytes of a whole room: one departure after the other, then one ping after the other, and both with the clock are the tick. Assumes
 -- nothing.
 use mathlib.Core.Path.{◌≡◌, refl, sym, ap, ap₂, ◌∙◌, subst}
-use mathlib.Core.Bool.{Bool, true, false, ◌&&◌, not, cond, true≢false, false≢true}
+use mathlib.Core.Bool.{Bool, true, false, not, cond, false≢true}
 use mathlib.Core.List.{List, [], ◌∷◌, ◌++◌, map}
-use Prim.Native.Nat.{ℕ, zero, suc, ◌+◌, ◌-◌, ◌^◌, ◌≤◌, ◌<◌}
+use Prim.Native.Nat.{ℕ, suc, ◌+◌, ◌^◌, ◌≤◌, ◌<◌}
 use native.Mathlib.Omega.{arith}
-use lib.Dec.{eqb, ltb, leb}
-use lib.ListN.{get_or, set, length, drop, drop_of_length-le}
+use lib.ListN.{get_or, length, drop, drop_of_length-le}
 use lib.Seq.{drop-cons, drop-set-lt}
-use borrow.Author.Tests.{ltb-false}
 use Rattle.packet_laws.specs.FromRelay.{ping}
 use Rattle.rules.specs.Room.{sizes_of, Held, Seat, vacant, holds, Room, set_clock, set_seats, set_seat, is_vacant, ping_in, seat_at, place_when, places_from}
-use Rattle.rules.specs.Whole.{Whole}
-use Rattle.rules.specs.Call.{tick, accepted, Sent}
+use Rattle.rules.specs.Call.{accepted}
 use Rattle.rules.specs.Outcome.{Change, seat_emptied, ping_sent, clock_set, with_ping, apply, apply_all, Outcome, accept, both, refuse, to, sent_bytes, leave_from, overdue, is_overdue, is_due, leave_each, ping_each, leavers, tick_from}
-use Rattle.rules.proofs.FindLaws.{held_within}
 use Rattle.rules.specs.Outcome as rules
 use Rattle.rules.proofs.TickLaws.{set_each, remaining, leaves_room, room_after_departures}
 use Rattle.rules.proofs.TickInTurn.{remaining_places}
 use Rattle.rules.proofs.TickWithin.{pings_size, departures_within}
-use Rattle.room_laws.specs.Layout.{word_bytes}
 use Rattle.room_laws.specs.View.{view_room}
 use Rattle.room_laws.specs.Whole.{room_whole}
 use Rattle.room_laws.specs.Store.{store, store_all}

@@ -1,12 +1,12 @@
 -- Whether a seat of a whole room is overdue, or due, at a time that is not before the clock: told by the number outstanding, the time of its last ping and
 -- whether it is taken. Assumes nothing.
 use mathlib.Core.Path.{◌≡◌, refl, sym, ap, ap₂, ◌∙◌}
-use mathlib.Core.Bool.{Bool, true, false, ◌&&◌, not, cond, and-false, and-true}
+use mathlib.Core.Bool.{Bool, true, false, ◌&&◌, not, and-false, and-true}
 use mathlib.Core.List.{List}
 use mathlib.Core.Logic.{◌≢◌}
 use Prim.Native.Nat.{ℕ, ◌-◌, ◌≤◌}
 use native.Mathlib.Omega.{arith}
-use lib.Dec.{eqb, ltb, leb}
+use lib.Dec.{eqb, leb}
 use borrow.Author.Tests.{le-ltb, eq-eqb, ne_eqb}
 use Rattle.rules.specs.Room.{Held, Seat, vacant, holds, is_vacant, ping_in, seat_at}
 use Rattle.rules.specs.Outcome.{overdue, is_overdue, is_due}

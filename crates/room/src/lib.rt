@@ -3,6 +3,8 @@
 // laptops".
 //
 // Sizes are parameters here, but for `Room`, which has document 01's. Who calls, what a packet asks for and what is sent stand above; sockets and sealing stay with the host.
+#![tactic(auto)]
+
 pub mod change;
 mod empty;
 pub mod layout;

@@ -3,16 +3,15 @@
 use mathlib.Core.Path.{◌≡◌, refl, sym, ap, ◌∙◌, subst}
 use mathlib.Core.Bool.{Bool, true, false, cond, true≢false, false≢true}
 use mathlib.Core.List.{List, [], ◌∷◌, ◌++◌, map}
-use Prim.Native.Nat.{ℕ, zero, suc, ◌+◌, ◌^◌, ◌≤◌, ◌<◌}
+use Prim.Native.Nat.{ℕ, suc, ◌+◌, ◌^◌, ◌≤◌, ◌<◌}
 use native.Mathlib.Omega.{arith}
 use lib.Dec.{eqb, ltb}
-use lib.ListN.{get_or, length}
+use lib.ListN.{get_or}
 use borrow.Author.Tests.{ltb-false, eqb-true, eqb-false}
-use Rattle.rules.specs.Room.{sizes_of, Held, Seat, vacant, holds, Room, set_clock, set_seats, set_seat, is_vacant, seat_at, place_when, places_from}
-use Rattle.rules.specs.Whole.{Whole}
-use Rattle.rules.specs.Outcome.{Change, clock_set, ping_sent, seat_emptied, with_ping, apply, apply_all, refuse, accept, leave_from, is_overdue, is_due, leave_each, ping_each, leavers, due_seats, tick_from, tick_at}
+use Rattle.rules.specs.Room.{sizes_of, Seat, vacant, holds, Room, set_clock, set_seats, set_seat, is_vacant, seat_at, place_when, places_from}
+use Rattle.rules.specs.Outcome.{Change, ping_sent, with_ping, apply, apply_all, refuse, accept, leave_from, is_overdue, is_due, leave_each, ping_each, leavers, due_seats, tick_from, tick_at}
 use Rattle.rules.proofs.FindLaws.{seat_set, seat_set_other, held_within}
-use Rattle.rules.proofs.TickLaws.{get_d_each, set_each, remaining, due_not_overdue, leave_room, leaves_room, room_after_departures}
+use Rattle.rules.proofs.TickLaws.{get_d_each, remaining, due_not_overdue, leave_room, leaves_room, room_after_departures}
 use Rattle.room_laws.specs.Layout.{word_bytes}
 use Rattle.room_laws.specs.Fits.{Fit, empties, sets, pings, FitAll}
 

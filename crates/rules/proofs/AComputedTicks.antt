@@ -9,7 +9,7 @@ use Prim.Native.Nat.{ℕ}
 use native.Mathlib.Omega.{arith}
 use lib.ListN.{replicate, drop}
 use Rattle.refusal.specs.declared.Refusal.TheVariants.{ZeroPing}
-use Rattle.rules.specs.Room.{Sizes, sizes_of, Ping, Held, vacant, holds, Room, none_since, newcomer, set_ping, set_seats, empty_room, seat_at}
+use Rattle.rules.specs.Room.{Sizes, sizes_of, Held, vacant, holds, Room, none_since, newcomer, set_ping, set_seats, empty_room, seat_at}
 use Rattle.rules.specs.Whole.{Whole}
 use Rattle.rules.specs.Call.{Call, arrive, leave, packet_call, tick, accepted, refused, needed}
 use Rattle.rules.specs.History.{happens}

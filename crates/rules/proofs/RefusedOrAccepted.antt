@@ -15,7 +15,7 @@ use Rattle.packet_laws.specs.Read as read
 use Rattle.packet_laws.specs.FromClient as client
 use Rattle.packet_laws.proofs.ReadBounds.{read_given}
 use Rattle.rules.specs.Room.{Sizes, Key, Route, free, wants, Held, Seat, vacant, holds, Room, Found, none, at, find, seat_of, is_vacant, route_to, is_free, seat_at, route_at, Peer, alone, joined}
-use Rattle.rules.specs.Call.{Call, arrive, leave, packet_call, tick, refused}
+use Rattle.rules.specs.Call.{Call, arrive, leave, packet_call, tick}
 use Rattle.rules.specs.Outcome.{seat_taken, apply_all, Outcome, refuse, accept, room_after, join_outcomes, followed_by, peer, leave_from, take_seat, arrive_from, request_at, drop_at, oob_to, carry_to, data_at, pong_at, act, act_on, packet_from, tick_from, tick_at, outcome}
 use Rattle.rules.specs.History.{event, transcript}
 use Rattle.rules.specs.Transcript.{is_accepted}

@@ -1,14 +1,14 @@
 -- A tick is its parts, one after the other, each from the room that the last left: the clock is set; every seat that is overdue leaves, each as a Leave of its
 -- own; and then every remaining seat that is due is pinged. So "leaves as if it had called" is said with the outcome of a Leave. Assumes nothing.
 use mathlib.Core.Path.{◌≡◌, refl, sym, ap, ap₂, ◌∙◌}
-use mathlib.Core.Bool.{Bool, true, false, ◌&&◌, not, cond, true≢false, false≢true}
-use mathlib.Core.List.{List, [], ◌∷◌, ◌++◌, map}
-use Prim.Native.Nat.{ℕ, suc, ◌-◌}
-use lib.Dec.{eqb, leb}
+use mathlib.Core.Bool.{Bool, true, false, cond, true≢false}
+use mathlib.Core.List.{List, [], ◌∷◌, map}
+use Prim.Native.Nat.{ℕ, suc}
+use lib.Dec.{eqb}
 use lib.ListN.{length}
-use Rattle.rules.specs.Room.{Sizes, Key, Route, free, wants, Held, Seat, vacant, holds, Room, set_clock, set_seats, set_seat, Found, none, at, find, seat_of, ping_in, seat_at, place_when, places_from}
+use Rattle.rules.specs.Room.{Sizes, Key, Route, free, wants, Held, Seat, vacant, holds, Room, set_clock, set_seat, Found, none, at, find, seat_of, seat_at, place_when, places_from}
 use Rattle.rules.specs.Call.{leave, Answer, accepted}
-use Rattle.rules.specs.Outcome.{Outcome, clock_set, apply, apply_all, sent_bytes, accept, refuse, room_after, join_outcomes, and_then, both, peer_at, peer_in, peer, tell_peer, tell_peers, leave_from, overdue, is_overdue, is_due, leave_each, ping_each, leavers, due_seats, tick_from, outcome}
+use Rattle.rules.specs.Outcome.{Outcome, clock_set, apply, apply_all, sent_bytes, accept, room_after, join_outcomes, and_then, both, peer_at, peer_in, peer, tell_peer, tell_peers, leave_from, is_overdue, is_due, leave_each, ping_each, leavers, due_seats, tick_from, outcome}
 use Rattle.rules.proofs.TickLaws.{remaining, due_not_overdue, leaves_room, room_after_departures}
 
 -- ---- the departures, one after the other

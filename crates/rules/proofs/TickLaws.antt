@@ -1,20 +1,15 @@
 -- What an accepted tick makes of a room: the clock is its time, and each seat is what it makes of that seat alone. A seat that is overdue is emptied, one that
 -- is due is pinged, and every other stays. So a tick is leaves and then pings. Assumes nothing.
 use mathlib.Core.Path.{◌≡◌, refl, sym, ap, ap₂, ◌∙◌}
-use mathlib.Core.Bool.{Bool, true, false, ◌&&◌, ◌||◌, not, cond}
+use mathlib.Core.Bool.{Bool, true, false, ◌&&◌, not, cond}
 use mathlib.Core.List.{List, [], ◌∷◌, ◌++◌, map, append_assoc}
-use Prim.Native.Nat.{ℕ, zero, suc, ◌+◌, ◌-◌, ◌≤◌, ◌<◌}
+use Prim.Native.Nat.{ℕ, zero, suc, ◌-◌}
 use native.Mathlib.Omega.{arith}
 use lib.Dec.{eqb, leb}
 use lib.ListN.{get_or, set, length, length-append}
 use lib.Seq.{set-get_or}
-use borrow.Author.Tests.{eqb-true, ne_eqb}
-use Rattle.packet_laws.specs.Table.{kind_of}
-use Rattle.packet_laws.specs.FromRelay as relay
-use Rattle.rules.specs.Room.{Sizes, Key, Route, free, wants, Held, Seat, vacant, holds, Room, set_clock, set_seats, set_seat, ping_in, seat_at, place_when, places_from, Peer, alone, joined, none_since}
-use Rattle.rules.specs.Call.{Sent}
-use Rattle.rules.specs.Outcome.{with_ping, apply, apply_all, refuse, accept, to, room_after, peer, to_peer, tell_peer, tell_peers, leave_from, ping_sent, overdue, is_overdue, is_due, leave_each, ping_each, leavers, due_seats, tick_from, Outcome, and_then, join_outcomes}
-use Rattle.rules.specs.Transcript.{ping_sent_to}
+use Rattle.rules.specs.Room.{Sizes, Seat, vacant, holds, Room, set_clock, set_seats, set_seat, ping_in, seat_at, place_when, places_from}
+use Rattle.rules.specs.Outcome.{with_ping, apply, apply_all, refuse, accept, room_after, leave_from, ping_sent, overdue, is_overdue, is_due, leave_each, ping_each, leavers, due_seats, tick_from}
 use Rattle.rules.proofs.OutcomeLaws.{changes_append}
 
 -- ---- a list in two parts

@@ -7,7 +7,7 @@ use mathlib.Core.List.{List, [], ◌∷◌, ◌++◌}
 use mathlib.Core.Logic.{◌≢◌}
 use Prim.Native.Nat.{ℕ, zero, suc, ◌+◌, ◌*◌, ◌≤◌}
 use native.Mathlib.Omega.{arith}
-use lib.ListN.{get_or, set, length, length-set}
+use lib.ListN.{get_or, set, length}
 use lib.Seq.{get_or-set_other}
 use Rattle.wire.proofs.Numbers.{length_bytes_of}
 use Rattle.key.proofs.Same.{same_refl}

@@ -5,21 +5,20 @@ use mathlib.Core.Bool.{Bool, true, false, ◌&&◌, ◌||◌, cond, true≢false
 use mathlib.Core.List.{List, [], ◌∷◌, ◌++◌, map}
 use Prim.Native.Nat.{ℕ, zero, suc, ◌+◌, ◌<◌}
 use native.Mathlib.Omega.{arith}
-use lib.Dec.{eqb, ltb}
+use lib.Dec.{eqb}
 use lib.ListN.{get_or, length, length-map}
 use borrow.Author.Tests.{eq-eqb, ne_eqb}
-use Rattle.key.specs.Keys.{same_key}
 use Rattle.packet_laws.specs.Table.{kind_of}
 use Rattle.packet_laws.specs.FromRelay as relay
-use Rattle.rules.specs.Room.{Sizes, Key, Ping, Route, free, wants, Held, Seat, vacant, holds, Room, none_since, set_clock, set_seats, set_seat, Found, none, at, or_later, find, seat_of, route_to, routes_of, ping_in, seat_at, route_at, place_when, places_from, Peer, alone, joined}
+use Rattle.rules.specs.Room.{Sizes, Key, Route, free, wants, Seat, vacant, holds, Room, none_since, set_clock, set_seats, set_seat, Found, none, at, or_later, find, seat_of, route_to, routes_of, ping_in, seat_at, route_at, place_when, places_from, Peer, alone, joined}
 use Rattle.rules.specs.Whole.{Whole}
 use Rattle.rules.specs.Call.{Sent, tick}
 use Rattle.rules.specs.Outcome.{with_ping, accept, refuse, to, room_after, peer, to_peer, tell_peer, tell_peers, leave_from, overdue, is_overdue, is_due, leave_each, ping_each, leavers, due_seats, tick_from}
 use Rattle.rules.specs.History.{Event}
-use Rattle.rules.specs.Transcript.{Past, Maker, nobody, client_of, Start, is_accepted, clock_after, clock_of, ping_sent_to, ping_after_tick, ping_after, ping_of, sits_after, sitter, key_if, overdue_from, put_out_if, put_out, is_among, maker, stands_after, stands}
+use Rattle.rules.specs.Transcript.{Past, nobody, Start, is_accepted, clock_after, clock_of, ping_sent_to, ping_after_tick, ping_after, ping_of, sits_after, sitter, key_if, overdue_from, put_out_if, put_out, is_among, maker, stands_after, stands}
 use Rattle.rules.specs.After.{client_in, routes_in, routes_by, Tied}
 use Rattle.rules.proofs.FindLaws.{Once, find_hit, find_miss, find_once, once_tail, once_first, route_none}
-use Rattle.rules.proofs.TickLaws.{get_d_each, remaining, seat_after_tick, no_ping, due_not_overdue, room_after_tick}
+use Rattle.rules.proofs.TickLaws.{get_d_each, seat_after_tick, no_ping, due_not_overdue, room_after_tick}
 use Rattle.rules.proofs.Whole.{key_once, ticked_key}
 
 -- ---- to which seats pings are sent

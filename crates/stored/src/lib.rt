@@ -2,6 +2,8 @@
 // packet), 1 for the seat (0 where it names none), a 2-byte length and the bytes the call is given; no other form is one."
 //
 // Whether there is such a seat, and whether the bytes are a packet, is for the relay to judge.
+#![tactic(auto)]
+
 ghost use Rattle.std.specs.Prelude.{◌≡◌};
 ghost use Rattle.stored.specs.Stored.{first_call, formed, shown_first};
 

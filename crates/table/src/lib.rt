@@ -5,6 +5,8 @@
 // A place is used exactly when the order lists it; what is not listed is never read. So neighbours decide that all keys differ, one pass tests
 // that, and there is no mark that could disagree with it. A room is a table of seats, and each seat has a table of routes; each
 // of the k-buckets is a table of nodes.
+#![tactic(auto)]
+
 ghost use Rattle.std.specs.Prelude.{◌≡◌};
 ghost use Rattle.table_laws.specs.Table.{fits_table, is_table, is_table_without, found, key_of_place, is_used, used_places, lowest_free, may_put, put_in, freed_in, may_overwrite, overwritten_in};
 

@@ -2,27 +2,28 @@
 use crate::{from_client, say};
 use packet::relay as relay_end;
 use packet::relay::RelayRead;
+use std::io;
 
-fn tell_kind(kind: u8) {
-    say::words(b", kind ");
-    say::number(kind as u64);
+fn tell_kind<R: Print>(rt: &R, kind: u8) -> io::Result<()> {
+    say::words(rt, b", kind ")?;
+    say::number(rt, kind as u64)
 }
 
 // A packet that the relay's reader refuses. The answer says why, unless a ground comes before those of the reader.
-fn tell_unread(packet: &[u8]) {
-    say::words(b"a packet that the relay does not take (");
-    say::bytes(packet.len());
+fn tell_unread<R: Print>(rt: &R, packet: &[u8]) -> io::Result<()> {
+    say::words(rt, b"a packet that the relay does not take (")?;
+    say::bytes(rt, packet.len())?;
     if 0 < packet.len() {
-        tell_kind(packet[0]);
+        tell_kind(rt, packet[0])?;
     }
-    say::words(b")");
+    say::words(rt, b")")
 }
 
-pub fn tell(packet: &[u8])
+pub fn tell<R: Print>(rt: &R, packet: &[u8]) -> io::Result<()>
     ensures { Unit {0} }
 {
     match relay_end::read(packet) {
-        RelayRead::Refused(_) => tell_unread(packet),
-        RelayRead::Packet(shown) => from_client::packet(shown, packet),
+        RelayRead::Refused(_) => tell_unread(rt, packet),
+        RelayRead::Packet(shown) => from_client::packet(rt, shown, packet),
     }
 }

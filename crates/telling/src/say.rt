@@ -1,45 +1,44 @@
 // The parts that lines are made of.
 use key::Key;
-use libc::STDOUT_FILENO;
 use packet::ConnectionNumber;
+use std::io;
 
-pub fn words(text: &[u8])
+pub fn words<R: Print>(rt: &R, text: &[u8]) -> io::Result<()>
     ensures { Unit {0} }
 {
-    io::write_all(STDOUT_FILENO, text);
+    rt.write_all(text)
 }
 
-pub fn number(n: u64)
+pub fn number<R: Print>(rt: &R, n: u64) -> io::Result<()>
     ensures { Unit {0} }
 {
-    io::print_decimal(STDOUT_FILENO, n);
+    print!(rt; "{n}")
 }
 
 // The first eight bytes of a key: enough for a person to tell keys apart.
-pub fn key(key: Key)
+pub fn key<R: Print>(rt: &R, key: Key) -> io::Result<()>
     ensures { Unit {0} }
 {
     let bytes = key.0;
-    words(b"key ");
-    io::print_hex(STDOUT_FILENO, wire::read_number(&bytes), 16);
-    words(b"..");
+    let front = wire::read_number(&bytes);
+    print!(rt; "key {front:016x}..")
 }
 
-pub fn connection(named: ConnectionNumber)
+pub fn connection<R: Print>(rt: &R, named: ConnectionNumber) -> io::Result<()>
     ensures { Unit {0} }
 {
-    words(b"number ");
-    number(named.0 as u64);
+    words(rt, b"number ")?;
+    number(rt, named.0 as u64)
 }
 
 // A count of bytes.
-pub fn bytes(count: usize)
+pub fn bytes<R: Print>(rt: &R, count: usize) -> io::Result<()>
     ensures { Unit {0} }
 {
-    number(count as u64);
+    number(rt, count as u64)?;
     if count == 1 {
-        words(b" byte");
+        words(rt, b" byte")
     } else {
-        words(b" bytes");
+        words(rt, b" bytes")
     }
 }

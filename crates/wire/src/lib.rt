@@ -1,6 +1,8 @@
 // Numbers in lent bytes, big-endian: the highest byte stands first (document 01, "What the library covers": "All numbers are big-endian").
 //
 // Ping numbers (8 bytes), ports and lengths (2 bytes) and the distance of two keys (32 bytes) are all read by one definition, `number_of`.
+#![tactic(auto)]
+
 ghost use Rattle.std.specs.Prelude.{◌≡◌, length, take};
 ghost use Rattle.wire.specs.Numbers.{number_of, bytes_of};
 

@@ -5,17 +5,13 @@ use Prim.Native.Nat.{ℕ}
 use native.Mathlib.Omega.{arith}
 use lib.ListN.{set, length-set}
 use Rattle.wire.proofs.Numbers.{bytes_each}
-use Rattle.key.specs.Keys.{IsKey}
 use Rattle.key.proofs.Owned.{is_key}
 use Rattle.buckets.proofs.BeginSteps.{zeroed_none, zeroed_more, begun_done, begun_short}
 use Rattle.buckets.proofs.begin.Goals as goal
 
-key : (s : tie.Start invariant-loop decreases-loop) → IsKey s.args.base.0
-key s = is_key s.args.base s.well_formed.1.0.0 s.well_formed.1.0.1.1
-
 pub returns-then-memory-lt-BYTES : goal.returns-then-memory-lt-BYTES
 returns-then-memory-lt-BYTES c =
-    begun_short c.args.base c.args.memory.now (bytes_each c.args.memory.now (λ i. (c.type_inv.memory i))) (key c) c.if-memory-lt-BYTES.true
+    begun_short c.args.base c.args.memory.now (bytes_each c.args.memory.now (λ i. grind arith)) (is_key c.args.base c.well_formed.1.0.0 c.well_formed.1.0.1.1) c.if-memory-lt-BYTES.true
 
 pub loop-i-init : goal.loop-i-init
 loop-i-init c = (omega arith, omega arith, refl, zeroed_none c.args.memory.now (omega arith))
@@ -35,5 +31,5 @@ returns c =
     let l = c.loop-i in
     let m = c.args.memory.now in
     rw l.invariant.3
-    (begun_done m c.if-memory-lt-BYTES.false c.args.base (bytes_each m (λ i. (c.type_inv.memory i))) (key c) _ _ l.i l.invariant.0 (omega arith) l.invariant.1 (omega arith)
+    (begun_done m c.if-memory-lt-BYTES.false c.args.base (bytes_each m (λ i. grind arith)) (is_key c.args.base c.well_formed.1.0.0 c.well_formed.1.0.1.1) _ _ l.i l.invariant.0 (omega arith) l.invariant.1 (omega arith)
     c.write.ensures)

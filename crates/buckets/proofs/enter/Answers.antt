@@ -1,15 +1,11 @@
 -- `enter` meets its contract: the key is found, or the bucket is full, or the node is put in. Assumes nothing.
-use Rattle.node.specs.Values.{IsNode}
 use Rattle.node.proofs.Owned.{is_node}
 use Rattle.buckets.proofs.EnterSteps.{enters_held, enters_full, enters_new}
 use Rattle.buckets.proofs.enter.Goals as goal
 
-held : (s : tie.Start) → IsNode s.args.node
-held s = is_node s.args.node s.well_formed.1.0.0 s.well_formed.1.0.1.1
-
 pub returns-then-place-lt-PLACES : goal.returns-then-place-lt-PLACES
 returns-then-place-lt-PLACES c =
-    enters_held c.args.node c.args.bucket.now c.requires _ c.find-place.ensures (held c) c.if-place-lt-PLACES.true
+    enters_held c.args.node c.args.bucket.now c.requires _ c.find-place.ensures (is_node c.args.node c.well_formed.1.0.0 c.well_formed.1.0.1.1) c.if-place-lt-PLACES.true
     _ _ c.of-record.ensures c.overwrite.ensures
 
 pub returns-then-used-eq-PLACES : goal.returns-then-used-eq-PLACES

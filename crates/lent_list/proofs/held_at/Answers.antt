@@ -1,17 +1,10 @@
 -- `held_at` meets its contract: each way out is a case of `HeldLaws`. Assumes nothing.
 use borrow.Author.Rules.{rules}
-use mathlib.Core.Path.{◌≡◌, ◌∙◌, sym}
+use mathlib.Core.Path.{◌∙◌, sym}
 use native.Mathlib.Omega.{arith}
-use Rattle.nearest.specs.declared.Answer.TheVariants.{Done}
-use Rattle.nearest.specs.Calls.{checked}
-use Rattle.lent_list_laws.specs.Layout.{list_at}
 use Rattle.lent_list_laws.proofs.ChangeLaws.{count_there}
 use Rattle.lent_list.proofs.HeldLaws.{held_short, held_refused, held_nothing, held_node}
 use Rattle.lent_list.proofs.held_at.Goals as goal
-
--- the list keeps its rules behind its test
-passed : (c : tie.After-enum-told) → checked (list_at c.before.before.before.before.before.args.memory.now) ≡ Done
-passed c = sym c.before.before.check.ensures ∙ c.enum_told.given.1
 
 pub returns-then-memory-lt-BYTES : goal.returns-then-memory-lt-BYTES
 returns-then-memory-lt-BYTES c =
@@ -32,16 +25,16 @@ pub returns-then-count-index : goal.returns-then-count-index
 returns-then-count-index c =
     let a = c.args in
     c.none-then-count-index.ensures
-    ∙ held_nothing a.memory.now a.index c.if-memory-lt-BYTES.false (passed c) c.if-count-index.true
+    ∙ held_nothing a.memory.now a.index c.if-memory-lt-BYTES.false (sym c.check-standing.ensures ∙ c.in_default.is) c.if-count-index.true
 
 pub read_at-node-requires : goal.read_at-node-requires
 read_at-node-requires c =
     let a = c.args in
-    let w = count_there a.memory.now (passed c) in
+    let w = count_there a.memory.now (sym c.check-standing.ensures ∙ c.in_default.is) in
     (search rules, omega arith)
 
 pub returns : goal.returns
 returns c =
     let a = c.args in
-    held_node a.memory.now a.index c.if-memory-lt-BYTES.false (passed c)
+    held_node a.memory.now a.index c.if-memory-lt-BYTES.false (sym c.check-standing.ensures ∙ c.in_default.is)
     c.if-count-index.false _ c.read_at-node.ensures

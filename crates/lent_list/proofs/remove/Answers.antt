@@ -1,4 +1,5 @@
 -- `remove` meets its contract: each way out is a case of `CallLaws` of `lent_list_laws`. Assumes nothing.
+use borrow.Author.Rules.{rules}
 use mathlib.Core.Path.{◌≡◌, ◌∙◌, refl, sym, ap}
 use mathlib.Core.Bool.{Bool, true, false}
 use mathlib.Core.List.{List}
@@ -19,29 +20,18 @@ use Rattle.lent_list_laws.specs.Calls.{Removes}
 use Rattle.lent_list_laws.proofs.CallLaws.{removes_short, removes_refused, removes_done}
 use Rattle.lent_list.proofs.remove.Goals as goal
 
--- ---- what is known on the way
-module _ (c : tie.After-slice-known) where
-  abbrev memory : List ℕ
-  memory = c.before.args.memory.now
-
-  abbrev key : Key
-  key = c.before.args.key
-
-  bytes : Bytes memory
-  bytes = bytes_each memory (λ i. (c.slice-known.given i).fits)
-
 pub returns-then-memory-lt-BYTES : goal.returns-then-memory-lt-BYTES
 returns-then-memory-lt-BYTES c =
     let h = c.if-memory-lt-BYTES.true in
-    removes_short (key c) (memory c) (bytes c) _ c.too_short.ensures (omega arith)
+    removes_short c.args.key c.args.memory.now (bytes_each c.args.memory.now (λ i. search rules)) _ c.too_short.ensures (omega arith)
 
 pub returns-in-Refused : goal.returns-in-Refused
 returns-in-Refused c =
     let h = c.if-memory-lt-BYTES.false in
     let why = c.in-Refused.why in
     let e = sym c.check-standing.ensures ∙ c.in-Refused.is in
-    removes_refused (key c) (memory c) (bytes c) (omega arith) (record { list = list_at (memory c); answer = Refused why })
-    (remove_refused (list_at (memory c)) (key c) why e) why refl
+    removes_refused c.args.key c.args.memory.now (bytes_each c.args.memory.now (λ i. search rules)) (omega arith) (record { list = list_at c.args.memory.now; answer = Refused why })
+    (remove_refused (list_at c.args.memory.now) c.args.key why e) why refl
 
 pub take_out-requires : goal.take_out-requires
 take_out-requires c =
@@ -49,11 +39,11 @@ take_out-requires c =
     (omega arith, sym c.check-standing.ensures ∙ c.in_default.is)
 
 -- what was taken out is what is removed
-taken : (k : tie.After-slice-known) → 850 ≤ length (memory k) → (r b : Bool) (left : List ℕ) → r ≡ b → remove_answer r ≡ (removed (list_at (memory k)) (key k)).answer
-    → left ≡ stored (removed (list_at (memory k)) (key k)).list (memory k) → Removes (key k) (memory k) left (remove_answer b)
-taken k room r b left e a s =
-    let o = removed (list_at (memory k)) (key k) in
-    removes_done (key k) (memory k) (bytes k) room (record { list = o.list; answer = remove_answer b })
+taken : (key : Key) (m : List ℕ) → Bytes m → 850 ≤ length m → (r b : Bool) (left : List ℕ) → r ≡ b → remove_answer r ≡ (removed (list_at m) key).answer
+    → left ≡ stored (removed (list_at m) key).list m → Removes key m left (remove_answer b)
+taken key m bytes room r b left e a s =
+    let o = removed (list_at m) key in
+    removes_done key m bytes room (record { list = o.list; answer = remove_answer b })
     (ap {B = Removed} (λ (x : Answer). record { list = o.list; answer = x }) (sym (ap remove_answer e) ∙ a)) left s
 
 pub returns-then-take_out : goal.returns-then-take_out
@@ -61,11 +51,11 @@ unfolding remove_answer
 returns-then-take_out c =
     let h = c.if-memory-lt-BYTES.false in
     let x = c.take_out in
-    taken c (omega arith) _ true _ c.if-take_out.true x.ensures.0 x.ensures.1
+    taken c.args.key c.args.memory.now (bytes_each c.args.memory.now (λ i. search rules)) (omega arith) _ true _ c.if-take_out.true x.ensures.result_value x.ensures.memory_after
 
 pub returns : goal.returns
 unfolding remove_answer
 returns c =
     let h = c.if-memory-lt-BYTES.false in
     let x = c.take_out in
-    taken c (omega arith) _ false _ c.if-take_out.false x.ensures.0 x.ensures.1
+    taken c.args.key c.args.memory.now (bytes_each c.args.memory.now (λ i. search rules)) (omega arith) _ false _ c.if-take_out.false x.ensures.result_value x.ensures.memory_after

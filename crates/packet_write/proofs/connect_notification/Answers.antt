@@ -6,26 +6,22 @@ use Rattle.packet_write.proofs.WriteLaws.{accepted_writes, refused_writes}
 use Rattle.packet_laws.proofs.Judged.{relay_connect_judged, relay_connect_number}
 use Rattle.packet_write.proofs.connect_notification.Goals as goal
 
-fits : (s : tie.Start) → FitsRelay (connect_notice s.args.number.0)
-unfolding FitsRelay
-fits s = s.well_formed.0.1.1.0.1
-
 pub returns-then-number-lt-FIRST : goal.returns-then-number-lt-FIRST
-unfolding relay_bytes
+unfolding FitsRelay relay_bytes
 returns-then-number-lt-FIRST c =
     let a = c.args in
     record {
-      fits = fits c;
+      fits = c.well_formed.0.1.1.0.1;
       writes =
           refused_writes (relay_judged (connect_notice a.number.0)) (2 ∷ a.number.0 ∷ []) a.out.now _ (relay_connect_number a.number.0 c.if-number-lt-FIRST.true);
     }
 
 pub returns : goal.returns
-unfolding relay_bytes
+unfolding FitsRelay relay_bytes
 returns c =
     let a = c.args in
     record {
-      fits = fits c;
+      fits = c.well_formed.0.1.1.0.1;
       writes =
           accepted_writes (relay_judged (connect_notice a.number.0)) (2 ∷ a.number.0 ∷ []) a.out.now _ _ _ (relay_connect_judged a.number.0 c.if-number-lt-FIRST.false) c.put_pair.ensures;
     }

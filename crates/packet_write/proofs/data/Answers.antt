@@ -1,14 +1,13 @@
 -- `packet_write::data` meets its contract: the number, then the bytes, then what stood behind them; judged as both ends judge it. Assumes nothing.
-use mathlib.Core.Path.{◌≡◌, ◌∙◌, sym, ap}
+use mathlib.Core.Path.{◌≡◌, ◌∙◌, sym}
 use mathlib.Core.List.{List, ◌∷◌}
 use Prim.Native.Nat.{ℕ, ◌+◌, ◌-◌, ◌<◌, ◌≤◌}
 use native.Mathlib.Omega.{arith}
-use lib.ListN.{length, length-set}
+use lib.ListN.{length}
 use mathlib.Core.Bool.{true}
 use native.Mathlib.Nat.{add-sub_cancel_left}
 use Rattle.wire.specs.Numbers.{Bytes}
 use Rattle.wire.proofs.Numbers.{bytes_each}
-use Rattle.wire.proofs.Copy.{length_written}
 use Rattle.refusal.specs.declared.Refusal.{Refusal}
 use Rattle.packet_write.specs.declared.Written.{Written}
 use Rattle.packet_write.specs.declared.Written.TheVariants.{Refused}
@@ -44,7 +43,7 @@ returns-then-not-size_right c =
     let a = c.args in
     let s = sym c.size_right.ensures ∙ c.if-not-size_right.true in
     refuse a.number.0 a.«data».now a.out.now _
-    c.well_formed.0.1.1.0.1 (bytes_each a.«data».now (λ i. (c.type_inv.data i)))
+    c.well_formed.0.1.1.0.1 (bytes_each a.«data».now (λ i. (c.type_inv.data i).fits))
     (client_data_size a.number.0 a.«data».now s) (relay_data_size a.number.0 a.«data».now s)
 
 pub returns-then-number-lt-FIRST : goal.returns-then-number-lt-FIRST
@@ -52,7 +51,7 @@ returns-then-number-lt-FIRST c =
     let a = c.args in
     let s = (sym c.size_right.ensures ∙ c.if-not-size_right.false) in
     refuse a.number.0 a.«data».now a.out.now _
-    c.well_formed.0.1.1.0.1 (bytes_each a.«data».now (λ i. (c.type_inv.data i)))
+    c.well_formed.0.1.1.0.1 (bytes_each a.«data».now (λ i. (c.type_inv.data i).fits))
     (client_data_number a.number.0 a.«data».now s c.if-number-lt-FIRST.true) (relay_data_number a.number.0 a.«data».now s c.if-number-lt-FIRST.true)
 
 pub returns-then-data-eq0 : goal.returns-then-data-eq0
@@ -61,33 +60,22 @@ returns-then-data-eq0 c =
     let s = (sym c.size_right.ensures ∙ c.if-not-size_right.false) in
     let h = c.if-number-lt-FIRST.false in
     refuse a.number.0 a.«data».now a.out.now _
-    c.well_formed.0.1.1.0.1 (bytes_each a.«data».now (λ i. (c.type_inv.data i)))
+    c.well_formed.0.1.1.0.1 (bytes_each a.«data».now (λ i. (c.type_inv.data i).fits))
     (client_data_length a.number.0 a.«data».now s h c.if-data-eq0.true) (relay_data_length a.number.0 a.«data».now s h c.if-data-eq0.true)
 
 pub returns-then-out-size : goal.returns-then-out-size
 returns-then-out-size c =
     let a = c.args in
     put a.number.0 a.«data».now a.out.now _ _
-    c.well_formed.0.1.1.0.1 (bytes_each a.«data».now (λ i. (c.type_inv.data i)))
+    c.well_formed.0.1.1.0.1 (bytes_each a.«data».now (λ i. (c.type_inv.data i).fits))
     (sym c.size_right.ensures ∙ c.if-not-size_right.false) c.if-number-lt-FIRST.false (omega arith) (puts_short (a.number.0 ∷ a.«data».now) a.out.now (omega arith))
-
-pub slice_bounds-copy_from_slice-end : goal.slice_bounds-copy_from_slice-end
-slice_bounds-copy_from_slice-end c = simp length-set (omega arith)
-
-pub shape_of-out : goal.shape_of-out
-shape_of-out c =
-    let a = c.args in
-    ap length
-    (written_byte_and_bytes a.out.now c.copy_from_slice.new.self a.«data».now a.number.0 (1 + length a.«data».now - 1)
-    (add-sub_cancel_left 1 (length a.«data».now)) (omega arith) c.copy_from_slice.ensures.1)
-    ∙ length_written (a.number.0 ∷ a.«data».now) a.out.now (1 + length a.«data».now) (omega arith) (omega arith)
 
 pub returns : goal.returns
 returns c =
     let a = c.args in
     put a.number.0 a.«data».now a.out.now _ _
-    c.well_formed.0.1.1.0.1 (bytes_each a.«data».now (λ i. (c.type_inv.data i)))
+    c.well_formed.0.1.1.0.1 (bytes_each a.«data».now (λ i. (c.type_inv.data i).fits))
     (sym c.size_right.ensures ∙ c.if-not-size_right.false) c.if-number-lt-FIRST.false (omega arith)
     (puts_written (a.number.0 ∷ a.«data».now) a.out.now _ (1 + length a.«data».now) (omega arith) (omega arith)
     (written_byte_and_bytes a.out.now c.copy_from_slice.new.self a.«data».now a.number.0 (1 + length a.«data».now - 1)
-    (add-sub_cancel_left 1 (length a.«data».now)) (omega arith) c.copy_from_slice.ensures.1))
+    (add-sub_cancel_left 1 (length a.«data».now)) (omega arith) c.copy_from_slice.ensures.after))

@@ -6,16 +6,12 @@ use Rattle.packet_write.proofs.WriteLaws.{accepted_writes}
 use Rattle.packet_laws.proofs.Judged.{client_drop_judged}
 use Rattle.packet_write.proofs.drop_route.Goals as goal
 
-fits : (s : tie.Start) → FitsClient (drop_route s.args.number.0)
-unfolding FitsClient
-fits s = s.well_formed.0.1.1.0.1
-
 pub returns : goal.returns
-unfolding client_bytes
+unfolding FitsClient client_bytes
 returns c =
     let a = c.args in
     record {
-      fits = fits c;
+      fits = c.well_formed.0.1.1.0.1;
       writes =
           accepted_writes (client_judged (drop_route a.number.0)) (3 ∷ a.number.0 ∷ []) a.out.now _ _ _ (client_drop_judged a.number.0) c.put_pair.ensures;
     }

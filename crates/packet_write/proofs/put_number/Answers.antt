@@ -6,7 +6,7 @@ use native.Mathlib.Omega.{arith}
 use lib.ListN.{length, take, drop, set, length-set}
 use Rattle.wire.specs.Numbers.{bytes_of}
 use Rattle.wire.proofs.Numbers.{length_bytes_of}
-use Rattle.wire.proofs.Copy.{written_first, written_part, length_lent, length_written}
+use Rattle.wire.proofs.Copy.{written_first, written_part, length_lent}
 use Rattle.packet_write.proofs.WriteLaws.{puts_short, puts_written}
 use Rattle.packet_write.proofs.put_number.Goals as goal
 
@@ -19,12 +19,6 @@ written out new k n h e =
 
 pub returns-then-out-lt9 : goal.returns-then-out-lt9
 returns-then-out-lt9 c = puts_short _ c.args.out.now (let e = length_bytes_of 8 c.args.number in omega arith)
-
-pub shape_of-out : goal.shape_of-out
-shape_of-out c =
-    let a = c.args in
-    let e = length_bytes_of 8 a.number in
-    ap length (written a.out.now c.write_number.new.out a.kind a.number (omega arith) c.write_number.ensures) ∙ length_written (a.kind ∷ bytes_of 8 a.number) a.out.now 9 (omega arith) (omega arith)
 
 pub returns : goal.returns
 returns c =

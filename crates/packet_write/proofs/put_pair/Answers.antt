@@ -3,7 +3,7 @@ use mathlib.Core.Path.{◌≡◌, ◌∙◌, refl, ap}
 use mathlib.Core.List.{List, [], ◌∷◌, ◌++◌}
 use Prim.Native.Nat.{ℕ, ◌<◌}
 use native.Mathlib.Omega.{arith}
-use lib.ListN.{length, drop, set, length-set}
+use lib.ListN.{length, drop, set}
 use Rattle.wire.proofs.Copy.{written_first, written_byte}
 use Rattle.packet_write.proofs.WriteLaws.{puts_short, puts_written}
 use Rattle.packet_write.proofs.put_pair.Goals as goal
@@ -13,12 +13,6 @@ written out a b h = ap (λ (l : List ℕ). set l 1 b) (written_first out a (omeg
 
 pub returns-then-out-lt2 : goal.returns-then-out-lt2
 returns-then-out-lt2 c = puts_short _ c.args.out.now (omega arith)
-
-pub bounds-out-1 : goal.bounds-out-1
-bounds-out-1 c = simp length-set (omega arith)
-
-pub shape_of-out : goal.shape_of-out
-shape_of-out c = simp length-set
 
 pub returns : goal.returns
 returns c =

@@ -4,10 +4,10 @@ use mathlib.Core.List.{List, [], ◌∷◌, ◌++◌}
 use Prim.Native.Nat.{ℕ, ◌≤◌}
 use native.Mathlib.Omega.{arith}
 use lib.ListN.{length, take, drop, set, length-set}
-use Rattle.key.specs.Keys.{IsKey, with_key}
+use Rattle.key.specs.Keys.{with_key}
 use Rattle.key.proofs.Owned.{is_key}
 use Rattle.key.proofs.Lent.{with_key_whole}
-use Rattle.wire.proofs.Copy.{written_first, written_byte, written_part, length_lent, length_written}
+use Rattle.wire.proofs.Copy.{written_first, written_byte, written_part, length_lent}
 use Rattle.packet_laws.specs.FromRelay.{FitsRelay, relay_bytes, routing_response}
 use Rattle.packet_laws.specs.Judged.{relay_judged}
 use Rattle.packet_write.proofs.WriteLaws.{puts_short, puts_written, accepted_writes, refused_writes}
@@ -23,56 +23,38 @@ written out new key k n h e =
     let m : new ≡ key = e ∙ with_key_whole key _ (length_lent (set (set out 0 k) 1 n) 2 32 (simp length-set h)) in
     ap₂ (λ (x l : List ℕ). take 2 l ++ (x ++ drop 32 (drop 2 l))) m (head out k n (omega arith)) ∙ written_part (k ∷ n ∷ []) key out 2 32 refl
 
--- a key by value
-key : (s : tie.Start) → IsKey s.args.key.0
-key s = is_key s.args.key s.well_formed.1.0.0 s.well_formed.1.0.1.1
-
-key_long : (s : tie.Start) → length s.args.key.0 ≡ 32
-key_long s = (key s).long
-
-fits : (s : tie.Start) → FitsRelay (routing_response s.args.number.0 s.args.key.0)
-unfolding FitsRelay
-fits s = (s.well_formed.0.1.1.0.1, key s)
-
 pub returns-then-not-number_right : goal.returns-then-not-number_right
-unfolding relay_bytes
+unfolding FitsRelay relay_bytes
 returns-then-not-number_right c =
     let a = c.args in
+    let k = is_key a.key c.well_formed.1.0.0 c.well_formed.1.0.1.1 in
     record {
-      fits = fits c;
+      fits = (c.well_formed.0.1.1.0.1, k);
       writes =
-          refused_writes (relay_judged (routing_response a.number.0 a.key.0)) (1 ∷ a.number.0 ∷ a.key.0) a.out.now _ (relay_response_number a.number.0 a.key.0 (key_long c) (sym c.number_right.ensures ∙ c.if-not-number_right.true));
+          refused_writes (relay_judged (routing_response a.number.0 a.key.0)) (1 ∷ a.number.0 ∷ a.key.0) a.out.now _ (relay_response_number a.number.0 a.key.0 k.long (sym c.number_right.ensures ∙ c.if-not-number_right.true));
     }
 
 pub returns-then-out-lt-KIND_KEY_AND_BYTE : goal.returns-then-out-lt-KIND_KEY_AND_BYTE
-unfolding relay_bytes
+unfolding FitsRelay relay_bytes
 returns-then-out-lt-KIND_KEY_AND_BYTE c =
     let a = c.args in
-    let l = key_long c in
+    let k = is_key a.key c.well_formed.1.0.0 c.well_formed.1.0.1.1 in
     record {
-      fits = fits c;
+      fits = (c.well_formed.0.1.1.0.1, k);
       writes =
-          accepted_writes (relay_judged (routing_response a.number.0 a.key.0)) (1 ∷ a.number.0 ∷ a.key.0) a.out.now _ _ _ (relay_response_judged a.number.0 a.key.0 l (sym c.number_right.ensures ∙ c.if-not-number_right.false))
+          accepted_writes (relay_judged (routing_response a.number.0 a.key.0)) (1 ∷ a.number.0 ∷ a.key.0) a.out.now _ _ _ (relay_response_judged a.number.0 a.key.0 k.long (sym c.number_right.ensures ∙ c.if-not-number_right.false))
           (puts_short (1 ∷ a.number.0 ∷ a.key.0) a.out.now (omega arith));
     }
 
-pub bounds-out-1 : goal.bounds-out-1
-bounds-out-1 c = simp length-set (omega arith)
-
-pub shape_of-out : goal.shape_of-out
-shape_of-out c =
-    let a = c.args in
-    ap length (written a.out.now c.write.new.out a.key.0 1 a.number.0 (omega arith) c.write.ensures) ∙ length_written (1 ∷ a.number.0 ∷ a.key.0) a.out.now 34 (let l = key_long c in omega arith) (omega arith)
-
 pub returns : goal.returns
-unfolding relay_bytes
+unfolding FitsRelay relay_bytes
 returns c =
     let a = c.args in
-    let l = key_long c in
+    let k = is_key a.key c.well_formed.1.0.0 c.well_formed.1.0.1.1 in
     record {
-      fits = fits c;
+      fits = (c.well_formed.0.1.1.0.1, k);
       writes =
-          accepted_writes (relay_judged (routing_response a.number.0 a.key.0)) (1 ∷ a.number.0 ∷ a.key.0) a.out.now _ _ _ (relay_response_judged a.number.0 a.key.0 l (sym c.number_right.ensures ∙ c.if-not-number_right.false))
+          accepted_writes (relay_judged (routing_response a.number.0 a.key.0)) (1 ∷ a.number.0 ∷ a.key.0) a.out.now _ _ _ (relay_response_judged a.number.0 a.key.0 k.long (sym c.number_right.ensures ∙ c.if-not-number_right.false))
           (puts_written (1 ∷ a.number.0 ∷ a.key.0) a.out.now _ 34 (omega arith) (omega arith)
           (written a.out.now c.write.new.out a.key.0 1 a.number.0 (omega arith) c.write.ensures));
     }

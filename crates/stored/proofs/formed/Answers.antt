@@ -1,5 +1,6 @@
 -- `stored::formed` meets its contract: each arm is one row of the form. Assumes nothing.
 use mathlib.Core.Path.{◌∙◌, sym, ap}
+use native.Mathlib.Omega.{arith}
 use lib.ListN.{length}
 use Rattle.stored.specs.declared.StoredCall.TheVariants.{Arrive, Leave, Packet}
 use Rattle.stored.specs.declared.StoredRead.TheVariants.{Call}
@@ -47,5 +48,4 @@ pub returns-in_default : goal.returns-in_default
 unfolding shown_first shown_call
 returns-in_default c =
     let a = c.args in
-    let r = c.in_default.rest in
-    sym (ap shown_first (no_form a.code a.seat.0 a.given.now r.0.0.1 r.0.1 r.1))
+    sym (ap shown_first (no_form a.code a.seat.0 a.given.now (omega arith) (omega arith) (omega arith)))

@@ -1,11 +1,9 @@
 -- `table::find` meets its contract: no place where the bytes do not fit, else the pass over the places listed. Assumes nothing.
-use mathlib.Core.Path.{◌≡◌, sym, ◌∙◌}
-use lib.ListN.{length, length-map}
+use mathlib.Core.Bool.{not}
+use mathlib.Core.Path.{sym, ◌∙◌, ap}
 use Rattle.table_laws.proofs.FitsLaws.{fits_table_lem, found_unfit, found_done}
+use Rattle.key.proofs.Owned.{is_key}
 use Rattle.table.proofs.find.Goals as goal
-
-key_long : (s : tie.Start) → length s.args.key.0 ≡ 32
-key_long s = sym (length-map s.args.key.0 _) ∙ s.well_formed.1.1.1.0.1.1.0.1.0.1
 
 pub returns-then-not-fits : goal.returns-then-not-fits
 returns-then-not-fits c =
@@ -14,11 +12,13 @@ returns-then-not-fits c =
 
 pub place_of-requires : goal.place_of-requires
 place_of-requires c =
-    let a = c.args in
-    (fits_table_lem a.places a.width a.table.now (sym c.fits.ensures ∙ c.if-not-fits.false), key_long c)
+    let a = c.args in (
+      fits_table_lem a.places a.width a.table.now (sym c.fits.ensures ∙ c.if-not-fits.false),
+      (is_key a.key c.well_formed.1.1.1.0.0 c.well_formed.1.1.1.0.1.1).long,
+    )
 
 pub returns : goal.returns
 returns c =
     let a = c.args in
-    found_done a.places a.width a.table.now a.key.0 _ c.fits.ensures c.if-not-fits.false-raw
+    found_done a.places a.width a.table.now a.key.0 _ c.fits.ensures (ap not c.if-not-fits.false)
     _ c.place_of.ensures

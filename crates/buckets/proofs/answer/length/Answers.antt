@@ -1,6 +1,6 @@
 -- `answer::length` meets its contract. The invariant: the bytes counted are those of the nodes passed, at most 51 each. Assumes nothing.
 use mathlib.Core.Path.{◌≡◌, ◌∙◌, sym, ap}
-use Prim.Native.Nat.{ℕ, ◌+◌, ◌≤◌}
+use Prim.Native.Nat.{ℕ, ◌+◌}
 use native.Mathlib.Omega.{arith}
 use lib.ListN.{get_or}
 use Rattle.node.specs.Families.{packed_length}
@@ -21,16 +21,12 @@ bounds-memory-at c =
     let h = c.requires.inside c.loop-i.i c.loop-i-test.true in
     omega arith
 
--- one node takes at most 51
-few : (c : tie.After-packed-length invariant-loop decreases-loop) → c.packed_length.result ≤ 51
-few c =
-    let a = c.before.before.before.before.before.before.args in
-    let e = c.packed_length.ensures in
-    let m = packed_most (get_or a.memory.now (get_or a.kept.starts c.before.before.before.loop.i 0 + 32) 0) in
-    omega arith
-
 pub overflow_add-bytes : goal.overflow_add-bytes
-overflow_add-bytes c = let f = few c in let b = c.loop-i.invariant.1 in omega arith
+overflow_add-bytes c =
+    let e = c.packed_length-bytes.ensures in
+    let m = packed_most (get_or c.args.memory.now (get_or c.args.kept.starts c.loop-i.i 0 + 32) 0) in
+    let b = c.loop-i.invariant.1 in
+    omega arith
 
 pub loop-i-preserved : goal.loop-i-preserved
 loop-i-preserved c =
@@ -39,7 +35,7 @@ loop-i-preserved c =
     let h = c.loop-i-test.true in
     let e = c.packed_length-bytes.ensures ∙ ap packed_length (family_here a.memory.now (get_or a.kept.starts l.i 0)) in
     let q = front_longer a.memory.now a.kept c.requires l.i h in
-    let f = few c in
+    let m = packed_most (get_or a.memory.now (get_or a.kept.starts l.i 0 + 32) 0) in
     let b = l.invariant.2 in
     (omega arith, omega arith, omega arith)
 

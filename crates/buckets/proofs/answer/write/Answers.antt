@@ -2,7 +2,7 @@
 use borrow.Author.Rules.{rules}
 use mathlib.Core.Path.{◌≡◌, ◌∙◌, refl, sym, ap, ap₂}
 use mathlib.Core.List.{List, ◌++◌}
-use Prim.Native.Nat.{ℕ, ◌+◌, ◌-◌, ◌≤◌}
+use Prim.Native.Nat.{ℕ, ◌+◌, ◌-◌}
 use native.Mathlib.Omega.{arith}
 use lib.ListN.{length, get_or, take, drop}
 use Rattle.wire.proofs.Copy.{length_lent}
@@ -20,45 +20,36 @@ loop-i-init c =
     (omega arith, sym (ap length e), refl, ap (λ (x : List ℕ). x ++ a.out.now) (sym e))
 
 -- the record lies within the memory
-inside : (c : tie.In-loop invariant-loop decreases-loop) → get_or c.before.before.before.before.before.args.kept.starts c.before.loop.i 0 + 51
-    ≤ length c.before.before.before.before.before.args.memory.now
-inside c = c.before.before.before.before.before.requires.0.inside c.before.loop.i c.loop-test.true
-
 pub overflow_add-end : goal.overflow_add-end
-overflow_add-end c = let h = inside c in omega arith
+overflow_add-end c = let h = c.requires.0.inside c.loop-i.i c.loop-i-test.true in omega arith
 
 pub slice_bounds-read-end : goal.slice_bounds-read-end
-slice_bounds-read-end c = let h = inside c in omega arith
+slice_bounds-read-end c = let h = c.requires.0.inside c.loop-i.i c.loop-i-test.true in omega arith
 
 pub read-node-requires : goal.read-node-requires
 read-node-requires c =
     let a = c.args in
     let at = get_or a.kept.starts c.loop-i.i 0 in
-    let h = inside c in
+    let h = c.requires.0.inside c.loop-i.i c.loop-i-test.true in
     length_lent a.memory.now at (at + 51 - at) (omega arith) ∙ (let q : at + 51 - at ≡ 51 = omega arith in q)
 
 -- the node read is the one that stands there
-same_node : (c : tie.After-read invariant-loop decreases-loop) →
-    let a = c.before.before.before.before.before.before.before.args in
-    c.read.result ≡ node_at a.memory.now (get_or a.kept.starts c.before.before.before.loop.i 0)
-same_node c =
-    let a = c.before.before.before.before.before.before.before.args in
-    let at = get_or a.kept.starts c.before.before.before.loop.i 0 in
-    c.read.ensures ∙ ap (λ (k : ℕ). record_node (take k (drop at a.memory.now))) (let q : at + 51 - at ≡ 51 = omega arith in q)
+same_node : (memory : List ℕ) (at : ℕ) (node : Node) → node ≡ record_node (take (at + 51 - at) (drop at memory)) → node ≡ node_at memory at
+same_node memory at node e = e ∙ ap (λ (k : ℕ). record_node (take k (drop at memory))) (let q : at + 51 - at ≡ 51 = omega arith in q)
 
 -- there is room behind those written
-room : (c : tie.In-loop invariant-loop decreases-loop) → c.before.loop.at ≤ length c.before.loop.out
-room c =
-    let l = c.before.loop in
-    let s = c.before.before.before.before.before in
-    let a = s.args in
-    room_left a.memory.now a.kept s.requires.0 l.i c.loop-test.true s.requires.1 a.out.now l.out s.requires.2 l.at l.invariant.3 l.invariant.1
-
 pub slice_bounds-write-count : goal.slice_bounds-write-count
-slice_bounds-write-count c = let h = room c in omega arith
+slice_bounds-write-count c =
+    let l = c.loop-i in
+    let a = c.args in
+    let h = room_left a.memory.now a.kept c.requires.0 l.i c.loop-i-test.true c.requires.1 a.out.now l.out c.requires.2 l.at l.invariant.3 l.invariant.1 in
+    omega arith
 
 pub slice_bounds-write-start : goal.slice_bounds-write-start
-slice_bounds-write-start c = room c
+slice_bounds-write-start c =
+    let l = c.loop-i in
+    let a = c.args in
+    room_left a.memory.now a.kept c.requires.0 l.i c.loop-i-test.true c.requires.1 a.out.now l.out c.requires.2 l.at l.invariant.3 l.invariant.1
 
 pub overflow_add-at : goal.overflow_add-at
 overflow_add-at c =
@@ -66,7 +57,7 @@ overflow_add-at c =
     let a = c.args in
     let turn = c.loop-i-test.true in
     let h = node_fits a.memory.now a.kept c.requires.0 l.i turn c.requires.1 a.out.now l.out c.requires.2 l.at l.invariant.3 l.invariant.1
-    c.read-node.result (same_node c) in
+    c.read-node.result (same_node a.memory.now (get_or a.kept.starts l.i 0) c.read-node.result c.read-node.ensures) in
     let e = c.packed_length-at.ensures in
     omega arith
 
@@ -77,7 +68,7 @@ loop-i-preserved c =
     let m = a.memory.now in
     let h = c.loop-i-test.true in
     let node = c.read-node.result in
-    let same = same_node c in
+    let same = same_node m (get_or a.kept.starts l.i 0) node c.read-node.ensures in
     let w = c.write in
     let e = c.packed_length-at.ensures in
     let f = ap (λ (n : Node). packed_length n.family) same in

@@ -1,8 +1,5 @@
 -- `record::address` meets its contract: 16 bytes are copied over 16 zeros. Assumes nothing.
-use mathlib.Core.Path.{◌∙◌, sym}
-use lib.ListN.{replicate}
-use Rattle.wire.proofs.Copy.{copy_whole}
 use Rattle.buckets.proofs.record.address.Goals as goal
 
 pub returns : goal.returns
-returns c = c.copy_from_slice.ensures.1 ∙ copy_whole c.args.bytes.now (replicate 16 0) (sym c.requires)
+returns c = c.copy_from_slice.ensures.after

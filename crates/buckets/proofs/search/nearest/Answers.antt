@@ -15,11 +15,11 @@ pub loop-bucket-preserved : goal.loop-bucket-preserved
 loop-bucket-preserved c =
     let a = c.args in
     let l = c.loop-bucket in
-    (omega arith, bucket_passed a.memory.now a.target.now [] l.bucket l.auto l.invariant.1 c.with_bucket-kept.result c.with_bucket-kept.ensures)
+    (omega arith, bucket_passed a.memory.now a.target.now [] l.bucket l.kept l.invariant.1 c.with_bucket-kept.result c.with_bucket-kept.ensures)
 
 pub returns : goal.returns
 returns c =
     let a = c.args in
     let l = c.loop-bucket in
     let e : l.bucket ≡ 256 = let h = l.invariant.0 in let k = c.loop-bucket-test.false in omega arith in
-    buckets_passed a.memory.now a.target.now l.bucket e l.auto l.invariant.1
+    buckets_passed a.memory.now a.target.now l.bucket e l.kept l.invariant.1

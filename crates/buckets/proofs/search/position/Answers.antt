@@ -1,31 +1,12 @@
 -- `search::position` meets its contract. The invariant: those passed are not nearer, so that the place is at none of them. Assumes nothing.
-use mathlib.Core.Path.{◌≡◌, ◌∙◌, sym}
-use Prim.Native.Nat.{◌+◌, ◌-◌, ◌≤◌}
+use mathlib.Core.Path.{◌∙◌, sym}
+use Prim.Native.Nat.{◌-◌}
 use native.Mathlib.Omega.{arith}
-use lib.ListN.{length, get_or}
-use Rattle.key.specs.Keys.{nearer}
-use Rattle.nearest.specs.Lists.{node_key}
+use lib.ListN.{get_or}
 use Rattle.nearest.proofs.Place.{place_le}
 use Rattle.buckets.specs.Kept.{node_at, kept_nodes}
 use Rattle.buckets.proofs.KeptLaws.{kept_length, nearer_lent, scan_goes_on, scan_stops}
 use Rattle.buckets.proofs.search.position.Goals as goal
-
--- a record that is kept lies within the memory
-kept-inside : (c : tie.In-loop invariant-loop decreases-loop) → get_or c.before.before.before.before.before.args.kept.starts (c.before.loop.i - 1) 0 + 51
-    ≤ length c.before.before.before.before.before.args.memory.now
-kept-inside c = c.before.before.before.before.before.requires.0.starts.inside (c.before.loop.i - 1) (omega arith)
-
--- the test is the comparison of the two nodes
-compared : (c : tie.After-nearer invariant-loop decreases-loop) →
-    let a = c.before.before.before.before.before.before.before.before.args in
-    c.nearer.result
-    ≡ nearer a.target.now (node_key (node_at a.memory.now (get_or a.kept.starts (c.before.before.before.before.loop.i - 1) 0)))
-    (node_key (node_at a.memory.now a.at))
-compared c =
-    let s = c.before.before.before.before.before.before.before.before in
-    let a = s.args in
-    nearer_lent a.memory.now a.target.now s.requires.2 (get_or a.kept.starts (c.before.before.before.before.loop.i - 1) 0) a.at
-    (kept-inside c.before.before.before) s.requires.1 c.nearer.result c.nearer.ensures.answers
 
 pub loop-i-init : goal.loop-i-init
 loop-i-init c =
@@ -34,28 +15,34 @@ loop-i-init c =
     let l = kept_length a.memory.now a.kept c.requires.0.starts in
     (omega arith, omega arith)
 
+-- a record that is kept lies within the memory
 pub overflow_add-stop : goal.overflow_add-stop
-overflow_add-stop c = let h = kept-inside c in omega arith
+overflow_add-stop c = let h = c.requires.0.starts.inside (c.loop-i.i - 1) (omega arith) in omega arith
 
 pub slice_bounds-nearer-end : goal.slice_bounds-nearer-end
-slice_bounds-nearer-end c = let h = kept-inside c in omega arith
+slice_bounds-nearer-end c = let h = c.requires.0.starts.inside (c.loop-i.i - 1) (omega arith) in omega arith
 
+-- the test is the comparison of the two nodes
 pub returns-then-nearer : goal.returns-then-nearer
 returns-then-nearer c =
     let l = c.loop-i in
     let a = c.args in
     let h = c.loop-i-test.true in
+    let e = nearer_lent a.memory.now a.target.now c.requires.2 (get_or a.kept.starts (l.i - 1) 0) a.at (c.requires.0.starts.inside (l.i - 1) (omega arith)) c.requires.1
+    c.nearer.result c.nearer.ensures in
     let q = scan_stops a.memory.now a.target.now a.kept c.requires.0 a.at (l.i - 1) (omega arith)
-    (sym (compared c) ∙ c.if-nearer.true) (let i = l.invariant.1 in omega arith) in
+    (sym e ∙ c.if-nearer.true) (let i = l.invariant.1 in omega arith) in
     omega arith
 
 pub loop-i-preserved : goal.loop-i-preserved
 loop-i-preserved c =
     let l = c.loop-i in
     let a = c.args in
-    let h = c.loop-i-test.true in (
+    let h = c.loop-i-test.true in
+    let e = nearer_lent a.memory.now a.target.now c.requires.2 (get_or a.kept.starts (l.i - 1) 0) a.at (c.requires.0.starts.inside (l.i - 1) (omega arith)) c.requires.1
+    c.nearer.result c.nearer.ensures in (
       omega arith,
-      scan_goes_on a.memory.now a.target.now a.kept c.requires.0 a.at (l.i - 1) (omega arith) (sym (compared c) ∙ c.if-nearer.false),
+      scan_goes_on a.memory.now a.target.now a.kept c.requires.0 a.at (l.i - 1) (omega arith) (sym e ∙ c.if-nearer.false),
     )
 
 pub returns : goal.returns

@@ -1,20 +1,12 @@
 -- `frame_reader::shown::frame` meets its contract. Each way out is one case of `frame_part`. Assumes nothing.
 use borrow.Author.Rules.{rules}
 use borrow.Author.Tests.{le-leb, lt-leb}
-use native.Mathlib.Omega.{arith}
-use lib.ListN.{length-take}
 use Rattle.frame_reader.specs.Parts.{frame_part}
 use Rattle.frame_reader.proofs.shown.frame.Goals as goal
-
-pub slice_bounds-result-end-then-end-piece : goal.slice_bounds-result-end-then-end-piece
-slice_bounds-result-end-then-end-piece c = simp length-take (omega arith)
 
 pub returns-then-end-piece : goal.returns-then-end-piece
 unfolding frame_part
 returns-then-end-piece c = rw (c.in-InPiece.is, le-leb _ _ c.if-end-piece.true) (search rules)
-
-pub slice_bounds-result-end-then-end-keep : goal.slice_bounds-result-end-then-end-keep
-slice_bounds-result-end-then-end-keep c = simp length-take (omega arith)
 
 pub returns-then-end-keep : goal.returns-then-end-keep
 unfolding frame_part

@@ -9,17 +9,14 @@ use Rattle.key.proofs.Bits.{xor_none, shared_same_at, shared_differ_at, shared_e
 use Rattle.key.proofs.in_place.shared_of_parts.Goals as goal
 
 -- a byte has at most 8 leading zeros
-few : (c : tie.Then1 invariant-loop decreases-loop)
-    → let l = c.before.before.before.before.loop in
-    let s = c.before.before.before.before.before in
-    count_leading_zeros 8 (bit_xor (get_or s.args.a.now l.i 0) (get_or s.args.b.now l.i 0)) ≤ 8
-few c = leading_le 8 _
+few : (x y : ℕ) → count_leading_zeros 8 (bit_xor x y) ≤ 8
+few x y = leading_le 8 _
 
 pub overflow_cast-result : goal.overflow_cast-result
-overflow_cast-result c = omega (arith, few c)
+overflow_cast-result c = omega (arith, few (get_or c.args.a.now c.loop-i.i 0) (get_or c.args.b.now c.loop-i.i 0))
 
 pub overflow_add-result : goal.overflow_add-result
-overflow_add-result c = omega (arith, few c)
+overflow_add-result c = omega (arith, few (get_or c.args.a.now c.loop-i.i 0) (get_or c.args.b.now c.loop-i.i 0))
 
 pub returns-then-x-ne0 : goal.returns-then-x-ne0
 returns-then-x-ne0 c =
@@ -27,8 +24,8 @@ returns-then-x-ne0 c =
     let a = c.args.a.now in
     let b = c.args.b.now in
     let x : ℕ = get_or a l.i 0 in
-    let e = shared_differ_at a b l.i (omega arith) (omega arith) (c.type_inv.a l.i)
-    (c.type_inv.b l.i) (λ h. c.if-x-ne0.true (ap (bit_xor x) (sym h) ∙ xor_self x)) in
+    let e = shared_differ_at a b l.i (omega arith) (omega arith) (c.type_inv.a l.i).fits
+    (c.type_inv.b l.i).fits (λ h. c.if-x-ne0.true (ap (bit_xor x) (sym h) ∙ xor_self x)) in
     omega (arith, l.invariant.1)
 
 pub loop-i-preserved : goal.loop-i-preserved
@@ -37,7 +34,7 @@ loop-i-preserved c =
     let a = c.args.a.now in
     let b = c.args.b.now in
     let e = shared_same_at a b l.i (omega arith) (omega arith) (xor_none 8 (get_or a l.i 0) (get_or b l.i 0)
-    (c.type_inv.a l.i) (c.type_inv.b l.i) c.if-x-ne0.false) in
+    (c.type_inv.a l.i).fits (c.type_inv.b l.i).fits c.if-x-ne0.false) in
     omega (arith, l.invariant.1)
 
 pub returns : goal.returns

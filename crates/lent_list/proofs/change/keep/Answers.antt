@@ -1,8 +1,9 @@
 -- `change::keep` meets its contract: each way out is a case of the laws of offers by value, on the list that stands in the memory. Assumes nothing.
+use borrow.Author.Rules.{rules}
 use mathlib.Core.Path.{◌≡◌, ◌∙◌, sym, ap, ap₂}
 use mathlib.Core.Bool.{Bool, true, false}
 use mathlib.Core.List.{List, ◌++◌}
-use mathlib.Core.Logic.{◌⊎◌, inl, inr, ⊎_elim}
+use mathlib.Core.Logic.{◌⊎◌, inl, inr}
 use Prim.Native.Nat.{ℕ, ◌+◌, ◌-◌, ◌*◌, ◌<◌, ◌≤◌}
 use native.Mathlib.Omega.{arith}
 use lib.ListN.{length, get_or, take, drop, set}
@@ -18,7 +19,10 @@ use Rattle.node.proofs.WriteLaws.{with_part}
 use Rattle.nearest.specs.declared.NearestList.{NearestList}
 use Rattle.nearest.specs.declared.Offered.{Offered}
 use Rattle.nearest.specs.Lists.{node_key}
-use Rattle.nearest.specs.Calls.{offer_answer, offered}
+use Rattle.nearest.specs.Calls.{checked, offer_answer, offered}
+use Rattle.nearest.specs.declared.Answer.TheVariants.{Done}
+use Rattle.nearest.specs.Slots.{position}
+use Rattle.node.specs.Families.{known_family}
 use Rattle.nearest.proofs.Front.{no_node}
 use Rattle.nearest.proofs.Judge.{whole}
 use Rattle.nearest.proofs.OfferLaws.{AtPlace, count_small, place_within, offer_replaced, offer_added, offer_put_out, offer_too_far}
@@ -27,6 +31,7 @@ use Rattle.lent_list_laws.proofs.RoundTrips.{stored_same}
 use Rattle.lent_list_laws.proofs.ChangeLaws.{slots_of, changed, nodes_there, key_there, placed, slots_stored, count_stored}
 use Rattle.lent_list.proofs.ShiftLaws.{put_at}
 use Rattle.lent_list.proofs.change.keep.Goals as goal
+use Rattle.lent_list.proofs.change.keep.Goals.{then-place-count+else-equals, else-place-count}
 
 -- what is answered, and what is left
 abbrev Keeps : List ℕ → Node → Bool → List ℕ → Type 0
@@ -58,10 +63,10 @@ module _ {m : List ℕ} {n : Node} {p : ℕ} (known : Placed m n p) where
       let w = count_small (list_at m) n p known.at in
       q ∙ ap₂ same_key (key_there m known.room p (omega arith) held e) (key_itself (node_key n) known.at.new_key.long)
 
-  keeps-replaced : p < (list_at m).count → same_key (node_key (get_or (list_at m).nodes p no_node)) (node_key n) ≡ true
+  keeps_replaced : p < (list_at m).count → same_key (node_key (get_or (list_at m).nodes p no_node)) (node_key n) ≡ true
       → (slots : List ℕ) → slots ≡ take (p * 51) (slots_of m) ++ (slot_bytes n ++ drop (p * 51 + 51) (slots_of m)) → Keeps m n true (with_part m 34 850 slots)
   unfolding offer_answer
-  keeps-replaced h same slots e =
+  keeps_replaced h same slots e =
       let ns = set (list_at m).nodes p n in
       let w = count_small (list_at m) n p known.at in
       let put = put_at (slots_of m) (length_lent m 34 816 known.room) (bytes_take 816 (drop 34 m) (bytes_drop 34 m known.bytes)) p (omega arith) n in
@@ -69,10 +74,10 @@ module _ {m : List ℕ} {n : Node} {p : ℕ} (known : Placed m n p) where
       (slots_stored m known.room known.bytes ns slots (e ∙ put ∙ ap (λ (x : List Node). slots_bytes (set x p n)) (nodes_there m)))
 
   module _ (fresh : Fresh m n p) where
-    keeps-added : (list_at m).count < (list_at m).size → (slots : List ℕ) → slots ≡ slots_bytes (opened (slots_at 16 (slots_of m)) p n ((list_at m).count + 1))
+    keeps_added : (list_at m).count < (list_at m).size → (slots : List ℕ) → slots ≡ slots_bytes (opened (slots_at 16 (slots_of m)) p n ((list_at m).count + 1))
         → Keeps m n true (set (with_part m 34 850 slots) 1 ((list_at m).count + 1))
     unfolding offer_answer
-    keeps-added h slots e =
+    keeps_added h slots e =
         let c = (list_at m).count + 1 in
         let ns = opened (slots_at 16 (slots_of m)) p n c in
         let w = count_small (list_at m) n p known.at in
@@ -81,125 +86,139 @@ module _ {m : List ℕ} {n : Node} {p : ℕ} (known : Placed m n p) where
         (count_stored m known.room known.bytes ns slots e c (omega arith))
 
     module _ (full : (list_at m).size ≤ (list_at m).count) where
-      keeps-put-out : p < (list_at m).count → (slots : List ℕ) → slots ≡ slots_bytes (opened (slots_at 16 (slots_of m)) p n ((list_at m).count - 1 + 1))
+      keeps_put_out : p < (list_at m).count → (slots : List ℕ) → slots ≡ slots_bytes (opened (slots_at 16 (slots_of m)) p n ((list_at m).count - 1 + 1))
           → Keeps m n true (with_part m 34 850 slots)
       unfolding offer_answer
-      keeps-put-out h slots e =
+      keeps_put_out h slots e =
           let c = (list_at m).count - 1 + 1 in
           let ns = opened (slots_at 16 (slots_of m)) p n c in
           keeps m n true (changed (list_at m) (list_at m).count ns) _
           (offer_put_out (list_at m) n p known.at fresh full h ns (ap (λ (x : List Node). opened x p n c) (nodes_there m)))
           (slots_stored m known.room known.bytes ns slots e)
 
-      keeps-too-far : (list_at m).count ≤ p → Keeps m n false m
+      keeps_too_far : (list_at m).count ≤ p → Keeps m n false m
       unfolding offer_answer
-      keeps-too-far h = keeps m n false (list_at m) m (offer_too_far (list_at m) n p known.at fresh full h) (sym (stored_same m known.bytes))
+      keeps_too_far h = keeps m n false (list_at m) m (offer_too_far (list_at m) n p known.at fresh full h) (sym (stored_same m known.bytes))
 
--- ---- what is known on the way
-module _ (c : tie.After-slice-known) where
-  abbrev memory : List ℕ
-  memory = c.before.args.memory.now
+-- the size and the count, as they are read
+small : (m : List ℕ) → checked (list_at m) ≡ Done → (get_or m 0 0 ≤ 16) × (get_or m 1 0 ≤ get_or m 0 0)
+unfolding list_at
+small m stands = let w = whole (list_at m) stands in (w.small, w.within)
 
-  abbrev new : Node
-  new = c.before.args.t2
+-- what is known once the place is found, from what the search and the caller told
+at_place : (m : List ℕ) (n : Node) (p : ℕ) → 850 ≤ length m → Bytes m → checked (list_at m) ≡ Done → known_family n.family ≡ true → IsKey (node_key n)
+    → p ≡ position (take 32 (drop 2 m)) (node_key n) (take (get_or m 1 0) (slots_at 16 (slots_of m))) → Placed m n p
+at_place m n p room bytes stands family key e = record { room = room; bytes = bytes; at = placed m room bytes n p stands family key e }
 
-  bytes : Bytes memory
-  bytes = bytes_each memory (λ i. (c.slice-known.given i).fits)
-
-  new_key : IsKey (node_key new)
-  new_key = (is_node new c.before.well_formed.1.0.0 c.before.well_formed.1.0.1.1).key
-
-  -- the bytes of the slots
-  long : length (slots_of memory) ≡ 816
-  long = length_lent memory 34 816 c.before.requires.0
-
-  -- the size and the count, as they are read
-  small : (get_or memory 0 0 ≤ 16) × (get_or memory 1 0 ≤ get_or memory 0 0)
-  unfolding list_at
-  small = let w = whole (list_at memory) c.before.requires.1 in (w.small, w.within)
-
-pub overflow_cast-size : goal.overflow_cast-size
-overflow_cast-size c = omega (arith, c.type_inv.memory 0)
-
-pub overflow_cast-count : goal.overflow_cast-count
-overflow_cast-count c = omega (arith, c.type_inv.memory 1)
+-- ---- the answers
 
 pub place-place-requires : goal.place-place-requires
 place-place-requires c =
     let h = c.requires.0 in
-    let l = small c in
-    (length_lent (memory c) 2 32 (omega arith), long c, omega arith, (new_key c).long)
-
-module _ (c : tie.After-place) where
-  abbrev start : tie.After-slice-known
-  start = c.before.before.before.before.before.before.before.before.before
-
-  at_place : Placed (memory start) (new start) c.place.result
-  at_place =
-      let s = start.before in
-      record {
-        room = s.pre.0;
-        bytes = bytes start;
-        at = placed (memory start) s.pre.0 (bytes start) (new start) c.place.result s.pre.1 s.pre.2 (new_key start) c.place.ensures;
-      }
+    let m = c.args.memory.now in
+    let long = length_lent m 34 816 c.requires.0 in
+    let l = small m c.requires.1 in
+    (length_lent m 2 32 (omega arith), long, omega arith, (is_node c.args.node c.well_formed.1.0.0 c.well_formed.1.0.1.1).key.long)
 
 pub key_at-held-requires : goal.key_at-held-requires
 key_at-held-requires c =
-    let k = start c in
-    let l = small k in
+    let m = c.args.memory.now in
+    let long = length_lent m 34 816 c.requires.0 in
+    let l = small m c.requires.1 in
     let d = c.if-place-count.true in
-    (long k, omega arith)
+    (long, omega arith)
 
 pub write_at-requires : goal.write_at-requires
 write_at-requires c =
-    let k = start c in
-    let l = small k in
+    let m = c.args.memory.now in
+    let long = length_lent m 34 816 c.requires.0 in
+    let l = small m c.requires.1 in
     let d = c.if-place-count.true in
-    (long k, omega arith)
+    (long, omega arith)
 
 pub returns-then-equals : goal.returns-then-equals
 unfolding list_at
 returns-then-equals c =
-    let k = at_place c in
+    let m = c.args.memory.now in
+    let n = c.args.node in
+    let bytes : Bytes m = bytes_each m (λ i. search rules) in
+    let key = (is_node n c.well_formed.1.0.0 c.well_formed.1.0.1.1).key in
+    let k = at_place m n c.place-place.result c.requires.0 bytes c.requires.1 c.requires.2 key c.place-place.ensures in
     let q = compared k c.if-place-count.true c.key_at-held.ensures c.equals.ensures in
-    keeps-replaced k c.if-place-count.true (sym q ∙ c.if-equals.true) _ c.write_at.ensures
-
--- the key does not stand at the place
-not_there : (c : tie.Joined1) → Fresh (memory (start c.before)) (new (start c.before)) c.before.place.result
-unfolding list_at
-not_there c =
-    let k = at_place c.before in
-    ⊎_elim (λ w. inr (sym (compared k w.0.taken w.3.ensures w.7.ensures) ∙ w.8.left)) (λ w. inl w.left) c.if1.branch
+    let t = keeps_replaced k c.if-place-count.true (sym q ∙ c.if-equals.true) _ c.write_at.ensures in
+    record { result_value = t.0; memory_after = t.1 }
 
 pub open_at-requires : goal.open_at-requires
 unfolding list_at
 open_at-requires c =
-    let l = small (start c) in
+    let m = c.args.memory.now in
+    let n = c.args.node in
+    let bytes : Bytes m = bytes_each m (λ i. search rules) in
+    let key = (is_node n c.well_formed.1.0.0 c.well_formed.1.0.1.1).key in
+    let k = at_place m n c.place-place.result c.requires.0 bytes c.requires.1 c.requires.2 key c.place-place.ensures in
+    let long = length_lent m 34 816 c.requires.0 in
+    let l = small m c.requires.1 in
     let d = c.if-count-size.true in
-    (long (start c), place_within (list_at (memory (start c))) (new (start c)) c.place-place.result (at_place c).at, omega arith)
+    (long, place_within (list_at m) n c.place-place.result k.at, omega arith)
 
 pub overflow_add-memory : goal.overflow_add-memory
-overflow_add-memory c = let l = small (start c) in omega arith
+overflow_add-memory c = let l = small c.args.memory.now c.requires.1 in omega arith
 
 pub overflow_cast-memory : goal.overflow_cast-memory
-overflow_cast-memory c = let l = small (start c) in omega arith
+overflow_cast-memory c = let l = small c.args.memory.now c.requires.1 in omega arith
 
 pub returns-then-count-size : goal.returns-then-count-size
 unfolding list_at
-returns-then-count-size c = keeps-added (at_place c) (not_there c) c.if-count-size.true _ c.open_at.ensures
+returns-then-count-size c =
+    let m = c.args.memory.now in
+    let n = c.args.node in
+    let bytes : Bytes m = bytes_each m (λ i. search rules) in
+    let key = (is_node n c.well_formed.1.0.0 c.well_formed.1.0.1.1).key in
+    let k = at_place m n c.place-place.result c.requires.0 bytes c.requires.1 c.requires.2 key c.place-place.ensures in
+    let fresh : Fresh m n c.place-place.result =
+    elim c.if-place-count.branch [
+      | then-place-count+else-equals w ↦ inr (sym (compared k w.if-place-count.true w.key_at-held.ensures w.equals.ensures) ∙ w.if-equals.false)
+      | else-place-count w ↦ inl w.if-place-count.false
+    ] in
+    let t = keeps_added k fresh c.if-count-size.true _ c.open_at.ensures in
+    record { result_value = t.0; memory_after = t.1 }
 
 pub open_at-requires-then-place-count-2 : goal.open_at-requires-then-place-count-2
 open_at-requires-then-place-count-2 c =
-    let l = small (start c) in
+    let m = c.args.memory.now in
+    let long = length_lent m 34 816 c.requires.0 in
+    let l = small m c.requires.1 in
     let d = c.if-place-count-2.true in
-    (long (start c), omega arith, omega arith)
+    (long, omega arith, omega arith)
 
 pub returns-then-place-count-2 : goal.returns-then-place-count-2
 unfolding list_at
 returns-then-place-count-2 c =
-    keeps-put-out (at_place c) (not_there c) c.if-count-size.false c.if-place-count-2.true
-    _ c.open_at-then-place-count-2.ensures
+    let m = c.args.memory.now in
+    let n = c.args.node in
+    let bytes : Bytes m = bytes_each m (λ i. search rules) in
+    let key = (is_node n c.well_formed.1.0.0 c.well_formed.1.0.1.1).key in
+    let k = at_place m n c.place-place.result c.requires.0 bytes c.requires.1 c.requires.2 key c.place-place.ensures in
+    let fresh : Fresh m n c.place-place.result =
+    elim c.if-place-count.branch [
+      | then-place-count+else-equals w ↦ inr (sym (compared k w.if-place-count.true w.key_at-held.ensures w.equals.ensures) ∙ w.if-equals.false)
+      | else-place-count w ↦ inl w.if-place-count.false
+    ] in
+    let t = keeps_put_out k fresh c.if-count-size.false c.if-place-count-2.true _ c.open_at-then-place-count-2.ensures in
+    record { result_value = t.0; memory_after = t.1 }
 
 pub returns : goal.returns
 unfolding list_at
-returns c = keeps-too-far (at_place c) (not_there c) c.if-count-size.false c.if-place-count-2.false
+returns c =
+    let m = c.args.memory.now in
+    let n = c.args.node in
+    let bytes : Bytes m = bytes_each m (λ i. search rules) in
+    let key = (is_node n c.well_formed.1.0.0 c.well_formed.1.0.1.1).key in
+    let k = at_place m n c.place-place.result c.requires.0 bytes c.requires.1 c.requires.2 key c.place-place.ensures in
+    let fresh : Fresh m n c.place-place.result =
+    elim c.if-place-count.branch [
+      | then-place-count+else-equals w ↦ inr (sym (compared k w.if-place-count.true w.key_at-held.ensures w.equals.ensures) ∙ w.if-equals.false)
+      | else-place-count w ↦ inl w.if-place-count.false
+    ] in
+    let t = keeps_too_far k fresh c.if-count-size.false c.if-place-count-2.false in
+    record { result_value = t.0; memory_after = t.1 }

@@ -1,4 +1,5 @@
 -- `change::take_out` meets its contract: each way out is a case of the laws of removals by value, on the list that stands in the memory. Assumes nothing.
+use borrow.Author.Rules.{rules}
 use mathlib.Core.Path.{◌≡◌, ◌∙◌, sym, ap}
 use mathlib.Core.Bool.{Bool, true, false}
 use mathlib.Core.List.{List, ◌∷◌, ◌++◌}
@@ -57,9 +58,9 @@ module _ {m : List ℕ} {k : Key} {p : ℕ} (known : Sought m k p) where
   unfolding list_at
   in_list = known.place ∙ ap (λ (ns : List Node). index_of k.0 (take (get_or m 1 0) ns)) (nodes_there m)
 
-  takes-nothing : (list_at m).count ≤ p → Takes m k false m
+  takes_nothing : (list_at m).count ≤ p → Takes m k false m
   unfolding remove_answer
-  takes-nothing h = takes m k false (list_at m) m (remove_not_held (list_at m) k known.stands (all_slots m) p in_list h) (sym (stored_same m known.bytes))
+  takes_nothing h = takes m k false (list_at m) m (remove_not_held (list_at m) k known.stands (all_slots m) p in_list h) (sym (stored_same m known.bytes))
 
   takes_one : p < (list_at m).count → (slots : List ℕ) → slots ≡ slots_bytes (closed (slots_at 16 (slots_of m)) p ((list_at m).count - 1))
       → Takes m k true (set (with_part m 34 850 slots) 1 ((list_at m).count - 1))
@@ -74,49 +75,37 @@ module _ {m : List ℕ} {k : Key} {p : ℕ} (known : Sought m k p) where
       (remove_done (list_at m) k known.stands (all_slots m) p in_list h ns (ap (λ (x : List Node). closed x p c) (nodes_there m)))
       (count_stored m known.room known.bytes ns slots e c (omega arith))
 
--- ---- what is known on the way
-module _ (c : tie.After-slice-known) where
-  abbrev memory : List ℕ
-  memory = c.before.args.memory.now
-
-  bytes : Bytes memory
-  bytes = bytes_each memory (λ i. (c.slice-known.given i).fits)
-
-  -- the bytes of the slots
-  long : length (slots_of memory) ≡ 816
-  long = length_lent memory 34 816 c.before.requires.0
-
-  -- the count, as it is read
-  small : get_or memory 1 0 ≤ 16
-  small = count_there memory c.before.requires.1
-
-module _ (c : tie.After-find) where
-  abbrev start : tie.After-slice-known
-  start = c.before.before.before.before.before.before.before
-
-  sought : Sought (memory start) start.before.args.t2 c.find.result
-  sought = record { room = start.before.pre.0; bytes = bytes start; stands = start.before.pre.1; place = c.find.ensures }
-
-pub overflow_cast-count : goal.overflow_cast-count
-overflow_cast-count c = omega (arith, c.type_inv.memory 1)
+-- ---- the answers
 
 pub find-index-requires : goal.find-index-requires
-find-index-requires c = (long c, small c, (is_key c.args.t2 c.well_formed.1.0.0 c.well_formed.1.0.1.1).long)
+find-index-requires c =
+    let m = c.args.memory.now in
+    (length_lent m 34 816 c.requires.0, count_there m c.requires.1, (is_key c.args.key c.well_formed.1.0.0 c.well_formed.1.0.1.1).long)
 
 pub returns-then-count-index : goal.returns-then-count-index
 unfolding list_at
-returns-then-count-index c = takes-nothing (sought c) c.if-count-index.true
+returns-then-count-index c =
+    let m = c.args.memory.now in
+    let s : Sought m c.args.key c.find-index.result
+    = record { room = c.requires.0; bytes = bytes_each m (λ i. search rules); stands = c.requires.1; place = c.find-index.ensures } in
+    let t = takes_nothing s c.if-count-index.true in
+    record { result_value = t.0; memory_after = t.1 }
 
 pub close_at-requires : goal.close_at-requires
 close_at-requires c =
-    let k = start c in
-    let l = small k in
+    let m = c.args.memory.now in
+    let l = count_there m c.requires.1 in
     let d = c.if-count-index.false in
-    (long k, omega arith, omega arith)
+    (length_lent m 34 816 c.requires.0, omega arith, omega arith)
 
 pub overflow_cast-memory : goal.overflow_cast-memory
-overflow_cast-memory c = let l = small (start c) in omega arith
+overflow_cast-memory c = let l = count_there c.args.memory.now c.requires.1 in omega arith
 
 pub returns : goal.returns
 unfolding list_at
-returns c = takes_one (sought c) c.if-count-index.false _ c.close_at.ensures
+returns c =
+    let m = c.args.memory.now in
+    let s : Sought m c.args.key c.find-index.result
+    = record { room = c.requires.0; bytes = bytes_each m (λ i. search rules); stands = c.requires.1; place = c.find-index.ensures } in
+    let t = takes_one s c.if-count-index.false _ c.close_at.ensures in
+    record { result_value = t.0; memory_after = t.1 }

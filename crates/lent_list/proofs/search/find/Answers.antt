@@ -2,9 +2,10 @@
 use mathlib.Core.Path.{◌≡◌, ◌∙◌, ap}
 use mathlib.Core.Bool.{Bool, true, false, cond}
 use mathlib.Core.List.{List}
-use Prim.Native.Nat.{ℕ, suc, ◌+◌}
+use Prim.Native.Nat.{ℕ, suc, ◌+◌, ◌*◌, ◌<◌, ◌≤◌}
 use native.Mathlib.Omega.{arith}
-use lib.ListN.{take, drop}
+use lib.ListN.{length, take, drop}
+use Rattle.key.specs.Keys.{same_key, key_of}
 use Rattle.key.proofs.Lent.{key_itself}
 use Rattle.nearest.specs.Slots.{index_of}
 use Rattle.nearest.proofs.Front.{no_node, front_next, front_end}
@@ -12,39 +13,36 @@ use Rattle.nearest.proofs.Steps.{index_one, index_none}
 use Rattle.lent_list_laws.specs.Layout.{slots_at}
 use Rattle.lent_list_laws.proofs.SlotLaws.{slots_number}
 use Rattle.lent_list_laws.proofs.PartLaws.{key_lent}
+use Rattle.lent_list.proofs.search.find.Invariants.{rest}
 use Rattle.lent_list.proofs.search.find.Goals as goal
 
--- where the key stands among the nodes from `i` on
-abbrev rest : List ℕ → ℕ → List ℕ → ℕ → ℕ
-rest slots count key i = index_of key (drop i (take count (slots_at 16 slots)))
-
 -- what the comparison of a node's key with the key tells
-one_more : (c : tie.After-equals invariant-loop decreases-loop) (b : Bool) → c.equals.result ≡ b →
-    let a = c.before.before.before.before.before.before.args in
-    let i = c.before.before.before.loop.i in
-    rest a.slots.now a.count a.key.now i ≡ cond b 0 (suc (rest a.slots.now a.count a.key.now (i + 1)))
-one_more c b e =
-    let s = c.before.before.before.before.before.before in
-    let a = s.args in
-    let i = c.before.before.before.loop.i in
-    let n = slots_number 16 a.slots.now in
-    let k = key_itself a.key.now s.requires.2 in
-    let p = key_lent 16 i a.slots.now no_node (omega arith) (omega arith) c.before.key-at.result.now c.before.key-at.ensures in
-    ap (index_of a.key.now) (front_next (slots_at 16 a.slots.now) a.count (omega arith) no_node i (omega arith))
-    ∙ index_one a.key.now _ _ b (cc c.equals.ensures)
+one_more : (slots key part : List ℕ) (count i : ℕ) (r b : Bool) → length slots ≡ 816 → count ≤ 16 → length key ≡ 32 → i < count
+    → part ≡ take 32 (drop (i * 51 + 19) slots) → r ≡ same_key (key_of part) (key_of key) → r ≡ b
+    → rest slots count key i ≡ cond b 0 (suc (rest slots count key (i + 1)))
+one_more slots key part count i r b hs hc hk h e q g =
+    let n = slots_number 16 slots in
+    let k = key_itself key hk in
+    let p = key_lent 16 i slots no_node (omega arith) (omega arith) part e in
+    ap (index_of key) (front_next (slots_at 16 slots) count (omega arith) no_node i (omega arith))
+    ∙ index_one key _ _ b (cc)
 
 pub loop-i-init : goal.loop-i-init
 loop-i-init c = (omega arith, omega arith)
 
 pub returns-then-equals : goal.returns-then-equals
 returns-then-equals c =
-    let e = one_more c true c.if-equals.true in
+    let a = c.args in
+    let h = c.requires in
+    let e = one_more a.slots.now a.key.now _ a.count c.loop-i.i _ true h.0 h.1 h.2 (omega arith) c.key_at.ensures c.equals.ensures c.if-equals.true in
     let i = c.loop-i.invariant.1 in
     omega arith
 
 pub loop-i-preserved : goal.loop-i-preserved
 loop-i-preserved c =
-    let e = one_more c false c.if-equals.false in
+    let a = c.args in
+    let h = c.requires in
+    let e = one_more a.slots.now a.key.now _ a.count c.loop-i.i _ false h.0 h.1 h.2 (omega arith) c.key_at.ensures c.equals.ensures c.if-equals.false in
     let i = c.loop-i.invariant.1 in
     (omega arith, omega arith)
 

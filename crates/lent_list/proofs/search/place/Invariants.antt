@@ -1,7 +1,15 @@
 -- `search::place` meets its contract. The invariant: the nodes passed are nearer, and the rest decides. Assumes nothing.
 use mathlib.Core.Path.{◌≡◌}
-use Prim.Native.Nat.{◌+◌, ◌-◌, ◌≤◌}
+use mathlib.Core.List.{List}
+use Prim.Native.Nat.{ℕ, ◌+◌, ◌-◌, ◌≤◌}
+use lib.ListN.{take, drop}
+use Rattle.nearest.specs.Slots.{position}
+use Rattle.lent_list_laws.specs.Layout.{slots_at}
 use Rattle.lent_list.proofs.search.place.Given as goal
+
+-- how many of the nodes from `i` on are nearer
+abbrev pub rest : List ℕ → List ℕ → ℕ → List ℕ → ℕ → ℕ
+rest target slots count key i = position target key (drop i (take count (slots_at 16 slots)))
 
 abbrev pub invariant-loop-i : goal.invariant-loop-i
 invariant-loop-i l =

@@ -1,4 +1,5 @@
 -- `shift::close_at` meets its contract. Assumes nothing.
+use borrow.Author.Rules.{rules}
 use mathlib.Core.Path.{◌∙◌, ap}
 use mathlib.Core.List.{◌∷◌, ◌++◌}
 use Prim.Native.Nat.{◌+◌}
@@ -17,6 +18,6 @@ returns c =
     let s = a.slots.now in
     let b = c.blank in
     c.write_at.ensures
-    ∙ closed_bytes s h.0 (bytes_each s (λ i. (c.type_inv.slots i))) a.place a.last h.1 h.2 b.result
+    ∙ closed_bytes s h.0 (bytes_each s (λ i. search rules)) a.place a.last h.1 h.2 b.result
     _ c.move_forward.ensures
     ∙ ap (λ (n : Node). slots_bytes (take a.last (remove_at a.place (slots_at 16 s)) ++ (n ∷ drop (a.last + 1) (slots_at 16 s)))) b.ensures

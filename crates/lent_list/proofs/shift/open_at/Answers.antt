@@ -1,4 +1,5 @@
 -- `shift::open_at` meets its contract. Assumes nothing.
+use borrow.Author.Rules.{rules}
 use mathlib.Core.Path.{◌∙◌}
 use Rattle.wire.proofs.Numbers.{bytes_each}
 use Rattle.lent_list.proofs.ShiftLaws.{opened_bytes}
@@ -9,5 +10,5 @@ returns c =
     let a = c.args in
     let h = c.requires in
     c.write_at.ensures
-    ∙ opened_bytes a.slots.now h.0 (bytes_each a.slots.now (λ i. (c.type_inv.slots i))) a.place a.last h.1 h.2 a.node
+    ∙ opened_bytes a.slots.now h.0 (bytes_each a.slots.now (λ i. search rules)) a.place a.last h.1 h.2 a.node
     _ c.move_back.ensures

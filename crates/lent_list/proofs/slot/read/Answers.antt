@@ -13,7 +13,7 @@ pub overflow_cast-result : goal.overflow_cast-result
 overflow_cast-result c =
     let b = c.args.bytes.now in
     let e = c.read_number.ensures ∙ ap number_of (port_part b c.requires) in
-    let l = port_small b c.requires (bytes_each b (λ i. (c.type_inv.bytes i))) in
+    let l = port_small b c.requires (bytes_each b (λ i. (c.type_inv.bytes i).fits)) in
     omega arith
 
 pub returns : goal.returns

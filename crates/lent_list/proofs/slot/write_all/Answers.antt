@@ -41,7 +41,7 @@ loop-i-preserved c =
       omega arith,
       omega arith,
       search rules,
-      one_more a.t1 a.out.now l.out _ l.i l.at (omega arith) l.invariant.2 (omega arith) l.invariant.3 c.write.ensures,
+      one_more a.nodes a.out.now l.out _ l.i l.at (omega arith) l.invariant.2 (omega arith) l.invariant.3 c.write.ensures,
     )
 
 pub returns : goal.returns
@@ -49,5 +49,5 @@ returns c =
     let l = c.loop-i in
     let a = c.args in
     let e : l.i ≡ 16 = let h = l.invariant.0 in omega arith in
-    l.invariant.3 ∙ ap₂ (λ (x : List Node) (y : List ℕ). slots_bytes x ++ y) (take_all l.i a.t1 (omega arith)) (drop_of_length-le a.out.now {i = l.at} (omega arith))
-    ∙ append-nil (slots_bytes a.t1)
+    l.invariant.3 ∙ ap₂ (λ (x : List Node) (y : List ℕ). slots_bytes x ++ y) (take_all l.i a.nodes (omega arith)) (drop_of_length-le a.out.now {i = l.at} (omega arith))
+    ∙ append-nil (slots_bytes a.nodes)

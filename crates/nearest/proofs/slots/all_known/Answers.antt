@@ -15,21 +15,21 @@ loop-i-init c = (omega arith, refl)
 pub returns-then-not-known : goal.returns-then-not-known
 returns-then-not-known c =
     let l = c.loop-i in
-    let h : c.args.count ≤ length c.args.t1 = omega arith in
-    sym (l.invariant.1 ∙ ap all_known (front_next c.args.t1 c.args.count h _ l.i c.loop-i-test.true)
+    let h : c.args.count ≤ length c.args.nodes = omega arith in
+    sym (l.invariant.1 ∙ ap all_known (front_next c.args.nodes c.args.count h _ l.i c.loop-i-test.true)
     ∙ known_one _ _ false (sym c.known.ensures ∙ c.if-not-known.true))
 
 pub loop-i-preserved : goal.loop-i-preserved
 loop-i-preserved c =
     let l = c.loop-i in
-    let h : c.args.count ≤ length c.args.t1 = omega arith in (
+    let h : c.args.count ≤ length c.args.nodes = omega arith in (
       omega arith,
-      l.invariant.1 ∙ ap all_known (front_next c.args.t1 c.args.count h _ l.i c.loop-i-test.true)
+      l.invariant.1 ∙ ap all_known (front_next c.args.nodes c.args.count h _ l.i c.loop-i-test.true)
           ∙ known_one _ _ true (sym c.known.ensures ∙ c.if-not-known.false),
     )
 
 pub returns : goal.returns
 returns c =
     let l = c.loop-i in
-    let h : c.args.count ≤ length c.args.t1 = omega arith in
-    sym (l.invariant.1 ∙ ap all_known (front_end c.args.t1 c.args.count h l.i c.loop-i-test.false) ∙ known_none)
+    let h : c.args.count ≤ length c.args.nodes = omega arith in
+    sym (l.invariant.1 ∙ ap all_known (front_end c.args.nodes c.args.count h l.i c.loop-i-test.false) ∙ known_none)

@@ -15,8 +15,8 @@ loop-i-init c = (omega arith, omega arith)
 pub returns-then-equals : goal.returns-then-equals
 returns-then-equals c =
     let l = c.loop-i in
-    let h : c.args.count ≤ length c.args.t1 = omega arith in
-    let e = ap (index_of c.args.key.0) (front_next c.args.t1 c.args.count h _ l.i c.loop-i-test.true)
+    let h : c.args.count ≤ length c.args.nodes = omega arith in
+    let e = ap (index_of c.args.key.0) (front_next c.args.nodes c.args.count h _ l.i c.loop-i-test.true)
     ∙ index_one c.args.key.0 _ _ true (sym c.equals.ensures ∙ c.if-equals.true) in
     let i = l.invariant.1 in
     omega arith
@@ -24,8 +24,8 @@ returns-then-equals c =
 pub loop-i-preserved : goal.loop-i-preserved
 loop-i-preserved c =
     let l = c.loop-i in
-    let h : c.args.count ≤ length c.args.t1 = omega arith in
-    let e = ap (index_of c.args.key.0) (front_next c.args.t1 c.args.count h _ l.i c.loop-i-test.true)
+    let h : c.args.count ≤ length c.args.nodes = omega arith in
+    let e = ap (index_of c.args.key.0) (front_next c.args.nodes c.args.count h _ l.i c.loop-i-test.true)
     ∙ index_one c.args.key.0 _ _ false (sym c.equals.ensures ∙ c.if-equals.false) in
     let i = l.invariant.1 in
     (omega arith, omega arith)
@@ -33,7 +33,7 @@ loop-i-preserved c =
 pub returns : goal.returns
 returns c =
     let l = c.loop-i in
-    let h : c.args.count ≤ length c.args.t1 = omega arith in
-    let e = ap (index_of c.args.key.0) (front_end c.args.t1 c.args.count h l.i c.loop-i-test.false) ∙ index_none c.args.key.0 in
+    let h : c.args.count ≤ length c.args.nodes = omega arith in
+    let e = ap (index_of c.args.key.0) (front_end c.args.nodes c.args.count h l.i c.loop-i-test.false) ∙ index_none c.args.key.0 in
     let i = l.invariant.1 in
     omega arith

@@ -15,25 +15,25 @@ loop-i-init c = (omega arith, omega arith)
 pub returns-then-not-nearer : goal.returns-then-not-nearer
 returns-then-not-nearer c =
     let l = c.loop-i in
-    let h : c.args.count ≤ length c.args.t2 = omega arith in
-    let e = ap (position c.args.target.0 c.args.key.0) (front_next c.args.t2 c.args.count h _ l.i c.loop-i-test.true)
-    ∙ position_one c.args.target.0 c.args.key.0 _ _ false (sym c.nearer.ensures.answers ∙ c.if-not-nearer.true) in
+    let h : c.args.count ≤ length c.args.nodes = omega arith in
+    let e = ap (position c.args.target.0 c.args.key.0) (front_next c.args.nodes c.args.count h _ l.i c.loop-i-test.true)
+    ∙ position_one c.args.target.0 c.args.key.0 _ _ false (sym c.nearer.ensures ∙ c.if-not-nearer.true) in
     let i = l.invariant.1 in
     omega arith
 
 pub loop-i-preserved : goal.loop-i-preserved
 loop-i-preserved c =
     let l = c.loop-i in
-    let h : c.args.count ≤ length c.args.t2 = omega arith in
-    let e = ap (position c.args.target.0 c.args.key.0) (front_next c.args.t2 c.args.count h _ l.i c.loop-i-test.true)
-    ∙ position_one c.args.target.0 c.args.key.0 _ _ true (sym c.nearer.ensures.answers ∙ c.if-not-nearer.false) in
+    let h : c.args.count ≤ length c.args.nodes = omega arith in
+    let e = ap (position c.args.target.0 c.args.key.0) (front_next c.args.nodes c.args.count h _ l.i c.loop-i-test.true)
+    ∙ position_one c.args.target.0 c.args.key.0 _ _ true (sym c.nearer.ensures ∙ c.if-not-nearer.false) in
     let i = l.invariant.1 in
     (omega arith, omega arith)
 
 pub returns : goal.returns
 returns c =
     let l = c.loop-i in
-    let h : c.args.count ≤ length c.args.t2 = omega arith in
-    let e = ap (position c.args.target.0 c.args.key.0) (front_end c.args.t2 c.args.count h l.i c.loop-i-test.false) ∙ position_none c.args.target.0 c.args.key.0 in
+    let h : c.args.count ≤ length c.args.nodes = omega arith in
+    let e = ap (position c.args.target.0 c.args.key.0) (front_end c.args.nodes c.args.count h l.i c.loop-i-test.false) ∙ position_none c.args.target.0 c.args.key.0 in
     let i = l.invariant.1 in
     omega arith

@@ -11,30 +11,30 @@ use Rattle.nearest.proofs.slots.rising.Goals as goal
 
 pub returns-then-count-eq0 : goal.returns-then-count-eq0
 returns-then-count-eq0 c =
-    sym (ap (λ (n : ℕ). rising c.args.target.0 (take n c.args.t2)) c.if-count-eq0.true ∙ rising_none c.args.target.0)
+    sym (ap (λ (n : ℕ). rising c.args.target.0 (take n c.args.nodes)) c.if-count-eq0.true ∙ rising_none c.args.target.0)
 
 pub loop-i-init : goal.loop-i-init
 loop-i-init c =
-    let h : c.args.count ≤ length c.args.t2 = omega arith in
-    (omega arith, omega arith, ap (rising c.args.target.0) (front_next c.args.t2 c.args.count h no_node 0 (omega arith)) ∙ rising_one c.args.target.0 _ _)
+    let h : c.args.count ≤ length c.args.nodes = omega arith in
+    (omega arith, omega arith, ap (rising c.args.target.0) (front_next c.args.nodes c.args.count h no_node 0 (omega arith)) ∙ rising_one c.args.target.0 _ _)
 
 pub returns-then-not-nearer : goal.returns-then-not-nearer
 returns-then-not-nearer c =
     let l = c.loop-i in
-    let h : c.args.count ≤ length c.args.t2 = omega arith in
-    let e = l.invariant.2 ∙ ap (rising_after c.args.target.0 (get_or c.args.t2 (l.i - 1) no_node)) (front_next c.args.t2 c.args.count h no_node l.i c.loop-i-test.true) in
-    sym (e ∙ after_one c.args.target.0 _ _ _ false (sym c.nearer.ensures.answers ∙ c.if-not-nearer.true))
+    let h : c.args.count ≤ length c.args.nodes = omega arith in
+    let e = l.invariant.2 ∙ ap (rising_after c.args.target.0 (get_or c.args.nodes (l.i - 1) no_node)) (front_next c.args.nodes c.args.count h no_node l.i c.loop-i-test.true) in
+    sym (e ∙ after_one c.args.target.0 _ _ _ false (sym c.nearer.ensures ∙ c.if-not-nearer.true))
 
 pub loop-i-preserved : goal.loop-i-preserved
 loop-i-preserved c =
     let l = c.loop-i in
-    let h : c.args.count ≤ length c.args.t2 = omega arith in
-    let e = l.invariant.2 ∙ ap (rising_after c.args.target.0 (get_or c.args.t2 (l.i - 1) no_node)) (front_next c.args.t2 c.args.count h no_node l.i c.loop-i-test.true) in
+    let h : c.args.count ≤ length c.args.nodes = omega arith in
+    let e = l.invariant.2 ∙ ap (rising_after c.args.target.0 (get_or c.args.nodes (l.i - 1) no_node)) (front_next c.args.nodes c.args.count h no_node l.i c.loop-i-test.true) in
     let k : l.i + 1 - 1 ≡ l.i = omega arith in
-    (omega arith, omega arith, rw k (e ∙ after_one c.args.target.0 _ _ _ true (sym c.nearer.ensures.answers ∙ c.if-not-nearer.false)))
+    (omega arith, omega arith, rw k (e ∙ after_one c.args.target.0 _ _ _ true (sym c.nearer.ensures ∙ c.if-not-nearer.false)))
 
 pub returns : goal.returns
 returns c =
     let l = c.loop-i in
-    let h : c.args.count ≤ length c.args.t2 = omega arith in
-    sym (l.invariant.2 ∙ ap (rising_after c.args.target.0 (get_or c.args.t2 (l.i - 1) no_node)) (front_end c.args.t2 c.args.count h l.i c.loop-i-test.false) ∙ after_none c.args.target.0 _)
+    let h : c.args.count ≤ length c.args.nodes = omega arith in
+    sym (l.invariant.2 ∙ ap (rising_after c.args.target.0 (get_or c.args.nodes (l.i - 1) no_node)) (front_end c.args.nodes c.args.count h l.i c.loop-i-test.false) ∙ after_none c.args.target.0 _)

@@ -1,6 +1,7 @@
 -- `node::family::address_length` meets its contract: each arm is a row of the definition. Assumes nothing.
 use mathlib.Core.Path.{◌≡◌, sym, ap}
-use mathlib.Core.Logic.{⊎_elim, inl, inr}
+use mathlib.Core.Logic.{◌⊎◌, ⊎_elim, inl, inr}
+use borrow.Author.Rules.{rules}
 use Rattle.node.specs.Families.{address_length}
 use Rattle.node.proofs.FamilyLaws.{unknown_address}
 use Rattle.node.proofs.family.address_length.Goals as goal
@@ -20,6 +21,6 @@ returns-in-10 c =
 pub returns-in_default : goal.returns-in_default
 returns-in_default c =
     let k = c.args.family in
-    let v4 = c.in_default.rest.0.1 in
-    let v6 = c.in_default.rest.1 in
+    let v4 : (k ≡ 2) ⊎ (k ≡ 130) → ⊥ = search rules in
+    let v6 : (k ≡ 10) ⊎ (k ≡ 138) → ⊥ = search rules in
     sym (unknown_address k (λ e. v4 (inl e)) (λ e. v6 (inl e)) (λ e. v4 (inr e)) (λ e. v6 (inr e)))

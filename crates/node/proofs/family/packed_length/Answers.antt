@@ -7,13 +7,13 @@ use Rattle.node.proofs.FamilyLaws.{address_fits}
 use Rattle.node.proofs.family.packed_length.Goals as goal
 
 pub overflow_add-result : goal.overflow_add-result
-overflow_add-result c = let h = address_fits c.args.family in let e = c.address_length.ensures in omega arith
+overflow_add-result c = omega (arith, address_fits)
 
 pub overflow_add-result-2 : goal.overflow_add-result-2
-overflow_add-result-2 c = let h = address_fits c.args.family in let e = c.address_length.ensures in omega arith
+overflow_add-result-2 c = omega (arith, address_fits)
 
 pub overflow_add-result-3 : goal.overflow_add-result-3
-overflow_add-result-3 c = let h = address_fits c.args.family in let e = c.address_length.ensures in omega arith
+overflow_add-result-3 c = omega (arith, address_fits)
 
 pub returns : goal.returns
 unfolding packed_length

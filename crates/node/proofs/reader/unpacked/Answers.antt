@@ -1,5 +1,5 @@
 -- `node::reader::unpacked` meets its contract: each part is that of the definition. Assumes nothing.
-use mathlib.Core.Path.{◌∙◌, ap}
+use mathlib.Core.Path.{◌≡◌, ◌∙◌, ap}
 use Prim.Native.Nat.{ℕ, ◌+◌, ◌-◌, ◌≤◌}
 use native.Mathlib.Omega.{arith}
 use mathlib.Core.List.{List, ◌++◌}
@@ -7,6 +7,7 @@ use lib.ListN.{length, get_or, take, drop, replicate, length-drop}
 use lib.Seq.{length-take-le}
 use Rattle.wire.specs.Numbers.{number_of}
 use Rattle.wire.proofs.Numbers.{bytes_each}
+use Rattle.node.specs.Families.{address_length, packed_length}
 use Rattle.node.specs.Nodes.{node_of}
 use Rattle.node.specs.Values.{value_of}
 use Rattle.node.proofs.FamilyLaws.{packed_length_lem, address_fits}
@@ -14,57 +15,50 @@ use Rattle.node.proofs.NodeLaws.{address_part, port_part, port_small, key_part, 
 use Rattle.node.proofs.reader.unpacked.Goals as goal
 
 -- the bytes are as many as the parts
-sizes : (c : tie.After-address-length) → (35 + c.address-length.result ≤ length c.before.before.before.args.packed.now) × (c.address-length.result ≤ 16)
-sizes c =
-    let f = get_or c.before.before.before.args.packed.now 0 0 in
-    let p = packed_length_lem f in
-    let q = address_fits f in
-    let e = c.address-length.ensures in
-    let h = c.before.before.before.requires in
+sizes : (family a bytes : ℕ) → packed_length family ≤ bytes → a ≡ address_length family → (35 + a ≤ bytes) × (a ≤ 16)
+sizes family a bytes h e =
+    let p = packed_length_lem family in
+    let q = address_fits family in
     (omega arith, omega arith)
 
 pub bounds-packed-0 : goal.bounds-packed-0
 bounds-packed-0 c = let p = packed_length_lem (get_or c.args.packed.now 0 0) in let h = c.requires in omega arith
 
 pub overflow_add-port : goal.overflow_add-port
-overflow_add-port c = let h = sizes c in omega arith
+overflow_add-port c = omega (arith, address_fits)
 
 pub overflow_add-key : goal.overflow_add-key
-overflow_add-key c = let h = sizes c in omega arith
+overflow_add-key c = omega (arith, address_fits)
 
 pub slice_bounds-padded-end : goal.slice_bounds-padded-end
-slice_bounds-padded-end c = let h = sizes c in omega arith
+slice_bounds-padded-end c =
+    let h = sizes _ _ _ c.requires c.address_length-port.ensures in omega arith
 
 pub padded-requires : goal.padded-requires
 padded-requires c =
     let p = c.args.packed.now in
-    let h = sizes c in
+    let h = sizes _ _ _ c.requires c.address_length-port.ensures in
     let e = length-take-le (1 + c.address_length-port.result - 1) (drop 1 p) (let l = length-drop 1 p in omega arith) in
     omega arith
 
 pub slice_bounds-read_number-end : goal.slice_bounds-read_number-end
-slice_bounds-read_number-end c = let h = sizes c in omega arith
+slice_bounds-read_number-end c =
+    let h = sizes _ _ _ c.requires c.address_length-port.ensures in omega arith
 
 pub narrow-requires : goal.narrow-requires
 narrow-requires c =
     let p = c.args.packed.now in
     let a = c.address_length-port.result in
-    let h = sizes c in
+    let h = sizes _ _ _ c.requires c.address_length-port.ensures in
     let e = c.read_number.ensures ∙ ap number_of (port_part p a h.0) in
-    let l = port_small p a h.0 (bytes_each p (λ i. (c.type_inv.packed i))) in
+    let l = port_small p a h.0 (bytes_each p (λ i. let fits = c.type_inv.packed i in omega arith)) in
     omega arith
-
-pub slice_bounds-read-count : goal.slice_bounds-read-count
-slice_bounds-read-count c = let h = sizes c in omega arith
-
-pub slice_bounds-read-start : goal.slice_bounds-read-start
-slice_bounds-read-start c = let h = sizes c in omega arith
 
 pub returns : goal.returns
 unfolding node_of value_of
 returns c =
     let p = c.args.packed.now in
-    let h = sizes c in
+    let h = sizes _ _ _ c.requires c.address_length-port.ensures in
     let e = c.address_length-port.ensures in
     let a = c.address_length-port.result in
     same_value (get_or p 0 0) _ _ _ _ c.read.result _

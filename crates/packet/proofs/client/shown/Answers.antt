@@ -86,6 +86,5 @@ pub returns-in_default : goal.returns-in_default
 unfolding shown_relay
 returns-in_default c =
     let a = c.args in
-    let r = c.in_default.rest in
     ap (λ (n : ℕ). Data (record { 0 = a.kind }) (record { start = 1; length = n })) (sym (length-drop 1 a.packet.now))
-    ∙ sym (ap shown_relay (from_relay_other a.kind (drop 1 a.packet.now) r.0.0.0.0.0.1 r.0.0.0.0.1 r.0.0.0.1 r.0.0.1 r.0.1 r.1))
+    ∙ sym (ap shown_relay (from_relay_other a.kind (drop 1 a.packet.now) (omega arith) (omega arith) (omega arith) (omega arith) (omega arith) (omega arith)))

@@ -16,7 +16,7 @@ returns-then-length-packet c =
       holds = simp (le-leb _ _ c.if-start-packet.true, le-leb _ _ c.if-length-packet.true)
           (ap (λ (k : ℕ). take k (drop a.part.start a.packet.now)) (add-sub_cancel_left a.part.start a.part.length));
       stands = simp (le-leb _ _ c.if-start-packet.true, le-leb _ _ c.if-length-packet.true)
-          (ap (λ (n : ℕ). (a.packet.ptr.0, n)) (add_comm a.part.start a.packet.ptr.1));
+          (ap (λ (n : ℕ). (a.packet.ref_ptr.0, n)) (add_comm a.part.start a.packet.ref_ptr.1));
     }
 
 pub returns-else-length-packet : goal.returns-else-length-packet

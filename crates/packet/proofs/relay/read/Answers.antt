@@ -1,10 +1,10 @@
 -- `packet::relay::read` meets its contract: each return is the check of the definition that failed first, or the packet. Assumes nothing.
-use borrow.Author.Tests.{not-true, not-false}
 use mathlib.Core.Path.{◌≡◌, ◌∙◌, sym, ap}
 use mathlib.Core.Bool.{Bool, true, false}
-use Prim.Native.Nat.{◌-◌}
+use mathlib.Core.List.{List}
+use Prim.Native.Nat.{ℕ, ◌-◌}
 use native.Mathlib.Omega.{arith}
-use lib.ListN.{length, get_or, drop, length-drop}
+use lib.ListN.{length, get_or, take, drop, length-drop}
 use lib.Seq.{take_all}
 use Rattle.refusal.specs.declared.Refusal.TheVariants.{PacketSize, UnexpectedKind, WrongLength, ZeroPing}
 use Rattle.packet_laws.specs.Read.{packet}
@@ -15,70 +15,78 @@ use Rattle.packet_laws.proofs.CheckLaws.{Passes, fails_size, fails_kind, fails_l
 use Rattle.packet.proofs.RelayLaws.{relay_reads_refused, relay_reads_packet}
 use Rattle.packet.proofs.relay.read.Goals as goal
 
--- the checks passed so far, at the places where each is known
-sized : (c : tie.Else1) → size_right (length c.before.before.before.args.packet.now) ≡ true
-sized c = sym c.before.size-right.ensures ∙ not-false c.before.size-right.result c.if1.false
+-- the checks passed so far, each by what its function answered
+sized : (b : List ℕ) (r : Bool) → r ≡ size_right (length b) → r ≡ true → size_right (length b) ≡ true
+sized b r p e = sym p ∙ e
 
-taken : (c : tie.Else2) → relay_takes (kind_of c.before.before.before.before.before.before.args.packet.now) ≡ true
+taken : (b : List ℕ) (r : Bool) → r ≡ relay_takes (get_or b 0 0) → r ≡ true → relay_takes (kind_of b) ≡ true
 unfolding kind_of
-taken c = sym c.before.relay_takes.ensures ∙ not-false c.before.relay_takes.result c.if2.false
+taken b r p e = sym p ∙ e
 
-long : (c : tie.Else3) → length_right (kind_of c.before.before.before.before.before.before.before.before.args.packet.now) (length c.before.before.before.before.before.before.before.before.args.packet.now) ≡ true
+long : (b : List ℕ) (r : Bool) → r ≡ length_right (get_or b 0 0) (length b) → r ≡ true → length_right (kind_of b) (length b) ≡ true
 unfolding kind_of
-long c = sym c.before.length-right.ensures ∙ not-false c.before.length-right.result c.if3.false
+long b r p e = sym p ∙ e
 
 -- the ping check is made of the bytes after the kind
-pinged : (c : tie.After-ping-right) (t : Bool) → c.ping-right.result ≡ t → ping_right (kind_of c.before.before.before.before.before.before.before.before.before.before.args.packet.now) (body_of c.before.before.before.before.before.before.before.before.before.before.args.packet.now) ≡ t
+pinged : (b : List ℕ) (r t : Bool) → r ≡ ping_right (get_or b 0 0) (take (length b - 1) (drop 1 b)) → r ≡ t → ping_right (kind_of b) (body_of b) ≡ t
 unfolding kind_of body_of
-pinged c t e =
-    let b = c.before.before.before.before.before.before.before.before.before.before.args.packet.now in
-    ap (ping_right (get_or b 0 0)) (sym (take_all (length b - 1) (drop 1 b) (let l = length-drop 1 b in omega arith))) ∙ sym c.ping-right.ensures ∙ e
-
-passed : (c : tie.Else4) → Passes relay_takes c.before.before.before.before.before.before.before.before.before.before.before.args.packet.now
-passed c = record {
-  size = sized c.before.before.before.before.before.before.before.before;
-  kind = taken c.before.before.before.before.before;
-  long = long c.before.before.before;
-  ping = pinged c.before true (not-false c.before.ping-right.result c.if4.false);
-}
+pinged b r t p e =
+    ap (ping_right (get_or b 0 0)) (sym (take_all (length b - 1) (drop 1 b) (let l = length-drop 1 b in omega arith))) ∙ sym p ∙ e
 
 pub returns-then-not-size_right : goal.returns-then-not-size_right
 unfolding relay_read
 returns-then-not-size_right c =
     let b = c.args.packet.now in
-    relay_reads_refused b PacketSize (fails_size relay_takes b (packet (from_client (kind_of b) (body_of b))) (sym c.size_right.ensures ∙ not-true c.size_right.result c.if-not-size_right.true-raw))
+    relay_reads_refused b PacketSize
+    (fails_size relay_takes b (packet (from_client (kind_of b) (body_of b))) (sym c.size_right.ensures ∙ c.if-not-size_right.true))
 
 pub bounds-packet-0 : goal.bounds-packet-0
-bounds-packet-0 c = let h = size_bounds _ (sized c) in omega arith
+bounds-packet-0 c = let h = size_bounds _ (sized c.args.packet.now _ c.size_right.ensures c.if-not-size_right.false) in omega arith
 
 pub returns-then-not-relay_takes : goal.returns-then-not-relay_takes
 unfolding relay_read kind_of
 returns-then-not-relay_takes c =
     let b = c.args.packet.now in
-    relay_reads_refused b UnexpectedKind (fails_kind relay_takes b (packet (from_client (kind_of b) (body_of b))) (sized c) (sym c.relay_takes.ensures ∙ not-true c.relay_takes.result c.if-not-relay_takes.true-raw))
+    let s = sized b _ c.size_right.ensures c.if-not-size_right.false in
+    relay_reads_refused b UnexpectedKind
+    (fails_kind relay_takes b (packet (from_client (kind_of b) (body_of b))) s (sym c.relay_takes.ensures ∙ c.if-not-relay_takes.true))
 
 pub returns-then-not-length_right : goal.returns-then-not-length_right
 unfolding relay_read kind_of
 returns-then-not-length_right c =
     let b = c.args.packet.now in
-    relay_reads_refused b WrongLength (fails_length relay_takes b (packet (from_client (kind_of b) (body_of b))) (sized c) (taken c) (sym c.length_right.ensures ∙ not-true c.length_right.result c.if-not-length_right.true-raw))
+    let s = sized b _ c.size_right.ensures c.if-not-size_right.false in
+    let t = taken b _ c.relay_takes.ensures c.if-not-relay_takes.false in
+    relay_reads_refused b WrongLength
+    (fails_length relay_takes b (packet (from_client (kind_of b) (body_of b))) s t (sym c.length_right.ensures ∙ c.if-not-length_right.true))
 
 pub slice_bounds-ping_right-count : goal.slice_bounds-ping_right-count
-slice_bounds-ping_right-count c = let h = size_bounds _ (sized c) in omega arith
+slice_bounds-ping_right-count c = let h = size_bounds _ (sized c.args.packet.now _ c.size_right.ensures c.if-not-size_right.false) in omega arith
 
 pub slice_bounds-ping_right-start : goal.slice_bounds-ping_right-start
-slice_bounds-ping_right-start c = let h = size_bounds _ (sized c) in omega arith
+slice_bounds-ping_right-start c = let h = size_bounds _ (sized c.args.packet.now _ c.size_right.ensures c.if-not-size_right.false) in omega arith
 
 pub returns-then-not-ping_right : goal.returns-then-not-ping_right
 unfolding relay_read
 returns-then-not-ping_right c =
     let b = c.args.packet.now in
-    relay_reads_refused b ZeroPing (fails_ping relay_takes b (packet (from_client (kind_of b) (body_of b))) (sized c) (taken c) (long c) (pinged c false (not-true c.ping_right.result c.if-not-ping_right.true-raw)))
+    let s = sized b _ c.size_right.ensures c.if-not-size_right.false in
+    let t = taken b _ c.relay_takes.ensures c.if-not-relay_takes.false in
+    let l = long b _ c.length_right.ensures c.if-not-length_right.false in
+    relay_reads_refused b ZeroPing
+    (fails_ping relay_takes b (packet (from_client (kind_of b) (body_of b))) s t l (pinged b _ false c.ping_right.ensures c.if-not-ping_right.true))
 
 pub shown-requires : goal.shown-requires
 unfolding kind_of
-shown-requires c = long c
+shown-requires c = long c.args.packet.now _ c.length_right.ensures c.if-not-length_right.false
 
 pub returns : goal.returns
 unfolding kind_of body_of
-returns c = relay_reads_packet c.args.packet.now c.shown.result (passed c) c.shown.ensures
+returns c =
+    let passed : Passes relay_takes c.args.packet.now = record {
+      size = sized c.args.packet.now _ c.size_right.ensures c.if-not-size_right.false;
+      kind = taken c.args.packet.now _ c.relay_takes.ensures c.if-not-relay_takes.false;
+      long = long c.args.packet.now _ c.length_right.ensures c.if-not-length_right.false;
+      ping = pinged c.args.packet.now _ true c.ping_right.ensures c.if-not-ping_right.false;
+    } in
+    relay_reads_packet c.args.packet.now c.shown.result passed c.shown.ensures

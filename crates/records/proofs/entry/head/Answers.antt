@@ -27,7 +27,7 @@ shape_of-out c =
     let a = c.args in
     let w = c.write_number in
     let begun = set a.out.now 0 a.refusal in
-    same_len_mid {X = ℕ} 2 (4 - 2) (set begun 1 a.seat.0) w.new.1.0 w.auto.1.0 ∙ length-set begun 1 a.seat.0 ∙ length-set a.out.now 0 a.refusal
+    same_len_mid {X = ℕ} 2 (4 - 2) (set begun 1 a.seat.0) w.new.out w.auto.out ∙ length-set begun 1 a.seat.0 ∙ length-set a.out.now 0 a.refusal
 
 pub returns : goal.returns
 returns c =
@@ -36,4 +36,4 @@ returns c =
     let long = c.if-out-lt-HEAD.false in
     let fits = c.if-out-size.false in
     head_fits (a.refusal ∷ a.seat.0 ∷ bytes_of 2 a.size) a.size a.out.now _ (omega arith)
-    (entry_head_written a.out.now w.new.1.0 a.refusal a.seat.0 a.size (omega arith) w.ensures)
+    (entry_head_written a.out.now w.new.out a.refusal a.seat.0 a.size (omega arith) w.ensures)

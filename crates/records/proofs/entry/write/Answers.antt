@@ -13,7 +13,7 @@ returns-in-Accepted c =
     let a = c.args in
     let head = c.head in
     let told = c.in-Accepted.is in
-    subst (λ (x : Answer). WritesEntry (answer_of x) a.out.now head.result head.new.0) (sym told) head.ensures
+    subst (λ (x : Answer). WritesEntry (answer_of x) a.out.now head.result head.new.out) (sym told) head.ensures
 
 pub returns-in-Refused : goal.returns-in-Refused
 unfolding written answer_of entry_head
@@ -22,5 +22,5 @@ returns-in-Refused c =
     let head = c.head-in-Refused in
     let number = c.number in
     let told = c.in-Refused.is in
-    subst (λ (x : Answer). WritesEntry (answer_of x) a.out.now head.result head.new.0) (sym told)
-    (subst (λ (n : ℕ). WritesHead (n ∷ 0 ∷ bytes_of 2 0) 0 a.out.now head.result head.new.0) number.ensures head.ensures)
+    subst (λ (x : Answer). WritesEntry (answer_of x) a.out.now head.result head.new.out) (sym told)
+    (subst (λ (n : ℕ). WritesHead (n ∷ 0 ∷ bytes_of 2 0) 0 a.out.now head.result head.new.out) number.ensures head.ensures)

@@ -20,16 +20,16 @@ pub head-requires : goal.head-requires
 head-requires c =
     let a = c.args in
     let place = c.behind_head-start in
-    let w = c.«data» in
+    let w = c.data-written in
     head_asked (routed_data a.number.0 a.«data».now) a.seat.0 a.at place.result a.out.now
-    w.new.1.1.0 w.result place.ensures w.ensures.as_relay _
+    w.new.out w.result place.ensures w.ensures.as_relay _
     (same_len_mid {X = ℕ} place.result (length a.out.now - place.result) a.out.now
-    w.new.1.1.0 w.auto.1.1.0)
+    w.new.out w.auto.out)
 
 pub returns : goal.returns
 returns c =
     let a = c.args in
-    let w = c.«data» in
+    let w = c.data-written in
     let place = c.behind_head-start in
     record_written (routed_data a.number.0 a.«data».now) a.seat.0 a.at place.result a.out.now
-    w.new.1.1.0 w.result place.ensures w.ensures.as_relay _ _ c.head.ensures
+    w.new.out w.result place.ensures w.ensures.as_relay _ _ c.head.ensures

@@ -35,15 +35,14 @@ slice_bounds-write_number-end c =
 
 pub overflow_add-result : goal.overflow_add-result
 overflow_add-result c =
-    let told = c.written-1.given in
-    let room = c.requires told.0.0 told.1 in
+    let room = c.requires c.in-Bytes.size c.in-Bytes.is in
     search rules
 
 pub shape_of-out : goal.shape_of-out
 shape_of-out c =
     let a = c.args in
     same_len_mid {X = ℕ} (a.at + 1) (a.at + 3 - (a.at + 1)) (set a.out.now a.at a.seat.0)
-    c.write_number.new.out c.write_number.auto.1.0
+    c.write_number.new.out c.write_number.auto.out
     ∙ length-set a.out.now a.at a.seat.0
 
 pub returns : goal.returns

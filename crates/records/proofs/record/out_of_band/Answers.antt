@@ -22,9 +22,9 @@ head-requires c =
     let place = c.behind_head-start in
     let w = c.oob_received-written in
     head_asked (oob_received a.key.0 a.«data».now) a.seat.0 a.at place.result a.out.now
-    w.new.1.1.0 w.result place.ensures w.ensures _
+    w.new.out w.result place.ensures w.ensures _
     (same_len_mid {X = ℕ} place.result (length a.out.now - place.result) a.out.now
-    w.new.1.1.0 w.auto.1.1.0)
+    w.new.out w.auto.out)
 
 pub returns : goal.returns
 returns c =
@@ -32,4 +32,4 @@ returns c =
     let w = c.oob_received-written in
     let place = c.behind_head-start in
     record_written (oob_received a.key.0 a.«data».now) a.seat.0 a.at place.result a.out.now
-    w.new.1.1.0 w.result place.ensures w.ensures _ _ c.head.ensures
+    w.new.out w.result place.ensures w.ensures _ _ c.head.ensures

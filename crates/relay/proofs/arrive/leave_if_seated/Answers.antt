@@ -17,11 +17,11 @@ returns-in_default c =
 
 pub depart-requires : goal.depart-requires
 depart-requires c =
-    let found = c.old-1.given in
+    let found = c.in-At in
     let a = c.args in
     let b = a.memory.now in
     let e = sym (seat_holding_finds a.seats a.numbers b c.requires.0 a.key.0)
-    ∙ seat_found_lem (seat_holding a.seats a.numbers b a.key.0) found.0.0 (sym c.seat_of.ensures ∙ found.1) in (
+    ∙ seat_found_lem (seat_holding a.seats a.numbers b a.key.0) found.old (sym c.seat_of.ensures ∙ found.is) in (
       c.requires.0,
       seat_taken_lem a.seats a.numbers b c.requires.0 a.key.0 a.out.now _ e,
       leave_room a.seats a.numbers b c.requires.0 _ a.out.now c.requires.1,
@@ -29,9 +29,9 @@ depart-requires c =
 
 pub returns : goal.returns
 returns c =
-    let found = c.old-1.given in
+    let found = c.in-At in
     let a = c.args in
     let b = a.memory.now in
     let e = sym (seat_holding_finds a.seats a.numbers b c.requires.0 a.key.0)
-    ∙ seat_found_lem (seat_holding a.seats a.numbers b a.key.0) found.0.0 (sym c.seat_of.ensures ∙ found.1) in
+    ∙ seat_found_lem (seat_holding a.seats a.numbers b a.key.0) found.old (sym c.seat_of.ensures ∙ found.is) in
     one_leaves a.seats a.numbers b c.requires.0 a.key.0 a.out.now _ e _ _ _ c.depart.ensures

@@ -19,9 +19,9 @@ returns-in_default c =
 pub returns : goal.returns
 unfolding answer_of
 returns c =
-    let found = c.seat-1.given in
+    let found = c.in-At in
     let a = c.args in
     let b = a.memory.now in
-    takes_lowest a.seats a.numbers a.key.0 b a.written found.0.0.0
-    (sym (lowest_empty_finds a.seats a.numbers b c.requires) ∙ seat_found_lem (lowest_empty a.seats a.numbers b) found.0.0 (sym c.lowest_empty.ensures ∙ found.1))
+    takes_lowest a.seats a.numbers a.key.0 b a.written found.seat.0
+    (sym (lowest_empty_finds a.seats a.numbers b c.requires) ∙ seat_found_lem (lowest_empty a.seats a.numbers b) found.seat (sym c.lowest_empty.ensures ∙ found.is))
     _ c.take_seat.ensures

@@ -17,7 +17,7 @@ pub returns : goal.returns
 unfolding answer_of PeerRight
 returns c =
     let a = c.args in
-    let joined = c.peer-1.given in
-    let right = subst PeerRight joined.1 c.requires.0 in
-    carried_joined a.peer a.out.now a.seat.0 a.«data».now joined.0.0 joined.0.1.0 joined.1 c.requires.0 _ _
-    (data_fits joined.0.1.0.0 a.«data».now right c.requires.2 c.requires.3 (omega arith) c.«data».ensures)
+    let joined = c.in-Joined in
+    let right = subst PeerRight joined.is c.requires.0 in
+    carried_joined a.peer a.out.now a.seat.0 a.«data».now joined.other joined.number joined.is c.requires.0 _ _
+    (data_fits joined.number.0 a.«data».now right c.requires.2 c.requires.3 (omega arith) c.«data».ensures)

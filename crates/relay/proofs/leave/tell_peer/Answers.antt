@@ -15,15 +15,15 @@ returns-then-not-wanted c =
 
 pub returns-in-Joined : goal.returns-in-Joined
 returns-in-Joined c =
-    let o = c.other-1.given in
+    let o = c.in-Joined in
     let w = c.wanted_by-wanted in
     let a = c.args in
     let found = peer_is a.seats a.numbers a.memory.now c.requires.0 a.seat.0 a.key.0 w.result.key.0 c.of.result c.of.ensures in
     tell_joined a.seats a.numbers a.memory.now c.requires.0 a.seat.0 a.key.0 c.requires.1 a.number.0 c.requires.3
     w.result w.ensures a.out.now a.at (not-false _ c.if-not-wanted.false)
-    c.of.result found o.0.0 o.0.1.0 o.1 _ _
-    (disconnected_fits o.0.1.0.0 (found_joined (peer_wanting a.seats a.numbers a.memory.now a.seat.0 a.key.0 w.result.key.0)
-    c.of.result c.of.ensures o.0.0 o.0.1.0 o.1).1 c.requires.2 c.disconnected.ensures)
+    c.of.result found o.other o.theirs o.is _ _
+    (disconnected_fits o.theirs.0 (found_joined (peer_wanting a.seats a.numbers a.memory.now a.seat.0 a.key.0 w.result.key.0)
+    c.of.result c.of.ensures o.other o.theirs o.is).1 c.requires.2 c.disconnected.ensures)
 
 pub returns-in-Alone : goal.returns-in-Alone
 returns-in-Alone c =

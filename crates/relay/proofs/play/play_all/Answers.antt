@@ -18,13 +18,13 @@ pub play_next-requires : goal.play_next-requires
 play_next-requires c = c.loop-why.invariant.5
 
 pub shape_of-memory-in-Stopped : goal.shape_of-memory-in-Stopped
-shape_of-memory-in-Stopped c = c.play_next.auto.0 ∙ c.loop-why.invariant.4
+shape_of-memory-in-Stopped c = c.play_next.auto.memory ∙ c.loop-why.invariant.4
 
 pub shape_of-out-in-Stopped : goal.shape_of-out-in-Stopped
 shape_of-out-in-Stopped c =
     let l = c.loop-why in
     let next = c.play_next in
-    same_len_mid {X = ℕ} l.written (length l.out - l.written) l.out next.new.1.1.1.1.1.0 next.auto.1.1.1.1.1.0 ∙ l.invariant.3
+    same_len_mid {X = ℕ} l.written (length l.out - l.written) l.out next.new.out next.auto.out ∙ l.invariant.3
 
 pub returns-in-Stopped : goal.returns-in-Stopped
 returns-in-Stopped c =
@@ -83,7 +83,7 @@ loop-why-preserved c =
       omega (arith, m.read),
       (let e = m.long in let f = m.wrote in omega arith),
       m.long ∙ l.invariant.3,
-      next.auto.0 ∙ l.invariant.4,
+      next.auto.memory ∙ l.invariant.4,
       m.still,
       λ given b' out' r. l.invariant.6 given b' out' (m.goes_on given b' out' r),
     )

@@ -51,14 +51,14 @@ returns c =
     let q = call_read a.calls.now _ _ (sym c.in-Call.is ∙ c.read.ensures) in
     let long : 4 ≤ length a.out.now = omega arith in
     let left = make.ensures q.made q.first in
-    let kept = make.auto.1.1.1.1.1.0 in
-    let new = make.new.1.1.1.1.1.0 in
+    let kept = make.auto.out in
+    let new = make.new.out in
     let given = answer_of make.result in
-    let size = length_entry a.seats a.numbers a.memory.now q.made given a.out.now new make.new.0 long left kept in
-    let fits = entry_fits a.seats a.numbers a.memory.now q.made given a.out.now new make.new.0 long left kept in
+    let size = length_entry a.seats a.numbers a.memory.now q.made given a.out.now new make.new.memory long left kept in
+    let fits = entry_fits a.seats a.numbers a.memory.now q.made given a.out.now new make.new.memory long left kept in
     let write = entry_within given fits c.write.ensures in
-    let back = length_back a.seats a.numbers a.memory.now q.made given a.out.now new make.new.0 long left kept in
+    let back = length_back a.seats a.numbers a.memory.now q.made given a.out.now new make.new.memory long left kept in
     played q.made (entry_bytes (event (view_room a.seats a.numbers a.memory.now) q.made)) refl
     (next_plays a.allowance a.calls.now (length a.out.now) c.if-calls-eq0.false c.if-allowance-eq0.false q.made q.first (omega (arith, c.if-out-lt-LEAST_SPACE.false, least_space_lem q.made)))
     (ap₂ Played q.takes (write.0 ∙ sym size)) left.stores (omega arith)
-    (write.1 ∙ entry_written a.seats a.numbers a.memory.now q.made given a.out.now new make.new.0 long left kept)
+    (write.1 ∙ entry_written a.seats a.numbers a.memory.now q.made given a.out.now new make.new.memory long left kept)

@@ -10,5 +10,5 @@ unfolding answer_of
 returns c =
     let a = c.args in
     let w = c.response-written in
-    carries_answer a.seat.0 a.number.0 a.wanted.0 a.out.now w.result w.new.0
+    carries_answer a.seat.0 a.number.0 a.wanted.0 a.out.now w.result w.new.out
     (response_fits a.number.0 a.wanted.0 c.requires.1 (let long = c.requires.0 in omega arith) w.ensures)

@@ -1,7 +1,5 @@
 -- `request::give` meets its contract: the route, the answer and the notifications. Assumes nothing.
-use mathlib.Core.Path.{◌≡◌, sym, ◌∙◌}
 use native.Mathlib.Omega.{arith}
-use lib.ListN.{length, length-map}
 use Rattle.room_laws.specs.Lookup.{peer_wanting}
 use Rattle.records.specs.Output.{given}
 use Rattle.records.proofs.Fits.{response_fits}
@@ -10,14 +8,11 @@ use Rattle.relay.proofs.SeatedClient.{peer_is}
 use Rattle.room.proofs.PeersFound.{found_right}
 use Rattle.relay.proofs.request.give.Goals as goal
 
-wanted-long : (s : tie.Start) → length s.args.wanted.0 ≡ 32
-wanted-long s = sym (length-map s.args.wanted.0 _) ∙ s.well_formed.1.1.1.1.1.0.1.1.0.1.0.1
-
 pub tell_both-requires : goal.tell_both-requires
 tell_both-requires c =
     let a = c.args in
     let w = c.response-next in
-    let next = response_next a.seat.0 a.number.0 a.wanted.0 (wanted-long c) a.out.now 0 w.result w.new.0 (response_fits a.number.0 a.wanted.0 (given a.number.0 c.requires.2) (omega arith) w.ensures) in
+    let next = response_next a.seat.0 a.number.0 a.wanted.0 c.well_formed.1.1.1.1.1.0.1.1.0.1.0.1 a.out.now 0 w.result w.new.out (response_fits a.number.0 a.wanted.0 (given a.number.0 c.requires.2) (omega arith) w.ensures) in
     let o = c.of-peer in
     let right = found_right (peer_wanting a.seats a.numbers a.memory.now a.seat.0 a.key.0 a.wanted.0) o.result o.ensures in
     (omega arith, c.requires.2, right)
@@ -31,5 +26,5 @@ returns c =
     let g = c.give_route in
     gives a.seats a.numbers a.memory.now a.seat.0 a.key.0 a.wanted.0 a.number.0 c.requires.2
     o.result (peer_is a.seats a.numbers a.memory.now c.requires.0 a.seat.0 a.key.0 a.wanted.0 o.result o.ensures)
-    g.new.0 g.ensures a.out.now w.result t.result w.new.0 t.new.0
+    g.new.memory g.ensures a.out.now w.result t.result w.new.out t.new.out
     (response_fits a.number.0 a.wanted.0 (given a.number.0 c.requires.2) (omega arith) w.ensures) t.ensures

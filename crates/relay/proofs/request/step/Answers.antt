@@ -15,14 +15,14 @@ returns-then-equals c =
     let same = c.equals in
     let w = c.answer_only in
     request_own a.seats a.numbers a.memory.now a.seat.0 a.key.0 a.wanted.0 same.result same.ensures c.if-equals.true
-    a.out.now (answer_of w.result) w.new.0 w.ensures
+    a.out.now (answer_of w.result) w.new.out w.ensures
 
 pub answer_only-requires-in-At : goal.answer_only-requires-in-At
 answer_only-requires-in-At c =
     let a = c.args in
     let look = c.number_of in
-    let old = c.old-1.given in
-    (c.requires.2, given old.0.0.0 (number_right_lem (route_wanting a.seats a.numbers a.memory.now a.seat.0 a.wanted.0) look.result look.ensures old.0.0 old.1))
+    let old = c.in-At in
+    (c.requires.2, given old.old.0 (number_right_lem (route_wanting a.seats a.numbers a.memory.now a.seat.0 a.wanted.0) look.result look.ensures old.old old.is))
 
 pub returns-in-At : goal.returns-in-At
 unfolding answer_of
@@ -30,11 +30,11 @@ returns-in-At c =
     let a = c.args in
     let same = c.equals in
     let look = c.number_of in
-    let old = c.old-1.given in
+    let old = c.in-At in
     let w = c.answer_only-in-At in
     request_old a.seats a.numbers a.memory.now a.seat.0 a.key.0 a.wanted.0 c.requires.0 c.requires.1
-    same.result same.ensures c.if-equals.false a.out.now w.new.0 look.result look.ensures
-    old.0.0 old.1 (answer_of w.result) w.ensures
+    same.result same.ensures c.if-equals.false a.out.now w.new.out look.result look.ensures
+    old.old old.is (answer_of w.result) w.ensures
 
 pub answer_only-requires-in_default-lowest_free : goal.answer_only-requires-in_default-lowest_free
 answer_only-requires-in_default-lowest_free c = (c.requires.2, none)
@@ -48,15 +48,15 @@ returns-in_default-lowest_free c =
     let look-free = c.lowest_free in
     let w = c.answer_only-in_default-lowest_free in
     request_full a.seats a.numbers a.memory.now a.seat.0 a.key.0 a.wanted.0 c.requires.0 c.requires.1
-    same.result same.ensures c.if-equals.false a.out.now w.new.0 look.result look.ensures c.in_default.is
+    same.result same.ensures c.if-equals.false a.out.now w.new.out look.result look.ensures c.in_default.is
     look-free.result look-free.ensures c.in_default-lowest_free.is (answer_of w.result) w.ensures
 
 pub give-requires : goal.give-requires
 give-requires c =
     let a = c.args in
     let look = c.lowest_free in
-    let number = c.number-1.given in
-    (c.requires.0, c.requires.2, number_right_lem (lowest_route a.seats a.numbers a.memory.now a.seat.0) look.result look.ensures number.0.0 number.1)
+    let number = c.in-At-lowest_free in
+    (c.requires.0, c.requires.2, number_right_lem (lowest_route a.seats a.numbers a.memory.now a.seat.0) look.result look.ensures number.number number.is)
 
 pub returns : goal.returns
 unfolding answer_of
@@ -65,8 +65,8 @@ returns c =
     let same = c.equals in
     let look = c.number_of in
     let look-free = c.lowest_free in
-    let number = c.number-1.given in
+    let number = c.in-At-lowest_free in
     let g = c.give in
     request_given a.seats a.numbers a.memory.now a.seat.0 a.key.0 a.wanted.0 c.requires.0 c.requires.1
-    same.result same.ensures c.if-equals.false a.out.now g.new.1.1.1.1.1.1.1.0 look.result look.ensures
-    c.in_default.is look-free.result look-free.ensures g.result number.0.0 number.1 g.new.0 g.ensures
+    same.result same.ensures c.if-equals.false a.out.now g.new.out look.result look.ensures
+    c.in_default.is look-free.result look-free.ensures g.result number.number number.is g.new.memory g.ensures

@@ -10,13 +10,13 @@ pub returns-in-Joined : goal.returns-in-Joined
 returns-in-Joined c =
     let a = c.args in
     let w = c.connected-next in
-    let p = c.peer-1.given in
-    let theirs = joined_right a.peer p.0.0 p.0.1.0 p.1 c.requires.2 in
+    let p = c.in-Joined in
+    let theirs = joined_right a.peer p.other p.theirs p.is c.requires.2 in
     let first = connected_fits a.number.0 c.requires.1 (omega arith) w.ensures in
-    let next = connected_next a.seat.0 a.number.0 a.out.now a.at w.result w.new.0 first in
-    let same = appends_length _ a.out.now a.at w.result w.new.0 first (omega arith) in
-    tells_both a.seat.0 a.number.0 a.peer p.0.0 p.0.1.0 p.1 theirs
-    a.out.now a.at w.result c.connected.result w.new.0 c.connected.new.out (omega arith) first (connected_fits p.0.1.0.0 theirs (omega arith) c.connected.ensures)
+    let next = connected_next a.seat.0 a.number.0 a.out.now a.at w.result w.new.out first in
+    let same = appends_length _ a.out.now a.at w.result w.new.out first (omega arith) in
+    tells_both a.seat.0 a.number.0 a.peer p.other p.theirs p.is theirs
+    a.out.now a.at w.result c.connected.result w.new.out c.connected.new.out (omega arith) first (connected_fits p.theirs.0 theirs (omega arith) c.connected.ensures)
 
 pub returns-in-Alone : goal.returns-in-Alone
 returns-in-Alone c =

@@ -27,9 +27,6 @@ pub write_word-requires : goal.write_word-requires
 write_word-requires c =
     let f = room_long c.args.seats c.args.numbers c.args.memory.now c.requires in simp length-set (omega arith)
 
-pub shape_of-memory : goal.shape_of-memory
-shape_of-memory c = c.write_word.auto.0 ∙ simp length-set
-
 pub returns : goal.returns
 returns c =
     let a = c.args in

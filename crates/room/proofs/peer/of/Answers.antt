@@ -10,18 +10,18 @@ unfolding peer_found peer_wanting
 returns-then-other-seat c =
     let a = c.args in
     let b = a.memory.now in
-    let o = c.other-1.given in
-    sym (ap peer_found (peer_own a.seats a.numbers b a.seat.0 a.key.0 (seat_holding a.seats a.numbers b a.wanted.0) o.0.0
-    (sym c.seat_of.ensures ∙ o.1) c.if-other-seat.true))
+    let o = c.in-At in
+    sym (ap peer_found (peer_own a.seats a.numbers b a.seat.0 a.key.0 (seat_holding a.seats a.numbers b a.wanted.0) o.other
+    (sym c.seat_of.ensures ∙ o.is) c.if-other-seat.true))
 
 pub returns-else-other-seat : goal.returns-else-other-seat
 unfolding peer_wanting
 returns-else-other-seat c =
     let a = c.args in
     let b = a.memory.now in
-    let o = c.other-1.given in
-    peer_other a.seats a.numbers b a.seat.0 a.key.0 (seat_holding a.seats a.numbers b a.wanted.0) o.0.0
-    (sym c.seat_of.ensures ∙ o.1) c.if-other-seat.false c.in_seat.result c.in_seat.ensures
+    let o = c.in-At in
+    peer_other a.seats a.numbers b a.seat.0 a.key.0 (seat_holding a.seats a.numbers b a.wanted.0) o.other
+    (sym c.seat_of.ensures ∙ o.is) c.if-other-seat.false c.in_seat.result c.in_seat.ensures
 
 pub returns-in-None : goal.returns-in-None
 unfolding peer_found peer_wanting

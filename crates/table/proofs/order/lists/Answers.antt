@@ -1,7 +1,6 @@
 -- `order::lists` meets its contract. The invariant: the place is listed if it is among those passed, or among those to come. Assumes nothing.
 use mathlib.Core.Path.{refl, sym, ap, ◌∙◌}
 use mathlib.Core.Bool.{Bool, ◌||◌, or-true, or-false}
-use mathlib.Core.Logic.{⊎_elim}
 use Prim.Native.Nat.{◌+◌, ◌<◌}
 use native.Mathlib.Omega.{arith}
 use lib.ListN.{length, drop}
@@ -10,6 +9,7 @@ use Rattle.lists.proofs.Members.{member_here, member_next, member_end}
 use Rattle.table_laws.specs.Table.{listed}
 use Rattle.table_laws.proofs.Listed.{listed_few, at_listed}
 use Rattle.table.proofs.order.lists.Goals as goal
+use Rattle.table.proofs.order.lists.Goals.{then-table-i, else-table-i}
 
 pub loop-i-init : goal.loop-i-init
 loop-i-init c = (omega arith, c.length-count.ensures, refl)
@@ -41,12 +41,12 @@ loop-i-preserved c =
     let more : Bool = member n (drop (l.i + 1) ns) in (
       omega arith,
       l.invariant.1,
-      ⊎_elim
-          (λ w. l.invariant.2 ∙ ap (λ (t : Bool). l.used || t) (member_here n ns l.i h (here ∙ w.0.taken)) ∙ or-true l.used
-          ∙ sym (ap (λ (t : Bool). t || more) w.1))
-          (λ w. l.invariant.2 ∙ ap (λ (t : Bool). l.used || t) (member_next n ns l.i h (λ e. w.0.left (sym here ∙ e)))
-          ∙ sym (ap (λ (t : Bool). t || more) w.1))
-          c.if-table-i.branch,
+      elim c.if-table-i.branch [
+        | then-table-i w ↦ l.invariant.2 ∙ ap (λ (t : Bool). l.used || t) (member_here n ns l.i h (here ∙ w.if-table-i.true)) ∙ or-true l.used
+            ∙ sym (ap (λ (t : Bool). t || more) w.used-is)
+        | else-table-i w ↦ l.invariant.2 ∙ ap (λ (t : Bool). l.used || t) (member_next n ns l.i h (λ e. w.if-table-i.false (sym here ∙ e)))
+            ∙ sym (ap (λ (t : Bool). t || more) w.used-is)
+      ],
     )
 
 pub returns : goal.returns

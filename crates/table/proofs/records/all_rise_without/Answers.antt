@@ -2,8 +2,7 @@
 -- where no first byte was alike the key is not among those passed. Assumes nothing.
 use borrow.Author.Tests.{lt-ltb, le-ltb}
 use mathlib.Core.Path.{refl, sym, ap, ◌∙◌}
-use mathlib.Core.Bool.{false, true≢false}
-use mathlib.Core.Logic.{⊎_elim}
+use mathlib.Core.Bool.{true≢false, not}
 use Prim.Native.Nat.{ℕ, ◌≤◌, ◌<◌, ◌+◌}
 use native.Mathlib.Omega.{arith}
 use lib.Dec.{eqb}
@@ -11,6 +10,7 @@ use lib.ListN.{length, get_or}
 use Rattle.table_laws.proofs.Listed.{whole_first, step_out, step_falls, step_on, step_end}
 use Rattle.table_laws.proofs.WithoutLaws.{without_not_whole, whole_without, without_many, without_none, pass_on, passed_all}
 use Rattle.table.proofs.records.all_rise_without.Goals as goal
+use Rattle.table.proofs.records.all_rise_without.Goals.{then-begins_alike, else-begins_alike}
 
 pub overflow_cast-count : goal.overflow_cast-count
 overflow_cast-count c = let g = c.type_inv.table 0 in omega arith
@@ -79,7 +79,7 @@ returns-then-not-rises c =
     let l = c.loop-i in
     let m : get_or t 0 0 ≤ p = omega arith in
     sym (without_not_whole p a.width t k
-    (l.invariant.4 ∙ step_falls p a.width t m f l.last l.i (get_or t (1 + l.i) 0) refl (omega arith) _ c.rises.ensures c.if-not-rises.true-raw))
+    (l.invariant.4 ∙ step_falls p a.width t m f l.last l.i (get_or t (1 + l.i) 0) refl (omega arith) _ c.rises.ensures (ap not c.if-not-rises.true)))
 
 pub loop-i-preserved : goal.loop-i-preserved
 loop-i-preserved c =
@@ -97,11 +97,11 @@ loop-i-preserved c =
       omega arith,
       l.invariant.4
           ∙ step_on p a.width t m f l.last l.i (get_or t (1 + l.i) 0) refl (omega arith)
-          _ c.rises.ensures c.if-places-next.false c.if-not-rises.false-raw,
-      λ e. ⊎_elim
-          (λ w. absurd (true≢false (sym w.1 ∙ e)))
-          (λ w. pass_on p a.width t k m f l.i (get_or t (1 + l.i) 0) refl (omega arith) alike.result alike.ensures w.0.left (l.invariant.5 (sym w.1 ∙ e)))
-          c.if-begins_alike.branch,
+          _ c.rises.ensures c.if-places-next.false (ap not c.if-not-rises.false),
+      λ e. elim c.if-begins_alike.branch [
+        | then-begins_alike w ↦ absurd (true≢false (sym w.alike-is ∙ e))
+        | else-begins_alike w ↦ pass_on p a.width t k m f l.i (get_or t (1 + l.i) 0) refl (omega arith) alike.result alike.ensures w.if-begins_alike.false (l.invariant.5 (sym w.alike-is ∙ e))
+      ],
     )
 
 pub returns-then-not-alike : goal.returns-then-not-alike

@@ -1,4 +1,6 @@
 -- `records::position_of` meets its contract. The invariant: those passed come before the key, and what is left decides. Assumes nothing.
+use mathlib.Core.Bool.{not}
+use mathlib.Core.Path.{ap}
 use Prim.Native.Nat.{◌<◌, ◌+◌}
 use native.Mathlib.Omega.{arith}
 use lib.ListN.{length}
@@ -34,7 +36,7 @@ returns-then-not-comes_before c =
     let t = a.table.now in
     let f : a.places < length t = omega arith in
     let h : l.i < length (listed a.places t) = omega (arith, l.invariant.1) in
-    let q = position_read a.places a.width t f a.key.now l.i h _ c.comes_before.ensures c.if-not-comes_before.true-raw in
+    let q = position_read a.places a.width t f a.key.now l.i h _ c.comes_before.ensures (ap not c.if-not-comes_before.true) in
     omega (arith, l.invariant.2)
 
 pub loop-i-preserved : goal.loop-i-preserved
@@ -44,7 +46,7 @@ loop-i-preserved c =
     let t = a.table.now in
     let f : a.places < length t = omega arith in
     let h : l.i < length (listed a.places t) = omega (arith, l.invariant.1) in
-    let q = position_on a.places a.width t f a.key.now l.i h _ c.comes_before.ensures c.if-not-comes_before.false-raw in
+    let q = position_on a.places a.width t f a.key.now l.i h _ c.comes_before.ensures (ap not c.if-not-comes_before.false) in
     (omega arith, l.invariant.1, omega (arith, l.invariant.2))
 
 pub returns : goal.returns
