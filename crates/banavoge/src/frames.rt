@@ -31,8 +31,7 @@ fn end_after(shown: Shown, before: usize) -> usize
 }
 
 // Reads a piece of a stream: 0, 1, 2, or minus 10 or 18. A refusal sets used to 0, and 18 leaves held at 2,051; nothing else is set then.
-#[unsafe(no_mangle)]
-pub extern "C" fn banavoge_frame_read(
+pub fn banavoge_frame_read(
     held: &mut usize,
     keep: &mut [u8],
     piece: &[u8],

@@ -14,16 +14,14 @@ use key::Key;
 use node::Node;
 
 // How many bytes of memory buckets take; longer memory is taken too.
-#[unsafe(no_mangle)]
-pub extern "C" fn banavoge_buckets_bytes() -> usize
+pub fn banavoge_buckets_bytes() -> usize
     ensures { result ≡ buckets_length }
 {
     buckets::BYTES
 }
 
 // Begins buckets that hold nothing, for a base key: 0, or minus 10 for memory too short.
-#[unsafe(no_mangle)]
-pub extern "C" fn banavoge_buckets_begin(buckets: &mut [u8], base: &[u8; 32]) -> i32
+pub fn banavoge_buckets_begin(buckets: &mut [u8], base: &[u8; 32]) -> i32
     ensures { ToldAs done_code (Begins (key_given base.now) buckets.old buckets.new) result }
 {
     let answer = buckets::begin(buckets, Key(*base));
@@ -31,8 +29,7 @@ pub extern "C" fn banavoge_buckets_begin(buckets: &mut [u8], base: &[u8; 32]) ->
 }
 
 // Offers a node: 1 kept, 0 not kept, or minus 20 or 15.
-#[unsafe(no_mangle)]
-pub extern "C" fn banavoge_buckets_offer(
+pub fn banavoge_buckets_offer(
     buckets: &mut [u8],
     family: u8,
     address: &[u8; 16],
@@ -52,8 +49,7 @@ pub extern "C" fn banavoge_buckets_offer(
 }
 
 // Writes the nodes nearest to a target, nearest first, as a node list: the byte count, or minus 20 or 10.
-#[unsafe(no_mangle)]
-pub extern "C" fn banavoge_buckets_nearest(buckets: &[u8], target: &[u8; 32], out: &mut [u8]) -> i32
+pub fn banavoge_buckets_nearest(buckets: &[u8], target: &[u8; 32], out: &mut [u8]) -> i32
     ensures { ToldAs node_written_code (Asks (key_given target.now) buckets.now out.old out.new) result }
 {
     let answer = buckets::nearest(buckets, Key(*target), out);

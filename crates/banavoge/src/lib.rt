@@ -1,4 +1,4 @@
-// The functions that a host calls from C or Rust: thin, each with the promise of what it calls.
+// The functions that a host calls from C or Rust: thin, each with the promise of what it calls. `banavoge_c` exports each of them under its name.
 //
 // An answer of 0 or more is a kind, a seat, a byte count, or 1 where a node is shown or kept; of the reader of frames it says where a frame is shown. Below 0 it is
 // minus the papers' refusal number, and then whatever the `&mut` parameters refer to is as before, but for a nearest list begun with a bad size and for

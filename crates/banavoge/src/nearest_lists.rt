@@ -16,16 +16,14 @@ use lent_list::{Held, memory};
 use node::Node;
 
 // How many bytes of memory a list takes; longer memory is taken too.
-#[unsafe(no_mangle)]
-pub extern "C" fn banavoge_nearest_bytes() -> usize
+pub fn banavoge_nearest_bytes() -> usize
     ensures { result ≡ list_length }
 {
     memory::BYTES
 }
 
 // Begins the empty list of a size for a target: 0, or minus 12, or minus 14 for memory too short. A bad size begins the empty list of size 8.
-#[unsafe(no_mangle)]
-pub extern "C" fn banavoge_nearest_begin(list: &mut [u8], target: &[u8; 32], size: usize) -> i32
+pub fn banavoge_nearest_begin(list: &mut [u8], target: &[u8; 32], size: usize) -> i32
     ensures { ToldAs done_code (Begins (key_given target.now) size list.old list.new) result }
 {
     let answer = lent_list::begin(list, Key(*target), size);
@@ -33,8 +31,7 @@ pub extern "C" fn banavoge_nearest_begin(list: &mut [u8], target: &[u8; 32], siz
 }
 
 // Offers a node: 1 kept, 0 not kept, or minus 12, 14 or 15.
-#[unsafe(no_mangle)]
-pub extern "C" fn banavoge_nearest_offer(
+pub fn banavoge_nearest_offer(
     list: &mut [u8],
     family: u8,
     address: &[u8; 16],
@@ -54,8 +51,7 @@ pub extern "C" fn banavoge_nearest_offer(
 }
 
 // Takes out the node of a key: 0, or minus 12, 14 or 13.
-#[unsafe(no_mangle)]
-pub extern "C" fn banavoge_nearest_remove(list: &mut [u8], key: &[u8; 32]) -> i32
+pub fn banavoge_nearest_remove(list: &mut [u8], key: &[u8; 32]) -> i32
     ensures { ToldAs done_code (Removes (key_given key.now) list.old list.new) result }
 {
     let answer = lent_list::remove(list, Key(*key));
@@ -82,8 +78,7 @@ fn tell_held(
 }
 
 // Shows the node held at an index, nearest first: 1 and the node, 0 where the index is not below the count, or minus 12 or 14.
-#[unsafe(no_mangle)]
-pub extern "C" fn banavoge_nearest_node(
+pub fn banavoge_nearest_node(
     list: &[u8],
     index: usize,
     family: &mut u8,

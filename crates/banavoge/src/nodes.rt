@@ -35,8 +35,7 @@ fn tell_node(
 }
 
 // Reads the node at a place: 0, or minus 15 or 16.
-#[unsafe(no_mangle)]
-pub extern "C" fn banavoge_node_read(
+pub fn banavoge_node_read(
     bytes: &[u8],
     at: usize,
     family: &mut u8,
@@ -60,8 +59,7 @@ pub extern "C" fn banavoge_node_read(
 }
 
 // The step of document 01's walker, which a C host keeps as a place and a count: 1 and the node, 0 at the end, or minus 17, 15 or 16.
-#[unsafe(no_mangle)]
-pub extern "C" fn banavoge_nodes_step(
+pub fn banavoge_nodes_step(
     list: &[u8],
     place: usize,
     count: usize,
@@ -88,8 +86,7 @@ pub extern "C" fn banavoge_nodes_step(
 }
 
 // Writes a packed node: the byte count, or minus 15 or 10.
-#[unsafe(no_mangle)]
-pub extern "C" fn banavoge_node_write(
+pub fn banavoge_node_write(
     family: u8,
     address: &[u8; 16],
     port: u16,

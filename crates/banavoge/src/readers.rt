@@ -31,8 +31,7 @@ fn tell(
 }
 
 // The relay's reader: the kind of a packet from a client, or minus 4, 5, 6 or 7.
-#[unsafe(no_mangle)]
-pub extern "C" fn banavoge_relay_read(
+pub fn banavoge_relay_read(
     packet: &[u8],
     number: &mut u8,
     ping: &mut u64,
@@ -48,8 +47,7 @@ pub extern "C" fn banavoge_relay_read(
 }
 
 // The client's reader: the kind of a packet from the relay, or minus 4, 5, 6, 7 or 8.
-#[unsafe(no_mangle)]
-pub extern "C" fn banavoge_client_read(
+pub fn banavoge_client_read(
     packet: &[u8],
     number: &mut u8,
     ping: &mut u64,
@@ -65,8 +63,7 @@ pub extern "C" fn banavoge_client_read(
 }
 
 // The key of a routing request or an out-of-band send, and the answer of `banavoge_relay_read`; zeros where a packet has no key.
-#[unsafe(no_mangle)]
-pub extern "C" fn banavoge_relay_key(packet: &[u8], key: &mut [u8; 32]) -> i32
+pub fn banavoge_relay_key(packet: &[u8], key: &mut [u8; 32]) -> i32
     ensures { ReadsKey client_fields relay_key (relay_read packet.now) result key.old key.new }
 {
     match relay_end::read(packet) {
@@ -81,8 +78,7 @@ pub extern "C" fn banavoge_relay_key(packet: &[u8], key: &mut [u8; 32]) -> i32
 }
 
 // The key of a routing response or an out-of-band packet, and the answer of `banavoge_client_read`; zeros where a packet has no key.
-#[unsafe(no_mangle)]
-pub extern "C" fn banavoge_client_key(packet: &[u8], key: &mut [u8; 32]) -> i32
+pub fn banavoge_client_key(packet: &[u8], key: &mut [u8; 32]) -> i32
     ensures { ReadsKey relay_fields client_key (client_read packet.now) result key.old key.new }
 {
     match client::read(packet) {

@@ -24,13 +24,7 @@ fn count_of(given: Answer) -> i32
 }
 
 // A key arrives; one that is seated leaves first: the byte count of what is sent, and its seat is set; or minus 10, 11 or 1, and the seat's place is left.
-#[unsafe(no_mangle)]
-pub extern "C" fn banavoge_arrive(
-    room: &mut [u8],
-    key: &[u8; 32],
-    out: &mut [u8],
-    seat: &mut u8,
-) -> i32
+pub fn banavoge_arrive(room: &mut [u8], key: &[u8; 32], out: &mut [u8], seat: &mut u8) -> i32
     ensures { ToldAs (arrival_told seat.old) (Arrives 40 32 key.now room.old out.old room.new out.new) (told result seat.new) }
 {
     match calls::arrive(room, Key(*key), out) {
@@ -43,8 +37,7 @@ pub extern "C" fn banavoge_arrive(
 }
 
 // The client in a seat leaves: the byte count of what is sent, or minus 10, 11 or 3.
-#[unsafe(no_mangle)]
-pub extern "C" fn banavoge_leave(room: &mut [u8], seat: u8, out: &mut [u8]) -> i32
+pub fn banavoge_leave(room: &mut [u8], seat: u8, out: &mut [u8]) -> i32
     ensures { ToldAs count_code (Departs 40 32 seat room.old out.old room.new out.new) result }
 {
     let given = calls::leave(room, Seat(seat), out);
@@ -52,8 +45,7 @@ pub extern "C" fn banavoge_leave(room: &mut [u8], seat: u8, out: &mut [u8]) -> i
 }
 
 // The client in a seat sends a packet: the byte count of what is sent, or minus 10, 11 or 3 to 9.
-#[unsafe(no_mangle)]
-pub extern "C" fn banavoge_packet(room: &mut [u8], seat: u8, packet: &[u8], out: &mut [u8]) -> i32
+pub fn banavoge_packet(room: &mut [u8], seat: u8, packet: &[u8], out: &mut [u8]) -> i32
     ensures { ToldAs count_code (Sends 40 32 seat packet.now room.old out.old room.new out.new) result }
 {
     let given = calls::packet(room, Seat(seat), packet, out);
@@ -61,8 +53,7 @@ pub extern "C" fn banavoge_packet(room: &mut [u8], seat: u8, packet: &[u8], out:
 }
 
 // The clock moves on to a time, in whole seconds, with the number for those who are pinged: the byte count of what is sent, or minus 10, 11, 7 or 19.
-#[unsafe(no_mangle)]
-pub extern "C" fn banavoge_tick(room: &mut [u8], time: u64, number: u64, out: &mut [u8]) -> i32
+pub fn banavoge_tick(room: &mut [u8], time: u64, number: u64, out: &mut [u8]) -> i32
     ensures { ToldAs count_code (Ticks 40 32 time number room.old out.old room.new out.new) result }
 {
     let given = calls::tick(room, time, number, out);

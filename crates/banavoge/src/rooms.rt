@@ -11,16 +11,14 @@ use refusal::Refusal;
 use room::{Room, whole};
 
 // How many bytes of memory a room takes; longer memory is taken too.
-#[unsafe(no_mangle)]
-pub extern "C" fn banavoge_room_bytes() -> usize
+pub fn banavoge_room_bytes() -> usize
     ensures { result ≡ room_bytes 40 32 }
 {
     Room::BYTES
 }
 
 // Makes the memory the empty room: 0, or minus 10 for memory too short, and then nothing changes.
-#[unsafe(no_mangle)]
-pub extern "C" fn banavoge_room_empty(room: &mut [u8]) -> i32
+pub fn banavoge_room_empty(room: &mut [u8]) -> i32
     ensures { ToldAs (done_or OutputTooShort) (MakesEmpty 40 32 room.old room.new) result }
 {
     let made = Room::empty(room);
@@ -28,8 +26,7 @@ pub extern "C" fn banavoge_room_empty(room: &mut [u8]) -> i32
 }
 
 // Tests the memory in full: 0 where it holds a whole room, or minus 11.
-#[unsafe(no_mangle)]
-pub extern "C" fn banavoge_room_check(room: &[u8]) -> i32
+pub fn banavoge_room_check(room: &[u8]) -> i32
     ensures { result ≡ room_code room.now }
 {
     let is_whole = whole::is_whole(room, Room::SEATS, Room::NUMBERS);

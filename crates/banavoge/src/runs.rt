@@ -21,8 +21,7 @@ fn stop_code(why: Stop) -> i32
 }
 
 // Plays stored calls, at most `allowance` of them: 0 at their end, 1 where none stands, 2 at the allowance, 3 with too little output left; or minus 11.
-#[unsafe(no_mangle)]
-pub extern "C" fn banavoge_play(
+pub fn banavoge_play(
     room: &mut [u8],
     calls: &[u8],
     allowance: usize,

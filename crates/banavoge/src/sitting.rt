@@ -13,8 +13,7 @@ use room::{Room, lookup, whole};
 use seat::Seat;
 
 // The key in a seat: 0, or minus 11 or 3, and then the 32 bytes are as before.
-#[unsafe(no_mangle)]
-pub extern "C" fn banavoge_key_in(room: &[u8], seat: u8, key: &mut [u8; 32]) -> i32
+pub fn banavoge_key_in(room: &[u8], seat: u8, key: &mut [u8; 32]) -> i32
     ensures { TellsSitter 40 32 seat room.now key.old key.new result }
 {
     if !whole::is_whole(room, Room::SEATS, Room::NUMBERS) {
@@ -30,8 +29,7 @@ pub extern "C" fn banavoge_key_in(room: &[u8], seat: u8, key: &mut [u8; 32]) -> 
 }
 
 // The seat of a key, or minus 11 or 3.
-#[unsafe(no_mangle)]
-pub extern "C" fn banavoge_seat_of(room: &[u8], key: &[u8; 32]) -> i32
+pub fn banavoge_seat_of(room: &[u8], key: &[u8; 32]) -> i32
     ensures { result ≡ seat_of_key 40 32 room.now key.now }
 {
     if !whole::is_whole(room, Room::SEATS, Room::NUMBERS) {

@@ -12,9 +12,9 @@ returns c =
     let a = c.args in
     let read = c.read-read in
     record {
-      answers = to_z-of_z w32 c.shown_code.result (record { sfits = c.shown_code.type_inv }) ∙ c.shown_code.ensures ∙ ap (λ (x : Read). shown_code x.shown) read.ensures.0;
+      answers = to_z-of_z w32 c.shown_code.result (record { sfits = c.shown_code.type_inv }) ∙ c.shown_code.ensures ∙ ap (λ (x : Read). shown_code x.shown) read.ensures.value;
       sets =
           ap (frame_places read.result.reader.held read.result.used) c.end_after.ensures
-          ∙ ap (λ (x : Read). frame_places_after x (frame_places a.held.now a.used.now a.end.now)) read.ensures.0;
-      leaves = read.ensures.1;
+          ∙ ap (λ (x : Read). frame_places_after x (frame_places a.held.now a.used.now a.end.now)) read.ensures.value;
+      leaves = read.ensures.keep_after;
     }

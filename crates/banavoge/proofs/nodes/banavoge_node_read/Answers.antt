@@ -11,7 +11,7 @@ use Rattle.banavoge.proofs.nodes.banavoge_node_read.Goals as goal
 pub returns-in-Node : goal.returns-in-Node
 returns-in-Node c =
     record {
-      bytes = bytes_each c.args.bytes.now (λ i. (c.type_inv.bytes i));
+      bytes = bytes_each c.args.bytes.now (λ i. (c.type_inv.bytes i).fits);
       does =
           node_told c.args.at c.read-read.result (read_node (drop c.args.at c.args.bytes.now)) c.in-Node.after _ _ c.read-read.ensures.exact c.in-Node.is c.tell_node.ensures;
     }
@@ -19,7 +19,7 @@ returns-in-Node c =
 pub returns-in-Refused : goal.returns-in-Refused
 returns-in-Refused c =
     record {
-      bytes = bytes_each c.args.bytes.now (λ i. (c.type_inv.bytes i));
+      bytes = bytes_each c.args.bytes.now (λ i. (c.type_inv.bytes i).fits);
       does =
           node_turned c.args.at c.read-read.result (read_node (drop c.args.at c.args.bytes.now)) c.in-Refused.why _ _ c.read-read.ensures.exact c.in-Refused.is (to_z-of_z w32 c.refused.result (record { sfits = c.refused.type_inv }) ∙ c.refused.ensures);
     }

@@ -4,7 +4,6 @@ use mir.Syntax.{w32}
 use mir.ValLaws.{to_z-of_z}
 use Rattle.wire.proofs.Numbers.{bytes_each}
 use Rattle.node.specs.Steps.{step_of}
-use Rattle.banavoge_laws.specs.Nodes.{node_places}
 use Rattle.banavoge_laws.proofs.NodeTelling.{step_told, step_ended, step_turned}
 use Rattle.banavoge.proofs.nodes.banavoge_nodes_step.Goals as goal
 
@@ -12,12 +11,10 @@ pub returns-in-Node : goal.returns-in-Node
 returns-in-Node c =
     let a = c.args in
     let step = c.step_from-stepped in
-    let left = c.tell_node.new.family in
     record {
-      bytes = bytes_each a.list.now (λ i. (c.type_inv.list i));
+      bytes = bytes_each a.list.now (λ i. (c.type_inv.list i).fits);
       does =
-          step_told a.place a.count step.result (step_of a.list.now a.place a.count) _
-          (node_places left.0 left.1.0 left.1.1.0 left.1.1.1.0 left.1.1.1.1.0) step.ensures.exact
+          step_told a.place a.count step.result (step_of a.list.now a.place a.count) _ _ step.ensures.exact
           c.in-Node.is c.tell_node.ensures;
     }
 
@@ -26,7 +23,7 @@ returns-in-End c =
     let a = c.args in
     let step = c.step_from-stepped in
     record {
-      bytes = bytes_each a.list.now (λ i. (c.type_inv.list i));
+      bytes = bytes_each a.list.now (λ i. (c.type_inv.list i).fits);
       does = step_ended a.place a.count step.result (step_of a.list.now a.place a.count) _ step.ensures.exact c.in-End.is;
     }
 
@@ -34,10 +31,9 @@ pub returns-in-Refused : goal.returns-in-Refused
 returns-in-Refused c =
     let a = c.args in
     let step = c.step_from-stepped in
-    let why = c.shown-1.given in
     record {
-      bytes = bytes_each a.list.now (λ i. (c.type_inv.list i));
+      bytes = bytes_each a.list.now (λ i. (c.type_inv.list i).fits);
       does =
-          step_turned a.place a.count step.result (step_of a.list.now a.place a.count) why.0.0 _ _ step.ensures.exact why.1
+          step_turned a.place a.count step.result (step_of a.list.now a.place a.count) c.in-Refused.why _ _ step.ensures.exact c.in-Refused.is
           (to_z-of_z w32 c.refused.result (record { sfits = c.refused.type_inv }) ∙ c.refused.ensures);
     }

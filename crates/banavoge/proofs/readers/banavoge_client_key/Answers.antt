@@ -13,7 +13,7 @@ pub returns-in-Packet : goal.returns-in-Packet
 returns-in-Packet c =
     tells_key relay_fields (client_read c.args.packet.now) _ client_key c.of_relay.result _ _
     (client_found (client_read c.args.packet.now) c.read.result c.in-Packet.shown c.of_relay.result c.read.ensures.exact c.in-Packet.is c.of_relay.ensures)
-    (to_z_pos w32 c.of_relay.result.kind (omega (arith, c.struct_known-1.given)))
+    (to_z_pos w32 c.of_relay.result.kind (omega arith))
     (c.key-found.ensures ∙ client_key_lem c.args.packet.now c.in-Packet.shown (sym c.in-Packet.is ∙ c.read.ensures.exact))
 
 pub returns-in-Refused : goal.returns-in-Refused

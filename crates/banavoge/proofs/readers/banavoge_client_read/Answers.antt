@@ -11,17 +11,17 @@ use Rattle.banavoge.proofs.readers.banavoge_client_read.Goals as goal
 pub returns-in-Packet : goal.returns-in-Packet
 returns-in-Packet c =
     record {
-      bytes = bytes_each c.args.packet.now (λ i. (c.type_inv.packet i));
+      bytes = bytes_each c.args.packet.now (λ i. (c.type_inv.packet i).fits);
       does =
           tells relay_fields (client_read c.args.packet.now) _ c.of_relay.result _ _
           (client_found (client_read c.args.packet.now) c.read.result c.in-Packet.shown c.of_relay.result c.read.ensures.exact c.in-Packet.is c.of_relay.ensures)
-          (to_z-of_z w32 c.tell.result (record { sfits = c.tell.type_inv }) ∙ c.tell.ensures.0) c.tell.ensures.1;
+          (to_z-of_z w32 c.tell.result (record { sfits = c.tell.type_inv }) ∙ c.tell.ensures.value) c.tell.ensures.length_after;
     }
 
 pub returns-in-Refused : goal.returns-in-Refused
 returns-in-Refused c =
     record {
-      bytes = bytes_each c.args.packet.now (λ i. (c.type_inv.packet i));
+      bytes = bytes_each c.args.packet.now (λ i. (c.type_inv.packet i).fits);
       does =
           refuses relay_fields (client_read c.args.packet.now) _ c.in-Refused.why _ (client_turned (client_read c.args.packet.now) c.read.result c.in-Refused.why c.read.ensures.exact c.in-Refused.is)
           (to_z-of_z w32 c.refused.result (record { sfits = c.refused.type_inv }) ∙ c.refused.ensures);

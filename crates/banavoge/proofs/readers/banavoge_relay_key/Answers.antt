@@ -13,7 +13,7 @@ pub returns-in-Packet : goal.returns-in-Packet
 returns-in-Packet c =
     tells_key client_fields (relay_read c.args.packet.now) _ relay_key c.of_client.result _ _
     (relay_found (relay_read c.args.packet.now) c.read.result c.in-Packet.shown c.of_client.result c.read.ensures.exact c.in-Packet.is c.of_client.ensures)
-    (to_z_pos w32 c.of_client.result.kind (omega (arith, c.struct_known-1.given)))
+    (to_z_pos w32 c.of_client.result.kind (omega arith))
     (c.key-found.ensures ∙ relay_key_lem c.args.packet.now c.in-Packet.shown (sym c.in-Packet.is ∙ c.read.ensures.exact))
 
 pub returns-in-Refused : goal.returns-in-Refused

@@ -6,4 +6,4 @@ use mir.ValLaws.{to_z_pos}
 use Rattle.banavoge.proofs.readers.tell.Goals as goal
 
 pub returns : goal.returns
-returns c = (to_z_pos w32 c.args.fields.kind (omega (arith, c.struct_known-1.given)), refl)
+returns c = record { value = to_z_pos w32 c.args.fields.kind (omega arith); length_after = refl }

@@ -12,35 +12,32 @@ use Rattle.banavoge.proofs.relay_calls.banavoge_arrive.Goals as goal
 
 pub overflow_cast-result : goal.overflow_cast-result
 overflow_cast-result c =
-    let given = c.taken-1.given in
     let a = c.args in
-    let h = given_small _ _ _ (call_counted a.room.now (arrive a.key.now) a.out.now _ _ _ c.arrive.ensures.leaves) given.1 in
+    let h = given_small _ _ _ (call_counted a.room.now (arrive a.key.now) a.out.now _ _ _ c.arrive.ensures.leaves) c.in-Accepted.is in
     record { sfits = omega (arith, h) }
 
 pub returns-in-Accepted : goal.returns-in-Accepted
 unfolding arrival_told count_code seat_after answer_of
 returns-in-Accepted c =
-    let given = c.taken-1.given in
     let a = c.args in
-    let h = given_small _ _ _ (call_counted a.room.now (arrive a.key.now) a.out.now _ _ _ c.arrive.ensures.leaves) given.1 in
+    let h = given_small _ _ _ (call_counted a.room.now (arrive a.key.now) a.out.now _ _ _ c.arrive.ensures.leaves) c.in-Accepted.is in
     record {
       given = _;
       relates = c.arrive.ensures;
       codes =
-          ap₂ told (to_z_pos w32 _ (omega (arith, h)) ∙ sym (ap (λ (x : Answer). count_code (answer_of x)) given.1))
-          (sym (ap (λ (x : Answer). seat_after (answer_of x) a.seat.now) given.1));
+          ap₂ told (to_z_pos w32 _ (omega (arith, h)) ∙ sym (ap (λ (x : Answer). count_code (answer_of x)) c.in-Accepted.is))
+          (sym (ap (λ (x : Answer). seat_after (answer_of x) a.seat.now) c.in-Accepted.is));
     }
 
 pub returns-in-Refused : goal.returns-in-Refused
 unfolding arrival_told count_code seat_after answer_of
 returns-in-Refused c =
-    let given = c.why-1.given in
     let a = c.args in
     record {
       given = _;
       relates = c.arrive.ensures;
       codes =
           ap₂ told
-          (to_z-of_z w32 c.refused.result (record { sfits = c.refused.type_inv }) ∙ c.refused.ensures ∙ sym (ap (λ (x : Answer). count_code (answer_of x)) given.1))
-          (sym (ap (λ (x : Answer). seat_after (answer_of x) a.seat.now) given.1));
+          (to_z-of_z w32 c.refused.result (record { sfits = c.refused.type_inv }) ∙ c.refused.ensures ∙ sym (ap (λ (x : Answer). count_code (answer_of x)) c.in-Refused.is))
+          (sym (ap (λ (x : Answer). seat_after (answer_of x) a.seat.now) c.in-Refused.is));
     }

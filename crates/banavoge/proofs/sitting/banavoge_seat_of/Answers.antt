@@ -16,9 +16,8 @@ pub returns-in-At : goal.returns-in-At
 returns-in-At c =
     let a = c.args in
     let whole = sym c.is_whole.ensures ∙ c.if-not-is_whole.false in
-    let seat = c.seat-1.given in
-    to_z_pos w32 seat.0.0.0 (omega (arith, c.struct_known-1.given))
-    ∙ sym (seat_code 40 32 a.room.now a.key.now whole c.seat_of.result c.seat_of.ensures seat.0.0 seat.1)
+    to_z_pos w32 c.in-At.seat.0 (omega arith)
+    ∙ sym (seat_code 40 32 a.room.now a.key.now whole c.seat_of.result c.seat_of.ensures c.in-At.seat c.in-At.is)
 
 pub returns-in-None : goal.returns-in-None
 returns-in-None c =
