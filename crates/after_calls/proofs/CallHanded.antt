@@ -17,7 +17,6 @@ use Rattle.rules.specs.After.{Tied}
 use Rattle.after_calls.specs.Told.{LeaveTells}
 use Rattle.after_calls.specs.Given.{ArriveAnswered, full, takes, returns}
 use Rattle.after_calls.specs.Handed.{SameSitter, EachSent}
-use Rattle.rules.proofs.FindLaws.{clash}
 use Rattle.after_calls.proofs.OneSeat.{one_seat}
 use Rattle.after_calls.proofs.TickHanded.{each_map, turn_seated}
 
@@ -51,7 +50,7 @@ module _ (sizes : Sizes) (start : Start) (past : Past) where
         -- the seat that is taken was its own, or empty
         not_taken : (i : ℕ) (k : Key) → old ≢ i → sitter start past i ≡ client_of k → (seat ≡ old) ⊎ (sitter start past seat ≡ nobody) → seat ≢ i
         not_taken i k apart h (inl own) q = apart (sym own ∙ q)
-        not_taken i k apart h (inr empty) q = let same : nobody ≡ client_of k = sym empty ∙ ap (sitter start past) q ∙ h in clash (cc)
+        not_taken i k apart h (inr empty) q = let same : nobody ≡ client_of k = sym empty ∙ ap (sitter start past) q ∙ h in absurd (cc)
 
         -- a key sits in one seat
         not_key : (i : ℕ) (k : Key) → old ≢ i → sitter start past i ≡ client_of k → (t : Bool) → same_key k key ≡ t → same_key k key ≡ false

@@ -1,7 +1,7 @@
 -- What a tick is answered and does, and what a pong does, at one moment: `rules`' history of three clients (`AComputedTicks.antt`). KA and KB sit in seats 0 and 1
 -- and were pinged at 30 with the number 7; KC, who came at 10, sits in seat 2 and names both. The clock is 30. Assumes nothing.
 use mathlib.Core.Path.{◌≡◌, refl, sym, ap, ◌∙◌}
-use mathlib.Core.Bool.{Bool, true, false, cond}
+use mathlib.Core.Bool.{true, false, cond}
 use mathlib.Core.List.{List, [], ◌∷◌, ◌++◌}
 use mathlib.Core.Logic.{◌≢◌}
 use Prim.Native.Nat.{ℕ}
@@ -14,17 +14,16 @@ use Rattle.key.specs.Keys.{same_key}
 use Rattle.packet_laws.specs.FromRelay as relay
 use Rattle.rules.specs.Room.{Ping, Room, none_since, empty_room}
 use Rattle.rules.specs.Whole.{Whole}
-use Rattle.rules.specs.Call.{Call, arrive, leave, packet_call, tick, accepted, refused, Sent}
+use Rattle.rules.specs.Call.{Call, arrive, leave, tick, accepted, refused, Sent}
 use Rattle.rules.specs.Outcome.{sent_bytes, to, outcome, room_after}
 use Rattle.rules.specs.History.{Event, event}
 use Rattle.rules.specs.Transcript.{Past, nobody, client_of, clock_of, ping_of, ping_sent_to, sitter, stands}
 use Rattle.rules.specs.After.{room_after_all, Tied}
 use Rattle.after_calls.specs.PingAndOutOfBand.{PongDoes}
 use Rattle.after_calls.specs.Told.{LeaveTells}
-use Rattle.after_calls.specs.Ticks.{TickAnswered, zero_ping, clock_back, ticks, AsBefore, Overdue, Due, EmptyThen, nobody_sat, it_left, TickLeaves, TickPings, leave_event, LeavesFrom, PingsFrom, done, leaves, pings, passes, TickDoes}
+use Rattle.after_calls.specs.Ticks.{TickAnswered, zero_ping, clock_back, ticks, AsBefore, Overdue, Due, nobody_sat, it_left, leave_event, LeavesFrom, PingsFrom, done, leaves, pings, passes, TickDoes}
 use Rattle.rules.proofs.Computed.{ka, kb, kc}
 use Rattle.rules.proofs.AComputedTicks.{small, begin, connected, three, after, pong, computed}
-use Rattle.rules.proofs.FindLaws.{clash}
 use Rattle.rules.proofs.Whole.{whole_after, whole_from_empty}
 use Rattle.rules.proofs.Tied.{either, tied_after, tied_from_empty}
 use Rattle.after_calls.proofs.Told.{leave_tells}
@@ -109,7 +108,7 @@ pub second_not_due : (time : ℕ) → Due begin past30 time 1 → ⊥
 second_not_due time d = let h = rw pings_then.1 at d.none_outstanding in omega arith
 
 pub nobody_not_due : (time : ℕ) → Due begin past30 time 3 → ⊥
-nobody_not_due time d = let h = d.sits in let e = sits_then.2 in clash (cc)
+nobody_not_due time d = let h = d.sits in let e = sits_then.2 in absurd (cc)
 
 -- ---- what is said of the tick at 40, of each of the seats
 

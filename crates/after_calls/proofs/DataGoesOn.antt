@@ -17,7 +17,6 @@ use Rattle.rules.specs.History.{Event, event, transcript}
 use Rattle.rules.specs.Transcript.{Past, nobody, client_of, Start, from_empty, is_accepted, sitter, stands}
 use Rattle.rules.specs.After.{past_after, client_in, Tied}
 use Rattle.after_calls.specs.GoesOn.{Names, Connected, NoRequest, Waits, no_client, no_request, waits, connects, Carried, DataGoesOn, OnlyPeer}
-use Rattle.rules.proofs.FindLaws.{clash}
 use Rattle.rules.proofs.Whole.{whole_empty}
 use Rattle.rules.proofs.Tied.{tied_empty, sitter_is, wants_stands, free_stands}
 use Rattle.after_calls.proofs.PeerConnected.{peer_is_connected}
@@ -36,7 +35,7 @@ same_record payload i j n m e =
 module _ (start : Start) (past : Past) (seat number : ℕ) (payload : List ℕ) (e : Event) where
   -- two that cannot be together
   nobody_names : {A : Type 0} (key : Key) → sitter start past seat ≡ nobody → sitter start past seat ≡ client_of key → A
-  nobody_names key a b = clash (cc)
+  nobody_names key a b = absurd (cc)
 
   none_names : {A : Type 0} (key wanted : Key) → NoRequest start past seat number → Names start past seat number key wanted → A
   none_names key wanted n h =
@@ -49,29 +48,29 @@ module _ (start : Start) (past : Past) (seat number : ℕ) (payload : List ℕ) 
   case_nobody a s h = record {
     decided = no_client h;
     not_seated = (λ q. h, λ q. a);
-    no_such_route = (λ q. clash (cc), λ n. nobody_names n.key h n.sits);
-    not_connected = (λ q. clash (cc), λ w. nobody_names w.key h w.here.sits);
-    goes_on = λ other number'. (λ c. (let q = c.answer in clash (cc)), λ c. nobody_names c.key h c.here.sits);
+    no_such_route = (λ q. absurd (cc), λ n. nobody_names n.key h n.sits);
+    not_connected = (λ q. absurd (cc), λ w. nobody_names w.key h w.here.sits);
+    goes_on = λ other number'. (λ c. (let q = c.answer in absurd (cc)), λ c. nobody_names c.key h c.here.sits);
     silent = λ q. s;
   }
 
   case_none : e.answer ≡ refused NoSuchRoute → e.sent ≡ [] → NoRequest start past seat number → DataGoesOn start past seat number payload e
   case_none a s h = record {
     decided = no_request h;
-    not_seated = (λ q. clash (cc), λ n. nobody_names h.key n h.sits);
+    not_seated = (λ q. absurd (cc), λ n. nobody_names h.key n h.sits);
     no_such_route = (λ q. h, λ q. a);
-    not_connected = (λ q. clash (cc), λ w. none_names w.key w.wanted h w.here);
-    goes_on = λ other number'. (λ c. (let q = c.answer in clash (cc)), λ c. none_names c.key c.wanted h c.here);
+    not_connected = (λ q. absurd (cc), λ w. none_names w.key w.wanted h w.here);
+    goes_on = λ other number'. (λ c. (let q = c.answer in absurd (cc)), λ c. none_names c.key c.wanted h c.here);
     silent = λ q. s;
   }
 
   case_waits : e.answer ≡ refused NotConnected → e.sent ≡ [] → Waits start past seat number → DataGoesOn start past seat number payload e
   case_waits a s h = record {
     decided = waits h;
-    not_seated = (λ q. clash (cc), λ n. nobody_names h.key n h.here.sits);
-    no_such_route = (λ q. clash (cc), λ n. none_names h.key h.wanted n h.here);
+    not_seated = (λ q. absurd (cc), λ n. nobody_names h.key n h.here.sits);
+    no_such_route = (λ q. absurd (cc), λ n. none_names h.key h.wanted n h.here);
     not_connected = (λ q. h, λ q. a);
-    goes_on = λ other number'. (λ c. (let q = c.answer in clash (cc)), λ c. absurd (h.alone other number' c));
+    goes_on = λ other number'. (λ c. (let q = c.answer in absurd (cc)), λ c. absurd (h.alone other number' c));
     silent = λ q. s;
   }
 
@@ -83,9 +82,9 @@ module _ (start : Start) (past : Past) (seat number : ℕ) (payload : List ℕ) 
       let s = carried.sent in
       record {
         decided = connects other number' h;
-        not_seated = (λ q. clash (cc), λ n. nobody_names h.key n h.here.sits);
-        no_such_route = (λ q. clash (cc), λ n. none_names h.key h.wanted n h.here);
-        not_connected = (λ q. clash (cc), λ w. absurd (w.alone other number' h));
+        not_seated = (λ q. absurd (cc), λ n. nobody_names h.key n h.here.sits);
+        no_such_route = (λ q. absurd (cc), λ n. none_names h.key h.wanted n h.here);
+        not_connected = (λ q. absurd (cc), λ w. absurd (w.alone other number' h));
         goes_on = λ other' n. (
           λ c. (let q = same_record payload other other' number' n (sym s ∙ c.sent) in rw (← q.0, ← q.1) h),
           λ c. (let q = only other' n c in rw (← q.0, ← q.1) carried),

@@ -29,7 +29,7 @@ use Rattle.rules.specs.History.{Event, event, transcript}
 use Rattle.rules.specs.Transcript.{Past, nobody, client_of, Start, from_empty, is_accepted, sitter, stands}
 use Rattle.rules.specs.After.{past_after, client_in, Tied}
 use Rattle.after_calls.specs.Given.{ArriveAnswered, full, takes, returns, LeaveAnswered, empty, left, Taken, Numbered, own_key, old_number, none_free, lowest_free, DropAnswered, no_route, dropped}
-use Rattle.rules.proofs.FindLaws.{set_default, clash, find_hit, find_miss, find_within, find_before, find_none, route_to_wants, route_at_place, wanted_place, held_of}
+use Rattle.rules.proofs.FindLaws.{set_default, find_hit, find_miss, find_within, find_before, find_none, route_to_wants, route_at_place, wanted_place, held_of}
 use Rattle.after_calls.specs.Told.{LeaveTells}
 use Rattle.after_calls.proofs.Told.{leave_tells}
 use Rattle.rules.proofs.ComesBack.{arrives_new, new_sends_nothing, sits_there, some_empty, comes_back_to}
@@ -41,7 +41,7 @@ use Rattle.rules.proofs.EachEvent.{from_empty_lem}
 held_somebody : (s : Seat) → is_vacant s ≡ false → client_in s ≢ nobody
 unfolding is_vacant client_in
 held_somebody vacant h q = absurd (true≢false h)
-held_somebody (holds held) h q = clash (cc)
+held_somebody (holds held) h q = absurd (cc)
 
 vacant_nobody : (s : Seat) → is_vacant s ≡ true → client_in s ≡ nobody
 unfolding is_vacant client_in
@@ -136,7 +136,7 @@ module _ (sizes : Sizes) (start : Start) (past : Past) (room : Room) (whole : Wh
     nobodys : (bytes : List ℕ) (s : Seat) → client_in s ≡ nobody → (packet_from s room seat bytes).answer ≡ refused NotSeated
     unfolding packet_from refuse client_in
     nobodys bytes vacant h = refl
-    nobodys bytes (holds held) h = clash (cc)
+    nobodys bytes (holds held) h = absurd (cc)
 
     pub nobodys_packet : (bytes : List ℕ) → sitter start past seat ≡ nobody → (event room (packet_call seat bytes)).answer ≡ refused NotSeated
     unfolding event outcome

@@ -19,7 +19,7 @@ use Rattle.rules.specs.Transcript.{Past, Maker, nobody, client_of, Start, from_e
 use Rattle.rules.specs.After.{past_after, routes_in, routes_by, Tied}
 use Rattle.after_calls.specs.GoesOn.{Connected}
 use Rattle.after_calls.specs.Given.{Asked, under, not_asked}
-use Rattle.rules.proofs.FindLaws.{clash, find_hit, find_miss, routes_held, seat_of_holds, route_to_wants, route_none, route_at_place, wanted_place}
+use Rattle.rules.proofs.FindLaws.{find_hit, find_miss, routes_held, seat_of_holds, route_to_wants, route_none, route_at_place, wanted_place}
 use Rattle.rules.proofs.Tied.{either, seat_holds}
 use Rattle.rules.proofs.EachEvent.{moment_from_empty}
 
@@ -45,7 +45,7 @@ module _ (sizes : Sizes) (start : Start) (past : Past) (room : Room) (whole : Wh
     one_number : (f : Found) → find (seat_of key) room.seats ≡ f
         → (n m : ℕ) → route_at (routes_in f room) n ≡ wants wanted → route_at (routes_in f room) m ≡ wants wanted → n ≡ m
     unfolding routes_in seat_at
-    one_number none e n m a b = let q = route_none n in clash (cc)
+    one_number none e n m a b = let q = route_none n in absurd (cc)
     one_number (at seat) e n m a b =
         let here = seat_of_holds key (seat_at room seat) (find_hit (seat_of key) vacant room.seats seat e) in
         let mine = ap (λ (t : List Route). route_at t n) (routes_held (seat_at room seat)) in

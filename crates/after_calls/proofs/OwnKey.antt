@@ -2,7 +2,7 @@
 -- or none for its key stands and one stands under every number of its client's table; and a request of a client for its own key is accepted and answered with
 -- 0, nobody else is told anything, and who sits where and which requests stand is as before. Assumes nothing.
 use mathlib.Core.Path.{◌≡◌, refl, sym, ap, ◌∙◌, subst}
-use mathlib.Core.Bool.{true, false, true≢false}
+use mathlib.Core.Bool.{false, true≢false}
 use mathlib.Core.List.{List, [], ◌∷◌, ◌++◌}
 use mathlib.Core.Logic.{◌↔◌, ◌≢◌}
 use Prim.Native.Nat.{ℕ}

@@ -10,7 +10,7 @@ use Rattle.rules.specs.Outcome.{peer}
 use Rattle.rules.specs.Transcript.{Past, Start, stands}
 use Rattle.rules.specs.After.{Tied}
 use Rattle.after_calls.specs.GoesOn.{Connected, OnlyPeer}
-use Rattle.rules.proofs.FindLaws.{clash, held_of, wanted_high}
+use Rattle.rules.proofs.FindLaws.{held_of, wanted_high}
 use Rattle.rules.proofs.PeerLaws.{PeerHas, peer_has, has_peer}
 use Rattle.rules.proofs.Tied.{seat_holds, sitter_is, stands_wants, wants_stands}
 
@@ -60,7 +60,7 @@ module _ (sizes : Sizes) (start : Start) (past : Past) (room : Room) (whole : Wh
   peer_is_connected = go (peer room seat held.key wanted) refl
     where
       go : (p : Peer) → peer room seat held.key wanted ≡ p → OnlyPeer start past seat number p
-      go alone e = λ other number' c. (let h = (connected_joined other number' c).0 in clash (cc))
+      go alone e = λ other number' c. (let h = (connected_joined other number' c).0 in absurd (cc))
       go (joined other place) e = (joined_connected other place e, only)
         where
           only : (other' number' : ℕ) → Connected start past seat number other' number' → (other ≡ other') × (number_of_place place ≡ number')

@@ -24,7 +24,6 @@ use Rattle.rules.specs.Transcript.{Past, Maker, nobody, client_of, Start, from_e
 use Rattle.rules.specs.After.{past_after, Tied}
 use Rattle.after_calls.specs.Ticks.{TickAnswered, zero_ping, clock_back, ticks, Due}
 use Rattle.after_calls.specs.Silent.{each, arrival_of, arrives, slowly, bears, answers_by, answers, NeverAnswers}
-use Rattle.rules.proofs.FindLaws.{clash}
 use Rattle.rules.proofs.Whole.{whole_empty, whole_after}
 use Rattle.rules.proofs.Tied.{tied_empty, tied_after, both_true}
 use Rattle.after_calls.proofs.Ticks.{is_overdue_lem, tick_answered, accepted_tick, sent_ping}
@@ -89,7 +88,7 @@ module _ (start : Start) (key : Key) (a : ℕ) where
         go : (t u : Bool) → cond t (client_of k) (cond u nobody (sitter start past seat)) ≡ client_of key
             → Stage a (clock_of start past) (cond t (none_since (clock_of start past)) (cond u (none_since 0) (ping_of start past seat)))
         go true u w = let q : k ≡ key = cc in absurd (true≢false (sym (rw (q, same_refl key) refl) ∙ h))
-        go false true w = clash (cc)
+        go false true w = absurd (cc)
         go false false w = inv seat w
 
     step_leave : (left : ℕ) (answer : Answer) (sent : List Sent) → InStage (record { call = leave left; answer = answer; sent = sent } ∷ past)
@@ -97,7 +96,7 @@ module _ (start : Start) (key : Key) (a : ℕ) where
     step_leave left answer sent seat w = go (is_accepted answer && eqb left seat) w
       where
         go : (t : Bool) → cond t nobody (sitter start past seat) ≡ client_of key → Stage a (clock_of start past) (cond t (none_since 0) (ping_of start past seat))
-        go true w = clash (cc)
+        go true w = absurd (cc)
         go false w = inv seat w
 
     step_packet : (from : ℕ) (bytes : List ℕ) (answer : Answer) (sent : List Sent)
@@ -124,7 +123,7 @@ module _ (start : Start) (key : Key) (a : ℕ) where
       where
         go : (u : Bool) → overdue time (ping_of start past seat) ≡ u → cond u nobody (sitter start past seat) ≡ client_of key
             → Stage a time (cond (ping_sent_to seat sent) (record { time = time; number = number }) (cond u (none_since 0) (ping_of start past seat)))
-        go true o w = clash (cc)
+        go true o w = absurd (cc)
         go false o w =
             let f = facts refl in
             stage_tick a (clock_of start past) time number (ping_of start past seat) f.0 f.1 (leb-true time (suc (clock_of start past)) slow) o
@@ -170,11 +169,11 @@ module _ (start : Start) (key : Key) (a : ℕ) where
 -- a client that has left a seat does not sit there
 gone_from : (key : Key) (m : Maker) → cond (is_client key m) nobody m ≡ client_of key → ⊥
 unfolding is_client
-gone_from key nobody w = clash (cc)
+gone_from key nobody w = absurd (cc)
 gone_from key (client_of k) w = go (same_key k key) refl w
   where
     go : (t : Bool) → same_key k key ≡ t → cond t nobody (client_of k) ≡ client_of key → ⊥
-    go true h w = clash (cc)
+    go true h w = absurd (cc)
     go false h w = let q : k ≡ key = cc in true≢false (sym (same_refl key) ∙ sym (ap (λ (x : Key). same_key x key) q) ∙ h)
 
 module _ (start : Start) (past : Past) where

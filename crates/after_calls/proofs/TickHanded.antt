@@ -17,7 +17,6 @@ use Rattle.rules.specs.After.{past_after}
 use Rattle.after_calls.specs.Told.{PeerOrNone, peer_is, no_peer, Disconnects, InTurn}
 use Rattle.after_calls.specs.Ticks.{Overdue, Due, leave_event, LeavesFrom, PingsFrom, done, leaves, stays, pings, passes, TickDoes}
 use Rattle.after_calls.specs.Handed.{SameSitter, SatBefore, EachSent, EachWritten, after_leaves, TickHanded}
-use Rattle.rules.proofs.FindLaws.{clash}
 use Rattle.after_calls.proofs.TickTells.{tick_does_from_empty}
 
 -- ---- lists of records
@@ -61,7 +60,7 @@ unfolding sitter sits_after is_accepted
 left_kept start now seat sent i key h = go (eqb seat i) h
   where
     go : (t : Bool) → cond t nobody (sitter start now i) ≡ client_of key → sitter start now i ≡ client_of key
-    go true q = clash (cc)
+    go true q = absurd (cc)
     go false q = q
 
 -- and the others stay

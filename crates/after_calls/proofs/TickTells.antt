@@ -4,19 +4,19 @@
 use mathlib.Core.Path.{◌≡◌, refl, sym, ap, ◌∙◌, subst}
 use mathlib.Core.Bool.{Bool, true, false, true≢false, false≢true}
 use mathlib.Core.List.{List, [], ◌∷◌, ◌++◌, map}
-use Prim.Native.Nat.{ℕ, zero, suc, ◌+◌}
+use Prim.Native.Nat.{ℕ, suc, ◌+◌}
 use native.Mathlib.Omega.{arith}
 use lib.ListN.{get_or, length}
 use Rattle.packet_laws.specs.FromRelay as relay
-use Rattle.rules.specs.Room.{Sizes, Ping, Held, Seat, vacant, holds, Room, set_clock, set_seat, empty_room, ping_in, seat_at, place_when, places_from}
+use Rattle.rules.specs.Room.{Sizes, Held, Seat, vacant, holds, Room, set_clock, set_seat, ping_in, seat_at, place_when, places_from}
 use Rattle.rules.specs.Whole.{Whole}
-use Rattle.rules.specs.Call.{Call, leave, tick, Sent}
-use Rattle.rules.specs.Outcome.{apply, apply_all, refuse, accept, to, room_after, leave_from, overdue, is_overdue, is_due, leave_each, ping_each, leavers, due_seats, tick_from, outcome}
+use Rattle.rules.specs.Call.{Call, leave, tick}
+use Rattle.rules.specs.Outcome.{apply, apply_all, accept, to, room_after, leave_from, overdue, is_overdue, is_due, leave_each, ping_each, leavers, due_seats, tick_from, outcome}
 use Rattle.rules.specs.History.{Event, event, happens}
 use Rattle.rules.specs.Transcript.{Past, Start, from_empty, is_accepted, clock_after, clock_of, ping_of}
 use Rattle.rules.specs.After.{past_after, Tied}
 use Rattle.after_calls.specs.Told.{Parts}
-use Rattle.after_calls.specs.Ticks.{TickAnswered, AsBefore, Overdue, Due, leave_event, LeavesFrom, PingsFrom, done, leaves, stays, pings, passes, TickDoes}
+use Rattle.after_calls.specs.Ticks.{TickAnswered, AsBefore, Overdue, leave_event, LeavesFrom, PingsFrom, done, leaves, stays, pings, passes, TickDoes}
 use Rattle.rules.proofs.FindLaws.{seat_set_other, held_of}
 use Rattle.rules.proofs.Whole.{whole_after}
 use Rattle.rules.proofs.TickInTurn.{leave_clock}

@@ -2,30 +2,26 @@
 -- has stood unanswered for 10 seconds or more leaves, as if it had called, one after the other in rising seat order; then every remaining client with none
 -- outstanding, last pinged 30 seconds ago or more, is pinged in that order; and nothing else happens but that the clock is its
 -- time. Assumes nothing.
-use mathlib.Core.Path.{◌≡◌, refl, sym, ap, ◌∙◌, subst}
+use mathlib.Core.Path.{◌≡◌, refl, sym, ap, ◌∙◌}
 use mathlib.Core.Bool.{Bool, true, false, ◌&&◌, ◌||◌, not, cond, true≢false, false≢true}
-use mathlib.Core.List.{List, [], ◌∷◌, ◌++◌}
 use mathlib.Core.Logic.{◌↔◌, ◌≢◌}
 use Prim.Native.Nat.{ℕ, zero, suc, ◌+◌, ◌-◌, ◌<◌, ◌≤◌}
 use native.Mathlib.Omega.{arith}
 use lib.Dec.{eqb, leb, ltb}
-use lib.ListN.{get_or, length}
-use borrow.Author.Tests.{eqb-true, eqb-false, eq-eqb, ne_eqb, leb-true, leb-false, le-leb, ltb-true, ltb-false}
+use borrow.Author.Tests.{eqb-true, eqb-false, eq-eqb, ne_eqb, leb-true, le-leb, ltb-true, ltb-false}
 use Rattle.key.specs.Keys.{same_key}
 use Rattle.key.proofs.Same.{same_refl, same_sound}
-use Rattle.rules.specs.Room.{Sizes, Key, Ping, Seat, vacant, holds, Room, none_since, empty_room, ping_in, seat_at}
+use Rattle.rules.specs.Room.{Sizes, Key, Ping, Seat, vacant, holds, Room, none_since, ping_in, seat_at}
 use Rattle.rules.specs.Whole.{Whole}
-use Rattle.rules.specs.Call.{Call, tick}
-use Rattle.rules.specs.Outcome.{refuse, accept, overdue, is_overdue, is_due, tick_from, tick_at, outcome}
-use Rattle.rules.specs.History.{Event, event, happens}
-use Rattle.rules.specs.Transcript.{Past, Maker, nobody, client_of, Start, from_empty, is_accepted, clock_after, clock_of, ping_sent_to, ping_after_tick, ping_after, ping_of, sits_after, sitter, key_if, overdue_from, put_out_if, put_out, is_among, maker, stands_after, stands}
-use Rattle.rules.specs.After.{past_after, client_in, Tied}
+use Rattle.rules.specs.Call.{tick}
+use Rattle.rules.specs.Outcome.{refuse, accept, overdue, is_due, tick_from, tick_at, outcome}
+use Rattle.rules.specs.History.{Event, event}
+use Rattle.rules.specs.Transcript.{Past, Maker, nobody, client_of, Start, is_accepted, clock_after, clock_of, ping_sent_to, ping_after_tick, ping_after, ping_of, sits_after, sitter, key_if, overdue_from, put_out_if, put_out, is_among, maker, stands_after, stands}
+use Rattle.rules.specs.After.{client_in, Tied}
 use Rattle.after_calls.specs.Ticks.{TickAnswered, zero_ping, clock_back, ticks, AsBefore, Overdue, Due, EmptyThen, nobody_sat, it_left, TickLeaves, TickPings}
-use Rattle.rules.proofs.FindLaws.{clash, held_within, held_of}
-use Rattle.rules.proofs.TickLaws.{due_not_overdue}
+use Rattle.rules.proofs.FindLaws.{held_within}
 use Rattle.rules.proofs.TiedTick.{pings_told}
 use Rattle.rules.proofs.Tied.{both_true, seat_holds}
-use Rattle.rules.proofs.EachEvent.{from_empty_lem}
 
 -- ---- ages
 
@@ -60,7 +56,7 @@ module _ (time : ℕ) where
 
   is_due_lem : (s : Seat) → DueSeat s → is_due time s ≡ true
   unfolding is_due client_in ping_in
-  is_due_lem vacant d = let q = d.sits in clash (cc)
+  is_due_lem vacant d = let q = d.sits in absurd (cc)
   is_due_lem (holds held) d =
       let a = d.old in
       rw (eq-eqb held.ping.number 0 d.none_outstanding) (le-leb 30 (time - held.ping.time) (omega arith))

@@ -6,7 +6,6 @@
 use mathlib.Core.Path.{◌≡◌, refl, sym, ap, ◌∙◌, subst}
 use mathlib.Core.Bool.{Bool, true, false, true≢false}
 use mathlib.Core.List.{List, [], ◌∷◌, ◌++◌}
-use mathlib.Core.Logic.{◌≢◌}
 use Prim.Native.Nat.{ℕ, zero, suc, ◌+◌, ◌-◌, ◌<◌, ◌≤◌}
 use native.Mathlib.Omega.{arith}
 use lib.Dec.{eqb}
@@ -26,7 +25,7 @@ use Rattle.rules.specs.Transcript.{Past, nobody, client_of, Start, from_empty, s
 use Rattle.rules.specs.After.{past_after, client_in, Tied}
 use Rattle.after_calls.specs.GoesOn.{Connected, OnlyPeer}
 use Rattle.after_calls.specs.Told.{peer_is, no_peer, Disconnects, InTurn, LeaveTells, Connects, RequestTells}
-use Rattle.rules.proofs.FindLaws.{clash, find_hit, find_miss, find_within, find_set_same, find_once, held_of, seat_set, seat_set_other, held_within, route_to_wants, route_at_place, wanted_high, wanted_place, route_set}
+use Rattle.rules.proofs.FindLaws.{find_hit, find_miss, find_within, find_set_same, find_once, held_of, seat_set, seat_set_other, held_within, route_to_wants, route_at_place, wanted_high, wanted_place, route_set}
 use Rattle.rules.proofs.Whole.{wanted_once, whole_after}
 use Rattle.rules.proofs.Tied.{tied_after, seat_holds, stands_wants, wants_stands}
 use Rattle.after_calls.proofs.PeerConnected.{connected_asks, peer_is_connected}
@@ -44,7 +43,7 @@ same_notice i j n m e =
 
 module _ (start : Start) (past : Past) (seat number : ℕ) where
   none_told : ((other number' : ℕ) → Connected start past seat number other number' → ⊥) → Disconnects start past seat number []
-  none_told never = record { decided = no_peer never; told = λ other number'. (λ q. clash (cc), λ c. absurd (never other number' c)); otherwise = λ q. refl }
+  none_told never = record { decided = no_peer never; told = λ other number'. (λ q. absurd (cc), λ c. absurd (never other number' c)); otherwise = λ q. refl }
 
   peer_told : (p : Peer) → OnlyPeer start past seat number p → Disconnects start past seat number (to_peer relay.disconnect_notice p)
   unfolding to_peer OnlyPeer
@@ -63,11 +62,11 @@ module _ (start : Start) (past : Past) (seat number : ℕ) where
 module _ (sizes : Sizes) (start : Start) (past : Past) (room : Room) (whole : Whole sizes room) (tie : Tied start past room) (seat : ℕ) where
   empty_alone : seat_at room seat ≡ vacant → (number other number' : ℕ) → Connected start past seat number other number' → ⊥
   unfolding client_in
-  empty_alone h number other number' c = let a : sitter start past seat ≡ nobody = tie.sits seat ∙ ap client_in h in let b = c.here.sits in clash (cc)
+  empty_alone h number other number' c = let a : sitter start past seat ≡ nobody = tie.sits seat ∙ ap client_in h in let b = c.here.sits in absurd (cc)
 
   module _ (held : Held) (sits : seat_at room seat ≡ holds held) where
     free_alone : (number : ℕ) → route_at held.routes number ≡ free → (other number' : ℕ) → Connected start past seat number other number' → ⊥
-    free_alone number h other number' c = let a = (connected_asks sizes start past room whole tie seat held sits number other number' c).1 in clash (cc)
+    free_alone number h other number' c = let a = (connected_asks sizes start past room whole tie seat held sits number other number' c).1 in absurd (cc)
 
     -- ---- a drop
 
@@ -154,7 +153,7 @@ same_notices seat number i j n m e =
 
 both_connected : (start : Start) (past : Past) (seat number : ℕ) (p : Peer) → OnlyPeer start past seat number p → Connects start past seat number (tell_both seat number p)
 unfolding tell_both OnlyPeer
-both_connected start past seat number alone only = record { decided = no_peer only; told = λ other number'. (λ q. clash (cc), λ c. absurd (only other number' c)); otherwise = λ q. refl }
+both_connected start past seat number alone only = record { decided = no_peer only; told = λ other number'. (λ q. absurd (cc), λ c. absurd (only other number' c)); otherwise = λ q. refl }
 both_connected start past seat number (joined other place) only = record {
   decided = peer_is other (number_of_place place) only.0;
   told = λ other' n. (

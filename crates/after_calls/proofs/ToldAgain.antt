@@ -21,7 +21,7 @@ use Rattle.rules.specs.Call.{arrive, leave, packet_call, accepted}
 use Rattle.rules.specs.Outcome.{Outcome, seat_emptied, seat_taken, with_route, apply, apply_all, refuse, accept, to, room_after, tell_peers, take_seat, leave_from, tell_both, request_at, drop_at, act, act_on, packet_from, outcome}
 use Rattle.rules.specs.Transcript.{is_accepted}
 use Rattle.after_calls.specs.Told.{BothTold}
-use Rattle.rules.proofs.FindLaws.{clash, Once, find_hit, find_miss, find_within, find_once, find_clear, find_replicate, seat_set, held_within, wanted_high, wanted_place}
+use Rattle.rules.proofs.FindLaws.{Once, find_hit, find_miss, find_within, find_once, find_clear, find_replicate, seat_set, held_within, wanted_high, wanted_place}
 use Rattle.rules.proofs.Whole.{key_found, left_nowhere, wanted_once, seats_keys_differ, whole_after}
 use Rattle.rules.proofs.ComesBack as comes
 use Rattle.rules.proofs.ComesBack.{arrives_new, Lowest, some_empty, comes_back_to, takes_then, comes_back}
@@ -137,7 +137,7 @@ module _ (sizes : Sizes) (room : Room) (whole : Whole sizes room) (seat other : 
     module _ (again count : ℕ) (answered : (outcome left (arrive held.key)).answer ≡ accepted again count) where
       lowest_is : (f : Found) → find is_vacant left.seats ≡ f → find is_vacant left.seats ≡ at again
       unfolding take_seat accept refuse
-      lowest_is none e = let h = rw (arrives_new left held.key not_seated, e) at answered in clash (cc)
+      lowest_is none e = let h = rw (arrives_new left held.key not_seated, e) at answered in absurd (cc)
       lowest_is (at j) e = let h = rw (arrives_new left held.key not_seated, e) at answered in let q : j ≡ again = cc in e ∙ ap at q
 
       lowest : find is_vacant left.seats ≡ at again

@@ -5,32 +5,34 @@ ghost use Rattle.banavoge_laws.specs.Frames.{frame_places, shown_code, end_after
 
 use crate::answer;
 use frame::{Reader, Shown};
+use refusal::Refusal;
 
 // 0 more, 1 a frame in the piece, 2 a frame in the keep, or minus the refusal's number.
-fn shown_code(shown: Shown) -> i32
+#[tactic(auto, unfolding(banavoge_laws::specs::Frames::shown_code))]
+fn shown_code(shown: Result<Shown, Refusal>) -> i32
     ensures { result ≡ shown_code shown }
 {
     match shown {
-        Shown::More => 0,
-        Shown::InPiece(_) => 1,
-        Shown::InKeep(_) => 2,
-        Shown::Refused(why) => answer::refused(why),
+        Ok(Shown::More) => 0,
+        Ok(Shown::InPiece(_)) => 1,
+        Ok(Shown::InKeep(_)) => 2,
+        Err(why) => answer::refused(why),
     }
 }
 
 // Where a frame that is shown ends; where none is, what stood there.
-fn end_after(shown: Shown, before: usize) -> usize
+#[tactic(auto, unfolding(banavoge_laws::specs::Frames::end_after))]
+fn end_after(shown: Result<Shown, Refusal>, before: usize) -> usize
     ensures { result ≡ end_after shown before }
 {
     match shown {
-        Shown::More => before,
-        Shown::InPiece(end) => end,
-        Shown::InKeep(end) => end,
-        Shown::Refused(_) => before,
+        Ok(Shown::InPiece(end) | Shown::InKeep(end)) => end,
+        Ok(Shown::More) | Err(_) => before,
     }
 }
 
 // Reads a piece of a stream: 0, 1, 2, or minus 10 or 18. A refusal sets used to 0, and 18 leaves held at 2,051; nothing else is set then.
+#[tactic(auto, unfolding(banavoge_laws::specs::Frames::frame_places_after))]
 pub fn banavoge_frame_read(
     held: &mut usize,
     keep: &mut [u8],
@@ -42,10 +44,8 @@ pub fn banavoge_frame_read(
 {
     let reader = Reader { held: *held };
     let read = frame_reader::read(reader, keep, piece);
-    let after = read.reader;
-    let shown = read.shown;
-    *held = after.held;
+    *held = read.reader.held;
     *used = read.used;
-    *end = end_after(shown, *end);
-    shown_code(shown)
+    *end = end_after(read.shown, *end);
+    shown_code(read.shown)
 }

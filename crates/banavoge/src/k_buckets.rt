@@ -9,9 +9,8 @@ ghost use Rattle.banavoge_laws.specs.Answers.{ToldAs};
 ghost use Rattle.banavoge_laws.specs.Nodes.{node_given, node_written_code};
 ghost use Rattle.banavoge_laws.specs.Nearest.{key_given, done_code, kept_code};
 
-use crate::answer;
+use crate::{answer, nodes};
 use key::Key;
-use node::Node;
 
 // How many bytes of memory buckets take; longer memory is taken too.
 pub fn banavoge_buckets_bytes() -> usize
@@ -24,8 +23,7 @@ pub fn banavoge_buckets_bytes() -> usize
 pub fn banavoge_buckets_begin(buckets: &mut [u8], base: &[u8; 32]) -> i32
     ensures { ToldAs done_code (Begins (key_given base.now) buckets.old buckets.new) result }
 {
-    let answer = buckets::begin(buckets, Key(*base));
-    answer::done(answer)
+    answer::done(buckets::begin(buckets, Key(*base)))
 }
 
 // Offers a node: 1 kept, 0 not kept, or minus 20 or 15.
@@ -38,20 +36,13 @@ pub fn banavoge_buckets_offer(
 ) -> i32
     ensures { ToldAs kept_code (Offers (node_given family address.now port key.now) buckets.old buckets.new) result }
 {
-    let node = Node {
-        family,
-        address: *address,
-        port,
-        key: Key(*key),
-    };
-    let answer = buckets::offer(buckets, node);
-    answer::kept(answer)
+    answer::kept(buckets::offer(buckets, nodes::given(family, address, port, key)))
 }
 
 // Writes the nodes nearest to a target, nearest first, as a node list: the byte count, or minus 20 or 10.
+#[tactic(auto, unfolding(banavoge_laws::specs::Nodes::node_written_code))]
 pub fn banavoge_buckets_nearest(buckets: &[u8], target: &[u8; 32], out: &mut [u8]) -> i32
     ensures { ToldAs node_written_code (Asks (key_given target.now) buckets.now out.old out.new) result }
 {
-    let answer = buckets::nearest(buckets, Key(*target), out);
-    answer::packed(answer)
+    answer::written(buckets::nearest(buckets, Key(*target), out))
 }

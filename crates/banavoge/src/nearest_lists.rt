@@ -8,12 +8,11 @@ ghost use Rattle.lent_list_laws.specs.Calls.{Begins, Offers, Removes};
 ghost use Rattle.lent_list.specs.Held.{held_at};
 ghost use Rattle.banavoge_laws.specs.Answers.{ToldAs};
 ghost use Rattle.banavoge_laws.specs.Nodes.{node_given};
-ghost use Rattle.banavoge_laws.specs.Nearest.{key_given, done_code, kept_code, held_places, held_places_of, ShowsHeld};
+ghost use Rattle.banavoge_laws.specs.Nearest.{key_given, done_code, kept_code, held_places, ShowsHeld};
 
-use crate::answer;
+use crate::{answer, nodes};
 use key::Key;
-use lent_list::{Held, memory};
-use node::Node;
+use lent_list::memory;
 
 // How many bytes of memory a list takes; longer memory is taken too.
 pub fn banavoge_nearest_bytes() -> usize
@@ -26,8 +25,7 @@ pub fn banavoge_nearest_bytes() -> usize
 pub fn banavoge_nearest_begin(list: &mut [u8], target: &[u8; 32], size: usize) -> i32
     ensures { ToldAs done_code (Begins (key_given target.now) size list.old list.new) result }
 {
-    let answer = lent_list::begin(list, Key(*target), size);
-    answer::done(answer)
+    answer::done(lent_list::begin(list, Key(*target), size))
 }
 
 // Offers a node: 1 kept, 0 not kept, or minus 12, 14 or 15.
@@ -40,44 +38,18 @@ pub fn banavoge_nearest_offer(
 ) -> i32
     ensures { ToldAs kept_code (Offers (node_given family address.now port key.now) list.old list.new) result }
 {
-    let node = Node {
-        family,
-        address: *address,
-        port,
-        key: Key(*key),
-    };
-    let answer = lent_list::offer(list, node);
-    answer::kept(answer)
+    answer::kept(lent_list::offer(list, nodes::given(family, address, port, key)))
 }
 
 // Takes out the node of a key: 0, or minus 12, 14 or 13.
 pub fn banavoge_nearest_remove(list: &mut [u8], key: &[u8; 32]) -> i32
     ensures { ToldAs done_code (Removes (key_given key.now) list.old list.new) result }
 {
-    let answer = lent_list::remove(list, Key(*key));
-    answer::done(answer)
-}
-
-// Hands a held node to the caller's places.
-fn tell_held(
-    node: Node,
-    family: &mut u8,
-    address: &mut [u8; 16],
-    port: &mut u16,
-    key: &mut [u8; 32],
-)
-    ensures { held_places family.new address.new port.new key.new ≡ held_places_of node }
-{
-    let bytes = node.address;
-    let owner = node.key;
-    let owner_bytes = owner.0;
-    *family = node.family;
-    *address = bytes;
-    *port = node.port;
-    *key = owner_bytes;
+    answer::done(lent_list::remove(list, Key(*key)))
 }
 
 // Shows the node held at an index, nearest first: 1 and the node, 0 where the index is not below the count, or minus 12 or 14.
+#[tactic(auto, unfolding(banavoge_laws::specs::Nearest::held_code, banavoge_laws::specs::Nearest::held_after))]
 pub fn banavoge_nearest_node(
     list: &[u8],
     index: usize,
@@ -88,15 +60,12 @@ pub fn banavoge_nearest_node(
 ) -> i32
     ensures { ShowsHeld (held_at list.now index) result (held_places family.old address.old port.old key.old) (held_places family.new address.new port.new key.new) }
 {
-    let shown = lent_list::held_at(list, index);
-    let held = shown.held;
-    let node = shown.node;
-    match held {
-        Held::Node => {
-            tell_held(node, family, address, port, key);
+    match lent_list::held_at(list, index) {
+        Ok(Some(node)) => {
+            nodes::tell(node, family, address, port, key);
             1
         }
-        Held::Nothing => 0,
-        Held::Refused(why) => answer::refused(why),
+        Ok(None) => 0,
+        Err(why) => answer::refused(why),
     }
 }

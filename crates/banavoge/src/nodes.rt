@@ -4,34 +4,41 @@ ghost use Rattle.node.specs.Nodes.{read_node};
 ghost use Rattle.node.specs.Steps.{step_of};
 ghost use Rattle.node.specs.Written.{WritesNode};
 ghost use Rattle.banavoge_laws.specs.Answers.{OfBytes, ToldAs};
-ghost use Rattle.banavoge_laws.specs.Nodes.{node_places, node_places_of, node_given, ReadsNode, StepsNode, node_written_code};
+ghost use Rattle.banavoge_laws.specs.Nodes.{node_places, node_given, ReadsNode, StepsNode, node_written_code};
+ghost use Rattle.banavoge_laws.specs.Nearest.{held_places, held_places_of};
 
 use crate::answer;
 use key::Key;
-use node::reader::Found;
-use node::walk::Shown;
 use node::{Node, reader, walker, writer};
 
-// Hands a node to the caller's places.
-fn tell_node(
+// The node that a host's four parameters make.
+pub(crate) fn given(family: u8, address: &[u8; 16], port: u16, key: &[u8; 32]) -> Node
+    ensures { result ≡ node_given family address.now port key.now }
+{
+    Node {
+        family,
+        address: *address,
+        port,
+        key: Key(*key),
+    }
+}
+
+// Hands a node to the host's four places. The two arrays go through variables: the prover does not cover an array that is stored straight from a field.
+pub(crate) fn tell(
     node: Node,
-    after: usize,
     family: &mut u8,
     address: &mut [u8; 16],
     port: &mut u16,
     key: &mut [u8; 32],
-    next: &mut usize,
 )
-    ensures { node_places family.new address.new port.new key.new next.new ≡ node_places_of node after }
+    ensures { held_places family.new address.new port.new key.new ≡ held_places_of node }
 {
     let bytes = node.address;
-    let owner = node.key;
-    let owner_bytes = owner.0;
+    let Key(owner) = node.key;
     *family = node.family;
     *address = bytes;
     *port = node.port;
-    *key = owner_bytes;
-    *next = after;
+    *key = owner;
 }
 
 // Reads the node at a place: 0, or minus 15 or 16.
@@ -46,15 +53,13 @@ pub fn banavoge_node_read(
 ) -> i32
     ensures { OfBytes bytes.now (ReadsNode at (read_node (drop at bytes.now)) result (node_places family.old address.old port.old key.old next.old) (node_places family.new address.new port.new key.new next.new)) }
 {
-    let read = reader::read(bytes, at);
-    let found = read.found;
-    let node = read.node;
-    match found {
-        Found::Node { next: after } => {
-            tell_node(node, after, family, address, port, key, next);
+    match reader::read(bytes, at) {
+        Ok((node, after)) => {
+            tell(node, family, address, port, key);
+            *next = after;
             0
         }
-        Found::Refused(why) => answer::refused(why),
+        Err(why) => answer::refused(why),
     }
 }
 
@@ -71,21 +76,19 @@ pub fn banavoge_nodes_step(
 ) -> i32
     ensures { OfBytes list.now (StepsNode place (step_of list.now place count) result (node_places family.old address.old port.old key.old next.old) (node_places family.new address.new port.new key.new next.new)) }
 {
-    let stepped = walker::step_from(list, place, count);
-    let shown = stepped.shown;
-    let node = stepped.node;
-    let after = stepped.place;
-    match shown {
-        Shown::Node => {
-            tell_node(node, after, family, address, port, key, next);
+    match walker::step_from(list, place, count) {
+        Ok(Some(shown)) => {
+            tell(shown.node, family, address, port, key);
+            *next = shown.place;
             1
         }
-        Shown::End => 0,
-        Shown::Refused(why) => answer::refused(why),
+        Ok(None) => 0,
+        Err(why) => answer::refused(why),
     }
 }
 
 // Writes a packed node: the byte count, or minus 15 or 10.
+#[tactic(auto, unfolding(banavoge_laws::specs::Nodes::node_written_code))]
 pub fn banavoge_node_write(
     family: u8,
     address: &[u8; 16],
@@ -95,12 +98,5 @@ pub fn banavoge_node_write(
 ) -> i32
     ensures { ToldAs node_written_code (WritesNode (node_given family address.now port key.now) out.old out.new) result }
 {
-    let node = Node {
-        family,
-        address: *address,
-        port,
-        key: Key(*key),
-    };
-    let answer = writer::write(node, out);
-    answer::packed(answer)
+    answer::written(writer::write(given(family, address, port, key), out))
 }

@@ -21,14 +21,13 @@ pub fn banavoge_room_bytes() -> usize
 pub fn banavoge_room_empty(room: &mut [u8]) -> i32
     ensures { ToldAs (done_or OutputTooShort) (MakesEmpty 40 32 room.old room.new) result }
 {
-    let made = Room::empty(room);
-    answer::done_or(Refusal::OutputTooShort, made)
+    answer::done_or(Refusal::OutputTooShort, Room::empty(room))
 }
 
 // Tests the memory in full: 0 where it holds a whole room, or minus 11.
+#[tactic(auto, unfolding(banavoge_laws::specs::Rooms::room_code))]
 pub fn banavoge_room_check(room: &[u8]) -> i32
     ensures { result ≡ room_code room.now }
 {
-    let is_whole = whole::is_whole(room, Room::SEATS, Room::NUMBERS);
-    answer::done_or(Refusal::RoomNotWhole, is_whole)
+    answer::done_or(Refusal::RoomNotWhole, whole::is_whole(room, Room::SIZES))
 }

@@ -6,21 +6,18 @@ ghost use Rattle.banavoge_laws.specs.Runs.{stop_number, counts, telling, run_tol
 
 use crate::answer;
 use relay::play;
-use relay::play::{Run, Stop};
+use relay::play::Stop;
 
 // Why a run stopped, as a number.
+#[tactic(auto, unfolding(banavoge_laws::specs::Runs::stop_number))]
 fn stop_code(why: Stop) -> i32
     ensures { result ≡ pos (stop_number why) }
 {
-    match why {
-        Stop::End => 0,
-        Stop::NoCall => 1,
-        Stop::Allowance => 2,
-        Stop::Output => 3,
-    }
+    why as i32
 }
 
 // Plays stored calls, at most `allowance` of them: 0 at their end, 1 where none stands, 2 at the allowance, 3 with too little output left; or minus 11.
+#[tactic(auto, unfolding(banavoge_laws::specs::Runs::run_told, banavoge_laws::specs::Runs::run_code, banavoge_laws::specs::Runs::run_counts))]
 pub fn banavoge_play(
     room: &mut [u8],
     calls: &[u8],
@@ -33,17 +30,12 @@ pub fn banavoge_play(
     ensures { ToldAs (run_told (counts played.old read.old written.old)) (Plays 40 32 allowance calls.now room.old out.old room.new out.new) (telling result played.new read.new written.new) }
 {
     match play::play(room, calls, allowance, out) {
-        Run::Stopped {
-            why,
-            played: calls_played,
-            read: bytes_read,
-            written: bytes_written,
-        } => {
-            *played = calls_played;
-            *read = bytes_read;
-            *written = bytes_written;
-            stop_code(why)
+        Ok(run) => {
+            *played = run.played;
+            *read = run.read;
+            *written = run.written;
+            stop_code(run.why)
         }
-        Run::Refused(why) => answer::refused(why),
+        Err(why) => answer::refused(why),
     }
 }

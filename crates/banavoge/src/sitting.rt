@@ -8,7 +8,6 @@ ghost use Rattle.banavoge_laws.specs.Sitting.{TellsSitter, seat_of_key};
 use crate::answer;
 use key::Key;
 use refusal::Refusal;
-use room::lookup::FoundSeat;
 use room::{Room, lookup, whole};
 use seat::Seat;
 
@@ -16,14 +15,13 @@ use seat::Seat;
 pub fn banavoge_key_in(room: &[u8], seat: u8, key: &mut [u8; 32]) -> i32
     ensures { TellsSitter 40 32 seat room.now key.old key.new result }
 {
-    if !whole::is_whole(room, Room::SEATS, Room::NUMBERS) {
+    if !whole::is_whole(room, Room::SIZES) {
         return answer::refused(Refusal::RoomNotWhole);
     }
-    if !lookup::is_taken(room, Room::SEATS, Room::NUMBERS, Seat(seat)) {
+    if !lookup::is_taken(room, Room::SIZES, Seat(seat)) {
         return answer::refused(Refusal::NotSeated);
     }
-    let found = lookup::key_in(room, Room::SEATS, Room::NUMBERS, Seat(seat));
-    let bytes = found.0;
+    let Key(bytes) = lookup::key_in(room, Room::SIZES, Seat(seat));
     *key = bytes;
     0
 }
@@ -32,11 +30,11 @@ pub fn banavoge_key_in(room: &[u8], seat: u8, key: &mut [u8; 32]) -> i32
 pub fn banavoge_seat_of(room: &[u8], key: &[u8; 32]) -> i32
     ensures { result ≡ seat_of_key 40 32 room.now key.now }
 {
-    if !whole::is_whole(room, Room::SEATS, Room::NUMBERS) {
+    if !whole::is_whole(room, Room::SIZES) {
         return answer::refused(Refusal::RoomNotWhole);
     }
-    match lookup::seat_of(room, Room::SEATS, Room::NUMBERS, Key(*key)) {
-        FoundSeat::At(seat) => seat.0 as i32,
-        FoundSeat::None => answer::refused(Refusal::NotSeated),
+    match lookup::seat_of(room, Room::SIZES, Key(*key)) {
+        Some(seat) => i32::from(seat.0),
+        None => answer::refused(Refusal::NotSeated),
     }
 }

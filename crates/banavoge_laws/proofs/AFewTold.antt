@@ -3,13 +3,15 @@ use mathlib.Core.Path.{◌≡◌, refl}
 use mathlib.Core.Bool.{true, false}
 use mathlib.Core.List.{[], ◌∷◌}
 use lib.IntN.{pos, negsuc}
+use Rattle.std.proofs.Common.{Result, Ok, Err}
+use Rattle.refusal.specs.declared.Refusal.{Refusal}
 use Rattle.refusal.specs.declared.Refusal.TheVariants.{RoomFull, NotSeated, OutputTooShort, RoomNotWhole, BadFrame}
 use Rattle.rules.specs.Room.{vacant, none, at}
 use Rattle.rules.specs.Call.{accepted, refused}
 use Rattle.room_laws.specs.Layout.{fits_room, sizes_right}
 use Rattle.room_laws.specs.Whole.{room_whole}
 use Rattle.frame.specs.declared.Shown.{Shown}
-use Rattle.frame.specs.declared.Shown.TheVariants.{More, InPiece, InKeep, Refused}
+use Rattle.frame.specs.declared.Shown.TheVariants.{More, InPiece, InKeep}
 use Rattle.frame.specs.declared.Read.{Read}
 use Rattle.relay.specs.declared.play.Stop.TheVariants.{End, NoCall, Allowance, Output}
 use Rattle.banavoge_laws.specs.Answers.{refusal_code}
@@ -41,30 +43,30 @@ too_short = refl
 
 -- ---- frames: 5 bytes were held, 3 used, and the last frame ended at 7
 
-abbrev read : Shown → Read
+abbrev read : Result Shown Refusal → Read
 read shown = record { shown = shown; reader = record { held = 9 }; used = 4 }
 
-pub no_frame_told : shown_code More ≡ pos 0
+pub no_frame_told : shown_code (Ok More) ≡ pos 0
 unfolding shown_code
 no_frame_told = refl
 
-pub in_piece_told : shown_code (InPiece 8) ≡ pos 1
+pub in_piece_told : shown_code (Ok (InPiece 8)) ≡ pos 1
 unfolding shown_code
 in_piece_told = refl
 
-pub in_keep_told : shown_code (InKeep 8) ≡ pos 2
+pub in_keep_told : shown_code (Ok (InKeep 8)) ≡ pos 2
 unfolding shown_code
 in_keep_told = refl
 
-pub bad_frame_told : shown_code (Refused BadFrame) ≡ negsuc 17
+pub bad_frame_told : shown_code (Err BadFrame) ≡ negsuc 17
 unfolding shown_code refusal_code
 bad_frame_told = refl
 
-pub places_without_frame : frame_places_after (read More) (frame_places 5 3 7) ≡ frame_places 9 4 7
+pub places_without_frame : frame_places_after (read (Ok More)) (frame_places 5 3 7) ≡ frame_places 9 4 7
 unfolding frame_places_after end_after
 places_without_frame = refl
 
-pub places_of_a_frame : frame_places_after (read (InKeep 8)) (frame_places 5 3 7) ≡ frame_places 9 4 8
+pub places_of_a_frame : frame_places_after (read (Ok (InKeep 8))) (frame_places 5 3 7) ≡ frame_places 9 4 8
 unfolding frame_places_after end_after
 places_of_a_frame = refl
 

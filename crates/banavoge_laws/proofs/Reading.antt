@@ -1,13 +1,11 @@
 -- What a reader of `packet` promises, carried over to the exported one. Assumes nothing.
-use mathlib.Core.Path.{◌≡◌, ◌∙◌, refl, sym, ap}
+use mathlib.Core.Path.{◌≡◌, ◌∙◌, refl, sym, ap, subst}
 use mathlib.Core.List.{List}
 use Prim.Native.Nat.{ℕ}
-use native.Mathlib.Omega.{arith}
 use lib.IntN.{ℤ, pos}
 use Rattle.refusal.specs.declared.Refusal.{Refusal}
-use Rattle.packet.specs.declared.relay.RelayRead as relay-read
+use Rattle.std.proofs.Common.{Result, Ok, Err, MatchResult, IsOkAnd}
 use Rattle.packet.specs.declared.relay.ClientPacket as relay-packet
-use Rattle.packet.specs.declared.client.ClientRead as client-read
 use Rattle.packet.specs.declared.client.RelayPacket as client-packet
 use Rattle.packet_laws.specs.Read.{Read, packet, refused}
 use Rattle.packet_laws.specs.FromClient as client
@@ -59,32 +57,58 @@ module _ {A : Type 0} (fields_of : A → Fields) (read : Read A) (z : ℤ) where
     unfolding key_after
     refuses_key why before w e = record { answers = code_turned why w e; leaves = sym (ap (λ (r : Read A). key_after key_in r before) w) }
 
+-- what a reader answers, with the fields of what it shows; and what is told of these fields
+module _ {A S : Type 0} (fields_of : A → Fields) (read : Read A) (answer : Result S Refusal) (fields_shown : S → Fields)
+    (shows : (s : S) (f : Fields) → answer ≡ Ok s → f ≡ fields_shown s → Found fields_of read f) (turns : (why : Refusal) → answer ≡ Err why → read ≡ refused why) where
+  told : (given : Result Fields Refusal) (z : ℤ) (before after : Places) → MatchResult answer (λ s. IsOkAnd given (λ f. f ≡ fields_shown s)) (λ why. given ≡ Err why)
+      → MatchResult given (λ f. (z ≡ pos f.kind) × (after ≡ places_of f)) (λ why. (z ≡ refusal_code why) × (after ≡ before)) → ReadsFields fields_of read z before after
+  told given z before after m t = go answer refl m given refl t
+    where
+      go : (x : Result S Refusal) → answer ≡ x → MatchResult x (λ s. IsOkAnd given (λ f. f ≡ fields_shown s)) (λ why. given ≡ Err why) → (y : Result Fields Refusal) → given ≡ y
+          → MatchResult y (λ f. (z ≡ pos f.kind) × (after ≡ places_of f)) (λ why. (z ≡ refusal_code why) × (after ≡ before)) → ReadsFields fields_of read z before after
+      go (Ok s) e m (Ok f) g t = let is : f ≡ fields_shown s = rw g at m in tells fields_of read z f before after (shows s f e is) t.0 t.1
+      go (Ok s) e m (Err why) g t = absurd (rw g at m)
+      go (Err why) e m (Ok f) g t = absurd (cc)
+      go (Err why) e m (Err other) g t =
+          let q : other ≡ why = cc in
+          subst (λ (x : Places). ReadsFields fields_of read z before x) (sym t.1) (refuses fields_of read z why before (turns why e) (t.0 ∙ ap refusal_code q))
+
 -- ---- the relay's reader
 
-pub relay_found : (read : Read client.FromClient) (answer : relay-read.RelayRead) (shown : relay-packet.ClientPacket) (f : Fields) → answer ≡ shown_relay_read read → answer ≡ relay-read.TheVariants.Packet shown
-    → f ≡ client_shown shown → Found client_fields read f
+pub relay_found : (read : Read client.FromClient) (shown : relay-packet.ClientPacket) (f : Fields) → Ok shown ≡ shown_relay_read read → f ≡ client_shown shown → Found client_fields read f
 unfolding shown_relay_read
-relay_found (packet p) answer shown f r s e =
+relay_found (packet p) shown f r e =
     let q : shown ≡ shown_client p = cc in
     record { found = p; is = refl; fields = e ∙ ap client_shown q ∙ client_fields_shown p }
-relay_found (refused why) answer shown f r s e = let n : ◌≡◌ {A = ℕ} 0 1 = cc in absurd (omega arith)
+relay_found (refused why) shown f r e = absurd (cc)
 
-pub relay_turned : (read : Read client.FromClient) (answer : relay-read.RelayRead) (why : Refusal) → answer ≡ shown_relay_read read → answer ≡ relay-read.TheVariants.Refused why → read ≡ refused why
+pub relay_turned : (read : Read client.FromClient) (why : Refusal) → Err why ≡ shown_relay_read read → read ≡ refused why
 unfolding shown_relay_read
-relay_turned (packet p) answer why r s = let n : ◌≡◌ {A = ℕ} 0 1 = cc in absurd (omega arith)
-relay_turned (refused x) answer why r s = let q : x ≡ why = cc in ap refused q
+relay_turned (packet p) why r = absurd (cc)
+relay_turned (refused x) why r = let q : x ≡ why = cc in ap refused q
+
+pub relay_told : (read : Read client.FromClient) (answer : Result relay-packet.ClientPacket Refusal) (given : Result Fields Refusal) (z : ℤ) (before after : Places)
+    → answer ≡ shown_relay_read read → MatchResult answer (λ s. IsOkAnd given (λ f. f ≡ client_shown s)) (λ why. given ≡ Err why)
+    → MatchResult given (λ f. (z ≡ pos f.kind) × (after ≡ places_of f)) (λ why. (z ≡ refusal_code why) × (after ≡ before)) → ReadsFields client_fields read z before after
+relay_told read answer given z before after e =
+    told client_fields read answer client_shown (λ s f q. relay_found read s f (sym q ∙ e)) (λ why q. relay_turned read why (sym q ∙ e)) given z before after
 
 -- ---- the client's reader
 
-pub client_found : (read : Read relay.FromRelay) (answer : client-read.ClientRead) (shown : client-packet.RelayPacket) (f : Fields) → answer ≡ shown_client_read read → answer ≡ client-read.TheVariants.Packet shown
-    → f ≡ relay_shown shown → Found relay_fields read f
+pub client_found : (read : Read relay.FromRelay) (shown : client-packet.RelayPacket) (f : Fields) → Ok shown ≡ shown_client_read read → f ≡ relay_shown shown → Found relay_fields read f
 unfolding shown_client_read
-client_found (packet p) answer shown f r s e =
+client_found (packet p) shown f r e =
     let q : shown ≡ shown_relay p = cc in
     record { found = p; is = refl; fields = e ∙ ap relay_shown q ∙ relay_fields_shown p }
-client_found (refused why) answer shown f r s e = let n : ◌≡◌ {A = ℕ} 0 1 = cc in absurd (omega arith)
+client_found (refused why) shown f r e = absurd (cc)
 
-pub client_turned : (read : Read relay.FromRelay) (answer : client-read.ClientRead) (why : Refusal) → answer ≡ shown_client_read read → answer ≡ client-read.TheVariants.Refused why → read ≡ refused why
+pub client_turned : (read : Read relay.FromRelay) (why : Refusal) → Err why ≡ shown_client_read read → read ≡ refused why
 unfolding shown_client_read
-client_turned (packet p) answer why r s = let n : ◌≡◌ {A = ℕ} 0 1 = cc in absurd (omega arith)
-client_turned (refused x) answer why r s = let q : x ≡ why = cc in ap refused q
+client_turned (packet p) why r = absurd (cc)
+client_turned (refused x) why r = let q : x ≡ why = cc in ap refused q
+
+pub client_told : (read : Read relay.FromRelay) (answer : Result client-packet.RelayPacket Refusal) (given : Result Fields Refusal) (z : ℤ) (before after : Places)
+    → answer ≡ shown_client_read read → MatchResult answer (λ s. IsOkAnd given (λ f. f ≡ relay_shown s)) (λ why. given ≡ Err why)
+    → MatchResult given (λ f. (z ≡ pos f.kind) × (after ≡ places_of f)) (λ why. (z ≡ refusal_code why) × (after ≡ before)) → ReadsFields relay_fields read z before after
+client_told read answer given z before after e =
+    told relay_fields read answer relay_shown (λ s f q. client_found read s f (sym q ∙ e)) (λ why q. client_turned read why (sym q ∙ e)) given z before after

@@ -5,17 +5,18 @@ use mathlib.Core.List.{List}
 use Prim.Native.Nat.{ℕ, ◌≤◌}
 use native.Mathlib.Omega.{arith}
 use lib.ListN.{length}
+use Rattle.std.proofs.Common.{Result, Ok}
+use Rattle.refusal.specs.declared.Refusal.{Refusal}
 use Rattle.refusal.specs.declared.Refusal.TheVariants.{RoomNotWhole}
 use Rattle.rules.specs.Call.{Call, most_needed, Answer}
 use Rattle.rules.specs.Outcome.{Outcome, refuse, accept, sent_bytes, outcome}
 use Rattle.rules.specs.Accepted.{RefusedOrAccepted, refusal, acceptance}
 use Rattle.rules.proofs.RefusedOrAccepted.{outcome_made}
 use Rattle.rules.proofs.WithinOutput.{needs_within}
-use Rattle.seat.specs.declared.Seat as seats
 use Rattle.room_laws.specs.View.{view_room}
 use Rattle.room_laws.specs.Whole.{room_whole}
 use Rattle.room_laws.proofs.OutcomeLaws.{outcome_within}
-use Rattle.records.specs.declared.Answer as code
+use Rattle.records.specs.declared.Accepted as code
 use Rattle.relay_laws.specs.Calls.{answer_of, Leaves, tested, with_output}
 use Rattle.relay_laws.proofs.CallsLaws.{by_length}
 use Rattle.banavoge_laws.specs.RelayCalls.{CallCounted}
@@ -43,6 +44,6 @@ module _ (b : List ℕ) (call : Call) where
   call_counted out given b' out' w = rw w.answers (with_counted out)
 
 -- the same of an answer of the code
-pub given_small : (g : code.Answer) (seat : seats.Seat) (bytes : ℕ) → CallCounted (answer_of g) → g ≡ code.TheVariants.Accepted seat bytes → bytes ≤ most_needed
+pub given_small : (g : Result code.Accepted Refusal) (accepted : code.Accepted) → CallCounted (answer_of g) → g ≡ Ok accepted → accepted.bytes ≤ most_needed
 unfolding CallCounted answer_of
-given_small g seat bytes c e = subst (λ (x : code.Answer). CallCounted (answer_of x)) e c
+given_small g accepted c e = subst (λ (x : Result code.Accepted Refusal). CallCounted (answer_of x)) e c

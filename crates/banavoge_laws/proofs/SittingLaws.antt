@@ -6,16 +6,15 @@ use mathlib.Core.List.{List}
 use mathlib.Core.Logic.{◌≢◌}
 use Prim.Native.Nat.{ℕ}
 use lib.IntN.{ℤ, pos}
+use Rattle.std.proofs.Common.{Option, Some, None}
 use Rattle.refusal.specs.declared.Refusal.{Refusal}
 use Rattle.refusal.specs.declared.Refusal.TheVariants.{RoomNotWhole, NotSeated}
 use Rattle.key.proofs.Same.{same_refl}
 use Rattle.rules.specs.Room.{Key, Seat, vacant, holds, is_vacant, seat_at, Found, none, at, find, seat_of, sizes_of, set_key}
 use Rattle.rules.specs.Transcript.{Past, Maker, nobody, client_of, Start, sitter}
 use Rattle.rules.specs.After.{client_in, Tied}
-use Rattle.rules.proofs.FindLaws.{clash, find_hit, find_miss, seat_of_holds, held_of}
+use Rattle.rules.proofs.FindLaws.{find_hit, find_miss, seat_of_holds, held_of}
 use Rattle.rules.proofs.Tied.{seat_holds}
-use Rattle.room.specs.declared.lookup.FoundSeat.{FoundSeat}
-use Rattle.room.specs.declared.lookup.FoundSeat.TheVariants as found
 use Rattle.room.specs.Numbers.{seat_found}
 use Rattle.seat.specs.declared.Seat as seats
 use Rattle.room_laws.specs.View.{view_room}
@@ -71,22 +70,22 @@ module _ (s n : ℕ) (b : List ℕ) (key : Key) where
   unfolding seat_of_key
   whole_code h = rw h (sym (ap place_code (seat_holding_finds s n b h key)))
 
-  module _ (whole : room_whole s n b ≡ true) (given : FoundSeat) (f : given ≡ seat_found (seat_holding s n b key)) where
-    pub seat_code : (seat : seats.Seat) → given ≡ found.At seat → seat_of_key s n b key ≡ pos seat.0
+  module _ (whole : room_whole s n b ≡ true) (given : Option seats.Seat) (f : given ≡ seat_found (seat_holding s n b key)) where
+    pub seat_code : (seat : seats.Seat) → given ≡ Some seat → seat_of_key s n b key ≡ pos seat.0
     unfolding seat_found place_code
     seat_code seat e = whole_code whole ∙ go (seat_holding s n b key) (sym e ∙ f)
       where
-        go : (x : Found) → found.At seat ≡ seat_found x → place_code x ≡ pos seat.0
-        go none q = clash (cc)
+        go : (x : Found) → Some seat ≡ seat_found x → place_code x ≡ pos seat.0
+        go none q = absurd (cc)
         go (at i) q = let z : seat.0 ≡ i = cc in ap pos (sym z)
 
-    pub none_code : given ≡ found.None → seat_of_key s n b key ≡ refusal_code NotSeated
+    pub none_code : given ≡ None → seat_of_key s n b key ≡ refusal_code NotSeated
     unfolding seat_found place_code
     none_code e = whole_code whole ∙ go (seat_holding s n b key) (sym e ∙ f)
       where
-        go : (x : Found) → found.None ≡ seat_found x → place_code x ≡ refusal_code NotSeated
+        go : (x : Found) → None ≡ seat_found x → place_code x ≡ refusal_code NotSeated
         go none q = refl
-        go (at i) q = clash (cc)
+        go (at i) q = absurd (cc)
 
 -- ---- by what has happened: who sits in a seat
 
@@ -109,7 +108,7 @@ module _ (s n : ℕ) (b : List ℕ) (whole : room_whole s n b ≡ true) (start :
   told_client key e = go (sitter start past seat) (sym told_of_sitter ∙ e)
     where
       go : (m : Maker) → told_of m ≡ sits key → m ≡ client_of key
-      go nobody q = clash (cc)
+      go nobody q = absurd (cc)
       go (client_of k) q = let z : k ≡ key = cc in ap client_of z
 
   -- and 3 exactly where nobody does
@@ -123,7 +122,7 @@ module _ (s n : ℕ) (b : List ℕ) (whole : room_whole s n b ≡ true) (start :
     where
       go : (m : Maker) → told_of m ≡ turned NotSeated → m ≡ nobody
       go nobody q = refl
-      go (client_of k) q = clash (cc)
+      go (client_of k) q = absurd (cc)
 
 -- ---- and where a key sits
 
@@ -166,7 +165,7 @@ module _ (s n : ℕ) (b : List ℕ) (whole : room_whole s n b ≡ true) (start :
   found_key seat e = go (find (seat_of key) held) refl (sym search_code ∙ e)
     where
       go : (f : Found) → find (seat_of key) held ≡ f → place_code f ≡ pos seat → sitter start past seat ≡ client_of key
-      go none q c = clash (cc)
+      go none q c = absurd (cc)
       go (at i) q c = let z : i ≡ seat = cc in found_sits seat (q ∙ ap at z)
 
   -- and 3 exactly where it sits nowhere
@@ -180,4 +179,4 @@ module _ (s n : ℕ) (b : List ℕ) (whole : room_whole s n b ≡ true) (start :
 
   pub found_nowhere : seat_of_key s n b key ≡ refusal_code NotSeated → (seat : ℕ) → sitter start past seat ≢ client_of key
   unfolding refusal_code
-  found_nowhere e seat q = let c = sym (key_found seat q) ∙ e in clash (cc)
+  found_nowhere e seat q = let c = sym (key_found seat q) ∙ e in absurd (cc)

@@ -1,15 +1,9 @@
 -- What the exported functions on a nearest list answer. The relations are those of `lent_list_laws` (`Begins`, `Offers`, `Removes`), told as the numbers here; a
 -- refusal sets no reference.
-use Rattle.std.specs.Prelude.{List, ◌≡◌, ℕ, ℤ, pos}
+use Rattle.std.specs.Prelude.{Bool, true, false, List, ◌≡◌, ℕ, ℤ, pos, Option, Some, None, Result, Ok, Err}
+use Rattle.refusal.specs.declared.Refusal.{Refusal}
 use Rattle.key.specs.declared.Key.{Key}
 use Rattle.node.specs.declared.Node.{Node}
-use Rattle.nearest.specs.declared.Answer.{Answer}
-use Rattle.nearest.specs.declared.Answer.TheVariants as answer
-use Rattle.nearest.specs.declared.OfferAnswer.{OfferAnswer}
-use Rattle.nearest.specs.declared.OfferAnswer.TheVariants as offer
-use Rattle.lent_list.specs.declared.Held.{Held}
-use Rattle.lent_list.specs.declared.Held.TheVariants as found
-use Rattle.lent_list.specs.declared.HeldNode.{HeldNode}
 use Rattle.banavoge_laws.specs.Answers.{refusal_code}
 
 -- the key that a parameter of a call makes
@@ -17,15 +11,15 @@ abbrev pub key_given : List ℕ → Key
 key_given bytes = record { 0 = bytes }
 
 -- 0, or minus the refusal
-unfoldable pub done_code : Answer → ℤ
-done_code answer.Done = pos 0
-done_code (answer.Refused why) = refusal_code why
+unfoldable pub done_code : Result (Unit {0}) Refusal → ℤ
+done_code (Ok done) = pos 0
+done_code (Err why) = refusal_code why
 
 -- 1 kept, 0 not kept, or minus the refusal
-unfoldable pub kept_code : OfferAnswer → ℤ
-kept_code offer.Kept = pos 1
-kept_code offer.NotKept = pos 0
-kept_code (offer.Refused why) = refusal_code why
+unfoldable pub kept_code : Result Bool Refusal → ℤ
+kept_code (Ok true) = pos 1
+kept_code (Ok false) = pos 0
+kept_code (Err why) = refusal_code why
 
 -- ---- the node at an index: 1 shown, 0 none there, or minus the refusal
 
@@ -42,17 +36,17 @@ held_places family address port key = record { family = family; address = addres
 abbrev pub held_places_of : Node → HeldPlaces
 held_places_of n = held_places n.family n.address n.port n.key.0
 
-unfoldable pub held_code : Held → ℤ
-held_code found.Node = pos 1
-held_code found.Nothing = pos 0
-held_code (found.Refused why) = refusal_code why
+unfoldable pub held_code : Result (Option Node) Refusal → ℤ
+held_code (Ok (Some n)) = pos 1
+held_code (Ok None) = pos 0
+held_code (Err why) = refusal_code why
 
 -- only a node that is shown is set
-unfoldable pub held_after : Held → Node → HeldPlaces → HeldPlaces
-held_after found.Node n before = held_places_of n
-held_after found.Nothing n before = before
-held_after (found.Refused why) n before = before
+unfoldable pub held_after : Result (Option Node) Refusal → HeldPlaces → HeldPlaces
+held_after (Ok (Some n)) before = held_places_of n
+held_after (Ok None) before = before
+held_after (Err why) before = before
 
-pub record ShowsHeld (shown : HeldNode) (answer : ℤ) (before after : HeldPlaces) : Type 0 where
-  pub answers : answer ≡ held_code shown.held
-  pub leaves : after ≡ held_after shown.held shown.node before
+pub record ShowsHeld (shown : Result (Option Node) Refusal) (answer : ℤ) (before after : HeldPlaces) : Type 0 where
+  pub answers : answer ≡ held_code shown
+  pub leaves : after ≡ held_after shown before

@@ -1,12 +1,11 @@
 -- What the exported functions on nodes tell through references. On a refusal, and at the end of a list, nothing is set.
-use Rattle.std.specs.Prelude.{List, ◌≡◌, ℕ, ◌+◌, ◌≤◌, ℤ, pos, length}
+use Rattle.std.specs.Prelude.{List, ◌≡◌, ℕ, ◌+◌, ◌≤◌, ℤ, pos, length, Result, Ok, Err}
+use Rattle.refusal.specs.declared.Refusal.{Refusal}
 use Rattle.node.specs.declared.Node.{Node}
-use Rattle.node.specs.declared.writer.Written.{Written}
-use Rattle.node.specs.declared.writer.Written.TheVariants.{Bytes, Refused}
 use Rattle.node.specs.Nodes.{packed_node, Read, node, refused}
 use Rattle.node.specs.Values.{value_of}
 use Rattle.node.specs.Steps.{Showing, shows, ends, refuses}
-use Rattle.banavoge_laws.specs.Answers.{refusal_code}
+use Rattle.banavoge_laws.specs.Answers.{refusal_code, written_code}
 
 -- what the five references refer to
 pub record NodePlaces : Type 0 where
@@ -59,11 +58,10 @@ pub record StepsNode (place : ℕ) (step : Showing) (answer : ℤ) (before after
 
 -- ---- a node written (`WritesNode` of `node`), or the nodes nearest to a target (`Asks` of `buckets_laws`): the byte count, or minus the refusal
 
-unfoldable pub node_written_code : Written → ℤ
-node_written_code (Bytes count) = pos count
-node_written_code (Refused why) = refusal_code why
+unfoldable pub node_written_code : Result ℕ Refusal → ℤ
+node_written_code = written_code
 
 -- a count that packed nodes can have: four of them take at most 204 bytes
-unfoldable pub CountedNodes : Written → Type 0
-CountedNodes (Bytes count) = count ≤ 204
-CountedNodes (Refused why) = Unit {0}
+unfoldable pub CountedNodes : Result ℕ Refusal → Type 0
+CountedNodes (Ok count) = count ≤ 204
+CountedNodes (Err why) = Unit {0}

@@ -1,4 +1,5 @@
 -- The ways out of an offer and of a question. Assumes nothing.
+use Rattle.std.proofs.Common.{Ok, Err}
 use mathlib.Core.Path.{◌≡◌, ◌∙◌, refl, sym, ap, ap₂}
 use mathlib.Core.Bool.{Bool, true, false, not}
 use mathlib.Core.List.{List, ◌++◌, map}
@@ -18,14 +19,10 @@ use Rattle.key.proofs.Bits.{base_shares_all, others_share_fewer}
 use Rattle.key.proofs.Cancel.{same_differs}
 use Rattle.key.proofs.Lent.{key_itself}
 use Rattle.node.specs.declared.Node.{Node}
-use Rattle.node.specs.declared.writer.Written.TheVariants as written
 use Rattle.node.specs.Families.{known_family}
 use Rattle.node.specs.Values.{info_of}
 use Rattle.node.specs.Walks.{packed_nodes}
 use Rattle.nearest.specs.Lists.{node_key, all_known}
-use Rattle.nearest.specs.declared.OfferAnswer.{OfferAnswer}
-use Rattle.nearest.specs.declared.OfferAnswer.TheVariants as offer
-use Rattle.nearest.specs.Calls.{offer_answer}
 use Rattle.nearest_first.specs.NearestFirst.{nearest_of}
 use Rattle.nearest_first.proofs.NearestLaws.{nearest_known}
 use Rattle.lent_list_laws.specs.Layout.{Fits}
@@ -59,7 +56,7 @@ bucket_same m b = ap (λ (x : List ℕ). take (32 + b * 417) m ++ x) (take-appen
 -- ---- an offer
 
 module _ (n : Node) (m : List ℕ) (bytes : Bytes m) (fits : Fits n) where
-  pub offers_broken : (r : Bool) → r ≡ buckets_whole m → not r ≡ true → Offers n m m (offer.Refused BucketsNotWhole)
+  pub offers_broken : (r : Bool) → r ≡ buckets_whole m → not r ≡ true → Offers n m m (Err BucketsNotWhole)
   offers_broken r e h =
       let b = sym e ∙ turned r h in
       record { bytes = bytes; node = fits; answers = sym (not_whole_answer m n b); leaves = sym (not_whole_left m n b) }
@@ -69,7 +66,7 @@ module _ (n : Node) (m : List ℕ) (bytes : Bytes m) (fits : Fits n) where
       turned false h = refl
 
   module _ (w : buckets_whole m ≡ true) where
-    pub offers_unknown : known_family n.family ≡ false → Offers n m m (offer.Refused UnknownFamily)
+    pub offers_unknown : known_family n.family ≡ false → Offers n m m (Err UnknownFamily)
     offers_unknown k = record { bytes = bytes; node = fits; answers = sym (unknown_answer m n w k); leaves = sym (unknown_left m n w k) }
 
     base_long : 106784 ≤ length m
@@ -85,11 +82,11 @@ module _ (n : Node) (m : List ℕ) (bytes : Bytes m) (fits : Fits n) where
       all_bits = base_shares_all (base_of m) (node_key n) (base_key_lem m bytes base_long) fits.1.key
 
       -- the base key shares all its bits
-      pub offers_base : 256 ≤ r → Offers n m m offer.NotKept
+      pub offers_base : 256 ≤ r → Offers n m m (Ok false)
       unfolding is_kept
       offers_base h = by (same_key (base_of m) (node_key n)) refl
         where
-          by : (s : Bool) → same_key (base_of m) (node_key n) ≡ s → Offers n m m offer.NotKept
+          by : (s : Bool) → same_key (base_of m) (node_key n) ≡ s → Offers n m m (Ok false)
           by true s =
               let b = effect_base m n s in
               record { bytes = bytes; node = fits; answers = sym (unkept_answer m n w k base_key b refl); leaves = sym (unkept_left m n w k base_key b refl) }
@@ -110,16 +107,16 @@ module _ (n : Node) (m : List ℕ) (bytes : Bytes m) (fits : Fits n) where
         own_lent start q = ap (λ (x : ℕ). take x (drop start m)) (add-sub_cancel_left start 417) ∙ ap (λ (x : ℕ). take 417 (drop x m)) q
 
         -- what the bucket does is what the offer does
-        pub offers_entered : (start : ℕ) → start ≡ 32 + r * 417 → (left : List ℕ) (said : OfferAnswer) → Enters n (take (start + 417 - start) (drop start m)) left said
-            → Offers n m (take start m ++ (left ++ drop (start + 417 - start) (drop start m))) said
-        offers_entered start q left said en =
+        pub offers_entered : (start : ℕ) → start ≡ 32 + r * 417 → (left : List ℕ) (kept : Bool) → Enters n (take (start + 417 - start) (drop start m)) left kept
+            → Offers n m (take start m ++ (left ++ drop (start + 417 - start) (drop start m))) (Ok kept)
+        offers_entered start q left kept en =
             let t = own_lent start q ∙ ap (bucket_at m) bits_are in
             let e₁ = effect_own m n other_key in
             let f : taken_by n (bucket_nodes (take (start + 417 - start) (drop start m))) ≡ own_effect m n = ap (λ (x : List ℕ). taken_by n (bucket_nodes x)) t in
             record {
               bytes = bytes;
               node = fits;
-              answers = en.answers ∙ ap (λ (x : BucketEffect). offer_answer (is_kept x)) (f ∙ sym e₁) ∙ sym (known_answer m n w k);
+              answers = ap Ok en.answers ∙ ap (λ (x : BucketEffect). Ok (is_kept x)) (f ∙ sym e₁) ∙ sym (known_answer m n w k);
               leaves = go (is_kept (own_effect m n)) refl (en.leaves ∙ ap₂ (λ (x : BucketEffect) (y : List ℕ). bucket_after x n y) f t) e₁;
             }
           where
@@ -134,7 +131,7 @@ module _ (n : Node) (m : List ℕ) (bytes : Bytes m) (fits : Fits n) where
 -- ---- a question
 
 module _ (target : Key) (m out : List ℕ) (bytes : Bytes m) (key : IsKey target.0) where
-  pub asks_broken : buckets_whole m ≡ false → Asks target m out out (written.Refused BucketsNotWhole)
+  pub asks_broken : buckets_whole m ≡ false → Asks target m out out (Err BucketsNotWhole)
   unfolding nearest_answered nearest_left
   asks_broken b = record { bytes = bytes; key = key; answers = rw b; leaves = rw b }
 
@@ -147,19 +144,19 @@ module _ (target : Key) (m out : List ℕ) (bytes : Bytes m) (key : IsKey target
     bytes_are = ap (λ (ns : List Node). packed_nodes (map info_of ns)) e
 
     module _ (size : ℕ) (s : size ≡ length (kept_bytes m kept)) where
-      pub asks_short : length out < size → Asks target m out out (written.Refused OutputTooShort)
+      pub asks_short : length out < size → Asks target m out out (Err OutputTooShort)
       unfolding nearest_answered nearest_left
       asks_short h =
           let l = lt-leb (length (answer_bytes m target.0)) (length out) (let q = ap length bytes_are in omega arith) in
           record { bytes = bytes; key = key; answers = rw (w, l); leaves = rw (w, l) }
 
-      pub asks_answered : size ≤ length out → (left : List ℕ) → left ≡ kept_bytes m kept ++ drop (length (kept_bytes m kept)) out → Asks target m out left (written.Bytes size)
+      pub asks_answered : size ≤ length out → (left : List ℕ) → left ≡ kept_bytes m kept ++ drop (length (kept_bytes m kept)) out → Asks target m out left (Ok size)
       unfolding nearest_answered nearest_left
       asks_answered h left z =
           let l = le-leb (length (answer_bytes m target.0)) (length out) (let q = ap length bytes_are in omega arith) in
           record {
             bytes = bytes;
             key = key;
-            answers = rw (w, l) (ap written.Bytes (s ∙ ap length bytes_are));
+            answers = rw (w, l) (ap Ok (s ∙ ap length bytes_are));
             leaves = rw (w, l) (z ∙ ap (λ (x : List ℕ). x ++ drop (length x) out) bytes_are);
           }

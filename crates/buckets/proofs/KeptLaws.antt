@@ -3,7 +3,7 @@
 use mathlib.Core.Path.{◌≡◌, ◌∙◌, refl, sym, ap, subst}
 use mathlib.Core.Bool.{Bool, true, false}
 use mathlib.Core.List.{List, [], ◌∷◌, ◌++◌, map}
-use Prim.Native.Nat.{ℕ, zero, suc, ◌+◌, ◌-◌, ◌<◌, ◌≤◌}
+use Prim.Native.Nat.{ℕ, zero, suc, ◌+◌, ◌-◌, ◌<◌, ◌≤◌, min}
 use native.Mathlib.Nat.{le_of_suc-le-suc, not-suc-le-zero}
 use native.Mathlib.Omega.{arith}
 use native.Mathlib.Numerals.{add-one}
@@ -194,19 +194,17 @@ module _ (memory t : List ℕ) (kept : Found) (w : KeptWell memory t kept) (at :
   new_length : length new ≡ suc kept.count
   new_length = length_insert t (node_at memory at) (kept_nodes memory kept) ∙ ap suc (kept_length memory kept w.starts)
 
-  -- with room for one more
-  pub kept_grows : kept.count < 4 → (l : List ℕ)
-      → l ≡ take (kept.count + 1) (insert_at p at kept.starts) ++ drop (kept.count + 1) kept.starts
-      → KeptAs memory t (take 4 new) (record { count = kept.count + 1; starts = l })
-  kept_grows h l q =
-      let k = new_length in
-      made (kept.count + 1) l (kept.count + 1) (omega arith) (omega arith) q refl
-      (take_all (kept.count + 1) new (omega arith) ∙ sym (take_all 4 new (omega arith)))
-
-  -- four are kept: the last gives way
-  pub kept_full : 4 ≤ kept.count → (l : List ℕ) → l ≡ take 4 (insert_at p at kept.starts) ++ drop 4 kept.starts
-      → KeptAs memory t (take 4 new) (record { count = kept.count; starts = l })
-  kept_full h l q = let f = w.starts.few in made 4 l kept.count (omega arith) (omega arith) q (omega arith) refl
+  -- one more is kept, or of four the last gives way
+  pub kept_put : (last : ℕ) → last ≡ min kept.count 3 → (l : List ℕ) → l ≡ take (last + 1) (insert_at p at kept.starts) ++ drop (last + 1) kept.starts
+      → KeptAs memory t (take 4 new) (record { count = last + 1; starts = l })
+  kept_put last e l q = made (last + 1) l (last + 1) (omega arith) (omega arith) q refl (go (leb 4 kept.count) refl)
+    where
+      go : (u : Bool) → leb 4 kept.count ≡ u → take (last + 1) new ≡ take 4 new
+      go true h = let c = leb-true 4 kept.count h in ap (λ (k : ℕ). take k new) {y = 4} (let f = w.starts.few in omega arith)
+      go false h =
+          let c = leb-false 4 kept.count h in
+          let k = new_length in
+          take_all (last + 1) new (omega arith) ∙ sym (take_all 4 new (omega arith))
 
 -- ---- the nodes of a bucket
 

@@ -1,4 +1,6 @@
 -- The answer to a question, node by node: how many bytes those passed take, and what the output holds. Assumes nothing.
+use Rattle.std.proofs.Common.{Result}
+use Rattle.refusal.specs.declared.Refusal.{Refusal}
 use mathlib.Core.Path.{◌≡◌, ◌∙◌, refl, sym, ap, ap₂}
 use mathlib.Core.Bool.{true}
 use mathlib.Core.List.{List, [], ◌∷◌, ◌++◌, map, map-append, append_assoc, append-nil}
@@ -7,11 +9,10 @@ use native.Mathlib.Nat.{le_of_suc-le-suc, not-suc-le-zero}
 use native.Mathlib.Omega.{arith}
 use native.Mathlib.Numerals.{add-one}
 use lib.ListN.{length, get_or, take, drop, length-append, length-drop, take-append-drop, drop_of_length-le}
-use lib.Seq.{take_all, take-suc, take-take, drop_at, drop-drop}
+use lib.Seq.{length-take-le, get_or-take, take_all, take-suc, take-take, drop_at, drop-drop}
 use borrow.Author.Tests.{le-leb}
 use Rattle.wire.proofs.Copy.{written_part, length_lent, length_written}
 use Rattle.node.specs.declared.Node.{Node}
-use Rattle.node.specs.declared.writer.Written.{Written}
 use Rattle.node.specs.Families.{known_family, packed_length}
 use Rattle.node.specs.Nodes.{NodeInfo, packed_node}
 use Rattle.node.specs.Values.{info_of}
@@ -101,6 +102,13 @@ module _ (memory starts : List ℕ) where
       let l = ap length e ∙ length-append (front_bytes memory starts i) (packed_nodes (f b)) in
       omega arith
 
+-- the places of those kept, as a part lent of all places
+pub front_count : (memory : List ℕ) (kept : Found) → Starts memory kept → length (take kept.count kept.starts) ≡ kept.count
+front_count memory kept s = length-take-le kept.count kept.starts (let f = s.few in let l = s.four in omega arith)
+
+pub front_start : (kept : Found) (i : ℕ) → i < kept.count → get_or (take kept.count kept.starts) i 0 ≡ get_or kept.starts i 0
+front_start kept i h = get_or-take kept.count kept.starts i 0 h
+
 module _ (memory : List ℕ) (kept : Found) (s : Starts memory kept) (i : ℕ) (h : i < kept.count) where
   pub start_in : i < length kept.starts
   start_in = let f = s.few in let l = s.four in omega arith
@@ -142,7 +150,7 @@ module _ (memory : List ℕ) (kept : Found) (s : Starts memory kept) (i : ℕ) (
         take_all (length l - at) (drop at l) (let d = length-drop at l in omega arith) ∙ ap (drop at) e
         ∙ drop_at (front_bytes memory kept.starts i) (drop at out) at (sym a)
 
-    module _ (node : Node) (same : node ≡ n) (new : List ℕ) (answer : Written) (writes : WritesNode node (take (length l - at) (drop at l)) new answer) where
+    module _ (node : Node) (same : node ≡ n) (new : List ℕ) (answer : Result ℕ Refusal) (writes : WritesNode node (take (length l - at) (drop at l)) new answer) where
       left_is : new ≡ packed_node (info_of n) ++ drop (at + packed_length n.family) out
       unfolding written_output info_of
       left_is =

@@ -12,14 +12,10 @@ pub(crate) fn length(memory: &[u8], kept: Found) -> usize
     requires { Starts memory.now kept }
     ensures { result ≡ length (kept_bytes memory.now kept) }
 {
-    let starts = kept.starts;
-    let count = kept.count;
     let mut bytes = 0;
-    let mut i = 0;
-    while i < count {
-        let at = starts[i] + layout::FAMILY;
+    for start in &kept.starts[..kept.count] {
+        let at = *start + layout::FAMILY;
         bytes += family::packed_length(memory[at]);
-        i += 1;
     }
     bytes
 }
@@ -29,16 +25,12 @@ pub(crate) fn write(memory: &[u8], kept: Found, out: &mut [u8])
     requires { Starts memory.now kept × (all_known (kept_nodes memory.now kept) ≡ true) × (length (kept_bytes memory.now kept) ≤ length out.old) }
     ensures { out.new ≡ kept_bytes memory.now kept ++ drop (length (kept_bytes memory.now kept)) out.old }
 {
-    let starts = kept.starts;
-    let count = kept.count;
     let mut at = 0;
-    let mut i = 0;
-    while i < count {
-        let start = starts[i];
+    for start in &kept.starts[..kept.count] {
+        let start = *start;
         let end = start + layout::RECORD_END;
         let node = record::read(&memory[start..end]);
-        writer::write(node, &mut out[at..]);
+        let _ = writer::write(node, &mut out[at..]);
         at += family::packed_length(node.family);
-        i += 1;
     }
 }

@@ -8,6 +8,7 @@ ghost use Rattle.buckets_laws.specs.Layout.{bucket_number, bucket_size, buckets_
 
 use key::Key;
 use node::family;
+use table::Shape;
 
 // Document 02: "256 buckets by a base key, each of up to 8 nodes".
 pub(crate) const BUCKETS: usize = 256;
@@ -22,6 +23,12 @@ pub(crate) const ADDRESS: usize = FAMILY + family::FAMILY_BYTES;
 pub(crate) const PORT: usize = ADDRESS + 16;
 
 pub(crate) const RECORD_END: usize = PORT + family::PORT_BYTES;
+
+// Each bucket is a table of this shape.
+pub(crate) const SHAPE: Shape = Shape {
+    places: PLACES,
+    width: RECORD_END,
+};
 
 // Where the records of a bucket stand: behind its count and its order.
 const RECORDS: usize = 1 + PLACES;
@@ -40,7 +47,7 @@ pub(crate) fn bucket_start(bucket: usize) -> usize
     BASE_END + bucket * BUCKET_END
 }
 
-// The bytes of a bucket.
+// The bytes of a bucket. The length is said here and by two tests; the search has it from `buckets_whole`, and `offer` lends a bucket to write.
 pub(crate) fn bucket_at(memory: &[u8], bucket: usize) -> &[u8]
     requires { (buckets_length ≤ length memory.now) × (bucket < bucket_number) }
     ensures { result.now ≡ bucket_at memory.now bucket }

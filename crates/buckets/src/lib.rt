@@ -17,8 +17,6 @@ mod search;
 mod whole;
 
 use key::{Key, in_place};
-use nearest::{Answer, OfferAnswer};
-use node::writer::Written;
 use node::{Node, family};
 use refusal::Refusal;
 
@@ -26,81 +24,71 @@ use refusal::Refusal;
 pub const BYTES: usize = layout::END;
 
 // Begins buckets that hold nothing: 10 for memory too short.
-pub fn begin(memory: &mut [u8], base: Key) -> Answer
+pub fn begin(memory: &mut [u8], base: Key) -> Result<(), Refusal>
     ensures { Begins base memory.old memory.new result }
 {
     if memory.len() < BYTES {
-        return Answer::Refused(Refusal::OutputTooShort);
+        return Err(Refusal::OutputTooShort);
     }
-    let mut i = layout::BASE_END;
-    while i < BYTES {
-        memory[i] = 0;
-        i += 1;
-    }
+    memory[layout::BASE_END..BYTES].fill(0);
     base.write(&mut memory[0..layout::BASE_END]);
-    Answer::Done
+    Ok(())
 }
 
 // Offers a node: 20, 15. A held key has its node replaced; the base key and a new key whose bucket is full are not kept.
-pub fn offer(memory: &mut [u8], node: Node) -> OfferAnswer
+pub fn offer(memory: &mut [u8], node: Node) -> Result<bool, Refusal>
     ensures { Offers node memory.old memory.new result }
 {
     if !whole::is_whole(memory) {
-        return OfferAnswer::Refused(Refusal::BucketsNotWhole);
+        return Err(Refusal::BucketsNotWhole);
     }
     if !family::known(node.family) {
-        return OfferAnswer::Refused(Refusal::UnknownFamily);
+        return Err(Refusal::UnknownFamily);
     }
-    let key = node.key;
-    let bytes = key.0;
-    let bucket = in_place::shared_bits(&memory[0..layout::BASE_END], &bytes);
+    let bucket = in_place::shared_bits(&memory[0..layout::BASE_END], &node.key.0);
     if layout::BUCKETS <= bucket {
-        return OfferAnswer::NotKept;
+        return Ok(false);
     }
     let at = layout::bucket_start(bucket);
     let end = at + layout::BUCKET_END;
-    enter(&mut memory[at..end], node)
+    Ok(enter(&mut memory[at..end], node))
 }
 
-// A bucket takes a node, where it holds its key or has room.
-fn enter(bucket: &mut [u8], node: Node) -> OfferAnswer
+// A bucket takes a node, where it holds its key or has room. Whether it is kept.
+fn enter(bucket: &mut [u8], node: Node) -> bool
     requires { is_table bucket_size record_length bucket.old ≡ true }
     ensures { Enters node bucket.old bucket.new result }
 {
     let record = record::of(node);
-    let place = table::find(bucket, layout::PLACES, layout::RECORD_END, node.key);
-    if place < layout::PLACES {
+    if let Some(place) = table::find(bucket, layout::SHAPE, node.key) {
         table::overwrite(
             bucket,
-            layout::PLACES,
-            layout::RECORD_END,
+            layout::SHAPE,
             place,
             layout::FAMILY,
             &record[layout::FAMILY..layout::RECORD_END],
         );
-        return OfferAnswer::Kept;
+        return true;
     }
-    if table::used(bucket, layout::PLACES).len() == layout::PLACES {
-        return OfferAnswer::NotKept;
+    if let Some(free) = table::lowest_free(bucket, layout::PLACES) {
+        table::put(bucket, layout::SHAPE, free, &record);
+        return true;
     }
-    let free = table::lowest_free(bucket, layout::PLACES);
-    table::put(bucket, layout::PLACES, layout::RECORD_END, free, &record);
-    OfferAnswer::Kept
+    false
 }
 
 // Writes the nodes nearest to a target, nearest first, as a node list: 20, 10.
-pub fn nearest(memory: &[u8], target: Key, out: &mut [u8]) -> Written
+pub fn nearest(memory: &[u8], target: Key, out: &mut [u8]) -> Result<usize, Refusal>
     ensures { Asks target memory.now out.old out.new result }
 {
     if !whole::is_whole(memory) {
-        return Written::Refused(Refusal::BucketsNotWhole);
+        return Err(Refusal::BucketsNotWhole);
     }
-    let bytes = target.0;
-    let kept = search::nearest(memory, &bytes);
+    let kept = search::nearest(memory, &target.0);
     let length = answer::length(memory, kept);
     if out.len() < length {
-        return Written::Refused(Refusal::OutputTooShort);
+        return Err(Refusal::OutputTooShort);
     }
     answer::write(memory, kept, out);
-    Written::Bytes(length)
+    Ok(length)
 }

@@ -9,12 +9,13 @@ ghost use Rattle.buckets_laws.specs.Whole.{buckets_whole};
 ghost use Rattle.buckets.specs.Kept.{node_at, kept_nodes, KeptWell, KeptAs, KeptWith};
 
 use crate::layout;
-use key::in_place;
+use key::{Key, in_place};
 
 // Document 02: "the 4 nearest of all held nodes, or all when fewer".
 pub(crate) const MOST: usize = 4;
 
 // Where the records of the nearest found so far begin, nearest first: the first `count` of `starts`.
+// An array with a count beside it: it goes by value and there is no heap, and for four numbers a crate of such lists would be no plainer.
 #[derive(Clone, Copy)]
 pub(crate) struct Found {
     pub count: usize,
@@ -22,93 +23,72 @@ pub(crate) struct Found {
 }
 
 // How many of those kept are nearer to the target than the node whose record begins at `at`. The furthest is compared first: of most nodes that tells all.
-fn position(memory: &[u8], target: &[u8], kept: Found, at: usize) -> usize
-    requires { KeptWell memory.now target.now kept × (at + record_length ≤ length memory.now) × (length target.now ≡ 32) }
+fn position(memory: &[u8], target: &[u8; Key::BYTES], kept: Found, at: usize) -> usize
+    requires { KeptWell memory.now target.now kept × (at + record_length ≤ length memory.now) }
     ensures { result ≡ position target.now (node_key (node_at memory.now at)) (kept_nodes memory.now kept) }
 {
-    let starts = kept.starts;
     let end = at + layout::FAMILY;
-    let mut i = kept.count;
-    while 0 < i {
-        let start = starts[i - 1];
+    for i in (0..kept.count).rev() {
+        let start = kept.starts[i];
         let stop = start + layout::FAMILY;
         if in_place::nearer(target, &memory[start..stop], &memory[at..end]) {
-            return i;
+            return i + 1;
         }
-        i -= 1;
     }
     0
 }
 
 // `start` put at `place`, and those from there to before `last` moved back by one; what stood at `last` is gone.
-fn opened(starts: [usize; MOST], place: usize, last: usize, start: usize) -> [usize; MOST]
+fn opened(mut starts: [usize; MOST], place: usize, last: usize, start: usize) -> [usize; MOST]
     requires { (place ≤ last) × (last < 4) }
     ensures { result ≡ take (last + 1) (insert_at place start starts) ++ drop (last + 1) starts }
 {
-    let mut out = starts;
-    let mut carried = start;
-    let mut i = place;
-    while i <= last {
-        let next = out[i];
-        out[i] = carried;
-        carried = next;
-        i += 1;
-    }
-    out
+    starts.copy_within(place..last, place + 1);
+    starts[place] = start;
+    starts
 }
 
 // The node whose record begins at `at` is put in where it belongs; where there are four already, the furthest of the five is left out.
-fn with_node(memory: &[u8], target: &[u8], kept: Found, at: usize) -> Found
-    requires { KeptWell memory.now target.now kept × (at + record_length ≤ length memory.now) × (length target.now ≡ 32) }
+fn with_node(memory: &[u8], target: &[u8; Key::BYTES], kept: Found, at: usize) -> Found
+    requires { KeptWell memory.now target.now kept × (at + record_length ≤ length memory.now) }
     ensures { KeptWith memory.now target.now kept (node_at memory.now at ∷ []) result }
 {
-    let count = kept.count;
     let place = position(memory, target, kept, at);
     if MOST <= place {
         return kept;
     }
-    let starts = kept.starts;
-    if count < MOST {
-        return Found {
-            count: count + 1,
-            starts: opened(starts, place, count, at),
-        };
-    }
+    let last = kept.count.min(MOST - 1);
     Found {
-        count,
-        starts: opened(starts, place, MOST - 1, at),
+        count: last + 1,
+        starts: opened(kept.starts, place, last, at),
     }
 }
 
 // The nodes of one bucket are put in.
-fn with_bucket(memory: &[u8], target: &[u8], kept: Found, bucket: usize) -> Found
-    requires { KeptWell memory.now target.now kept × (length target.now ≡ 32) × (buckets_whole memory.now ≡ true) × (bucket < bucket_number) }
+fn with_bucket(memory: &[u8], target: &[u8; Key::BYTES], kept: Found, bucket: usize) -> Found
+    requires { KeptWell memory.now target.now kept × (buckets_whole memory.now ≡ true) × (bucket < bucket_number) }
     ensures { KeptWith memory.now target.now kept (held_in memory.now bucket) result }
 {
     let used = table::used(layout::bucket_at(memory, bucket), layout::PLACES);
     let mut kept = kept;
-    let mut i = 0;
-    while i < used.len() {
-        let at = layout::record_start(bucket, used[i] as usize);
+    for place in used {
+        let at = layout::record_start(bucket, usize::from(*place));
         kept = with_node(memory, target, kept, at);
-        i += 1;
     }
     kept
 }
 
 // The nearest of all held nodes, nearest first.
-pub(crate) fn nearest(memory: &[u8], target: &[u8]) -> Found
-    requires { (length target.now ≡ 32) × (buckets_whole memory.now ≡ true) }
+pub(crate) fn nearest(memory: &[u8], target: &[u8; Key::BYTES]) -> Found
+    requires { buckets_whole memory.now ≡ true }
     ensures { KeptAs memory.now target.now (nearest_of 4 target.now (held_nodes memory.now)) result }
 {
     let mut kept = Found {
         count: 0,
         starts: [0; MOST],
     };
-    let mut bucket = 0;
-    while bucket < layout::BUCKETS {
+    for bucket in 0..layout::BUCKETS {
         kept = with_bucket(memory, target, kept, bucket);
-        bucket += 1;
     }
     kept
 }

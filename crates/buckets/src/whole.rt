@@ -27,16 +27,11 @@ fn all_belong(memory: &[u8], bucket: usize) -> bool
     ensures { result ≡ all_belong (base_of memory.now) bucket (bucket_nodes (bucket_at memory.now bucket)) }
 {
     let used = table::used(layout::bucket_at(memory, bucket), layout::PLACES);
-    let mut i = 0;
-    while i < used.len() {
-        if !belongs(
-            memory,
-            bucket,
-            layout::record_start(bucket, used[i] as usize),
-        ) {
+    for place in used {
+        let at = layout::record_start(bucket, usize::from(*place));
+        if !belongs(memory, bucket, at) {
             return false;
         }
-        i += 1;
     }
     true
 }
@@ -46,11 +41,7 @@ fn bucket_whole(memory: &[u8], bucket: usize) -> bool
     requires { (buckets_length ≤ length memory.now) × (bucket < bucket_number) }
     ensures { result ≡ bucket_whole (base_of memory.now) bucket (bucket_at memory.now bucket) }
 {
-    if !table::is_whole(
-        layout::bucket_at(memory, bucket),
-        layout::PLACES,
-        layout::RECORD_END,
-    ) {
+    if !table::is_whole(layout::bucket_at(memory, bucket), layout::SHAPE) {
         return false;
     }
     all_belong(memory, bucket)
@@ -63,12 +54,10 @@ pub(crate) fn is_whole(memory: &[u8]) -> bool
     if memory.len() < layout::END {
         return false;
     }
-    let mut bucket = 0;
-    while bucket < layout::BUCKETS {
+    for bucket in 0..layout::BUCKETS {
         if !bucket_whole(memory, bucket) {
             return false;
         }
-        bucket += 1;
     }
     true
 }

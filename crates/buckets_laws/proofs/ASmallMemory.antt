@@ -5,6 +5,7 @@
 --     bucket 1: 1   0 (seven zeros)   100.. port 260   (seven free places)
 --
 -- Bucket 0 lists place 1, with the lower key, before place 0. Assumes nothing.
+use Rattle.std.proofs.Common.{Err}
 use mathlib.Core.Path.{◌≡◌, refl}
 use mathlib.Core.Bool.{true, false}
 use mathlib.Core.List.{List, [], ◌∷◌, ◌++◌}
@@ -16,13 +17,10 @@ use Rattle.key.specs.Keys.{same_key, xor_bytes, distance, nearer}
 use Rattle.key.specs.Bits.{bits_of, bits, alike, shared_bits}
 use Rattle.lists.specs.Find.{leading, member}
 use Rattle.node.specs.declared.Node.{Node}
-use Rattle.node.specs.declared.writer.Written.TheVariants as written
 use Rattle.node.specs.Families.{known_family, address_length}
 use Rattle.node.specs.Nodes.{packed_node}
 use Rattle.node.specs.Values.{info_of}
 use Rattle.node.specs.Walks.{packed_nodes}
-use Rattle.nearest.specs.declared.Answer.TheVariants as answer
-use Rattle.nearest.specs.declared.OfferAnswer.TheVariants as offer
 use Rattle.nearest.specs.Effect.{holds, insert}
 use Rattle.table_laws.specs.Bytes.{key_before}
 use Rattle.table_laws.specs.Table.{fits_table, listed, record_at, key_at, rising_after, rising, table_whole, is_table, find_key, found, lowest, lowest_free}
@@ -222,7 +220,7 @@ answer_of_three = refl
 
 -- ---- refusals: memory too short for buckets
 
-pub begun_short : begun_answer small ≡ answer.Refused OutputTooShort
+pub begun_short : begun_answer small ≡ Err OutputTooShort
 unfolding begun_answer
 begun_short = refl
 
@@ -230,7 +228,7 @@ pub begun_leaves : begun_memory (record { 0 = key 9 }) small ≡ small
 unfolding begun_memory
 begun_leaves = refl
 
-pub offer_refused : offer_answered small (node 130 261) ≡ offer.Refused BucketsNotWhole
+pub offer_refused : offer_answered small (node 130 261) ≡ Err BucketsNotWhole
 unfolding offer_answered buckets_whole
 offer_refused = refl
 
@@ -238,7 +236,7 @@ pub offer_leaves : offer_left small (node 130 261) ≡ small
 unfolding offer_left buckets_whole
 offer_leaves = refl
 
-pub question_refused : nearest_answered small (key 101) [] ≡ written.Refused BucketsNotWhole
+pub question_refused : nearest_answered small (key 101) [] ≡ Err BucketsNotWhole
 unfolding nearest_answered buckets_whole
 question_refused = refl
 

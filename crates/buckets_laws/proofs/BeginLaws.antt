@@ -1,5 +1,6 @@
 -- Buckets that were begun: they are whole, have the base key given and hold no node, and the memory keeps its length. A refused begin leaves the memory as
 -- it was. Assumes nothing.
+use Rattle.std.proofs.Common.{Ok, Err}
 use mathlib.Core.Path.{◌≡◌, ◌∙◌, refl, sym, ap, ap₂, subst}
 use mathlib.Core.Bool.{Bool, true, false, cond}
 use mathlib.Core.List.{List, [], ◌++◌, map}
@@ -15,7 +16,6 @@ use Rattle.refusal.specs.declared.Refusal.{Refusal}
 use Rattle.refusal.specs.declared.Refusal.TheVariants.{OutputTooShort}
 use Rattle.key.specs.declared.Key.{Key}
 use Rattle.node.specs.declared.Node.{Node}
-use Rattle.nearest.specs.declared.Answer.TheVariants as answer
 use Rattle.table_laws.specs.Table.{count, record_at, is_table}
 use Rattle.table_laws.proofs.Listed.{whole_none}
 use Rattle.table_laws.proofs.NoneListed.{listed_none}
@@ -100,15 +100,15 @@ begun_short : (base : Key) (memory : List ℕ) → length memory < 106784 → be
 unfolding begun_memory
 begun_short base memory l = rw (lt-leb 106784 (length memory) l)
 
-answer_short : (memory : List ℕ) → length memory < 106784 → begun_answer memory ≡ answer.Refused OutputTooShort
+answer_short : (memory : List ℕ) → length memory < 106784 → begun_answer memory ≡ Err OutputTooShort
 unfolding begun_answer
 answer_short memory l = rw (lt-leb 106784 (length memory) l)
 
-answer_done : (memory : List ℕ) → 106784 ≤ length memory → begun_answer memory ≡ answer.Done
+answer_done : (memory : List ℕ) → 106784 ≤ length memory → begun_answer memory ≡ Ok tt
 unfolding begun_answer
 answer_done memory l = rw (le-leb 106784 (length memory) l)
 
-module _ {base : Key} {memory left : List ℕ} (is : Begins base memory left answer.Done) where
+module _ {base : Key} {memory left : List ℕ} (is : Begins base memory left (Ok tt)) where
   pub begin_long : 106784 ≤ length memory
   begin_long = go (leb 106784 (length memory)) refl
     where
@@ -149,7 +149,7 @@ module _ {base : Key} {memory left : List ℕ} (is : Begins base memory left ans
   begin_holds_none = none_held left 256 (λ b h. no_nodes (bucket_at left b) (none_listed b h))
 
 -- 10, and no other; nothing is changed
-pub begin_refused : {base : Key} {memory left : List ℕ} {why : Refusal} → Begins base memory left (answer.Refused why)
+pub begin_refused : {base : Key} {memory left : List ℕ} {why : Refusal} → Begins base memory left (Err why)
     → (why ≡ OutputTooShort) × (length memory < 106784) × (left ≡ memory)
 begin_refused {base} {memory} {left} {why} is = go (leb 106784 (length memory)) refl
   where

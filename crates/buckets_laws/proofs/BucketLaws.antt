@@ -5,9 +5,9 @@ use mathlib.Core.Bool.{Bool, true, false, cond}
 use mathlib.Core.List.{List, map}
 use Prim.Native.Nat.{ℕ, zero, suc, ◌*◌, ◌≤◌, ◌<◌}
 use native.Mathlib.Omega.{arith}
-use lib.Dec.{ltb}
+use lib.Dec.{leb, ltb}
 use lib.ListN.{length, take, drop, length-map}
-use borrow.Author.Tests.{ltb-true, ltb-false}
+use borrow.Author.Tests.{leb-true, leb-false, ltb-true, ltb-false}
 use Rattle.wire.specs.Numbers.{Bytes}
 use Rattle.wire.proofs.Numbers.{bytes_take, bytes_drop}
 use Rattle.key.specs.Keys.{same_key}
@@ -140,6 +140,22 @@ module _ (t : List ℕ) (is : is_table 8 51 t ≡ true) where
         let f = free_is in
         let h = free_found in
         ap (λ (x : ℕ). member x (listed 8 t)) free_is ∙ lowest_unlisted 0 8 (listed 8 t) (omega arith)
+
+  -- and where there is a free place there are fewer
+  pub free_room : lowest_free 8 t < 8 → length (bucket_nodes t) < 8
+  free_room h =
+      let f = lowest_in 8 t (omega arith) long in
+      let u = ap (λ (x : ℕ). member x (listed 8 t)) f ∙ lowest_unlisted 0 8 (listed 8 t) (omega arith) in
+      let c = unlisted_leaves_room 8 51 t long whole (lowest_free 8 t) h u in
+      let l = count_nodes in
+      omega arith
+
+  pub free_none : 8 ≤ lowest_free 8 t → 8 ≤ length (bucket_nodes t)
+  free_none h = go (leb 8 (length (bucket_nodes t))) refl
+    where
+      go : (u : Bool) → leb 8 (length (bucket_nodes t)) ≡ u → 8 ≤ length (bucket_nodes t)
+      go true e = leb-true 8 (length (bucket_nodes t)) e
+      go false e = let f = free_found (leb-false 8 (length (bucket_nodes t)) e) in absurd (omega arith)
 
   -- ---- a node added
 

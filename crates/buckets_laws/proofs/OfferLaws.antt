@@ -1,8 +1,10 @@
 -- What an offer does to the memory of buckets, for all memory: whole buckets stay whole; the base key, the length and the bytes behind the buckets stay; only
 -- the key's own bucket changes; each key that was held is still held; no node but the one offered comes in, and each node of another key stays; a node that is
 -- kept is held; and an offer that is not kept or is refused leaves every byte. Assumes nothing.
+use Rattle.std.proofs.Common.{Result, Ok, Err}
+use Rattle.refusal.specs.declared.Refusal.{Refusal}
 use mathlib.Core.Path.{◌≡◌, ◌∙◌, refl, sym, ap, subst}
-use mathlib.Core.Bool.{true, false}
+use mathlib.Core.Bool.{Bool, true, false}
 use mathlib.Core.Logic.{◌⊎◌, inl, inr, ⊎_elim}
 use mathlib.Core.List.{List}
 use Prim.Native.Nat.{ℕ, ◌<◌}
@@ -14,8 +16,6 @@ use Rattle.refusal.specs.declared.Refusal.{Refusal}
 use Rattle.refusal.specs.declared.Refusal.TheVariants.{UnknownFamily, BucketsNotWhole}
 use Rattle.node.specs.declared.Node.{Node}
 use Rattle.node.specs.Families.{known_family}
-use Rattle.nearest.specs.declared.OfferAnswer.{OfferAnswer}
-use Rattle.nearest.specs.declared.OfferAnswer.TheVariants as offer
 use Rattle.nearest.specs.Lists.{node_key}
 use Rattle.nearest.specs.Effect.{holds}
 use Rattle.nearest.specs.Sequence.{In}
@@ -112,84 +112,84 @@ module _ (m : List ℕ) (n : Node) (fits : Fits n) (w : buckets_whole m ≡ true
 
 -- ---- every offer
 
-never_kept : {A : Type 0} → offer.NotKept ≡ offer.Kept → A
-never_kept e = let z : ◌≡◌ {A = ℕ} 0 1 = cc in absurd (omega arith)
+never_kept : {A : Type 0} → ◌≡◌ {A = Result Bool Refusal} (Ok false) (Ok true) → A
+never_kept e = cc
 
-refused_not_kept : {A : Type 0} (why : Refusal) → offer.Refused why ≡ offer.Kept → A
-refused_not_kept why e = let z : ◌≡◌ {A = ℕ} 0 1 = cc in absurd (omega arith)
+refused_not_kept : {A : Type 0} (why : Refusal) → ◌≡◌ {A = Result Bool Refusal} (Err why) (Ok true) → A
+refused_not_kept why e = cc
 
-module _ {n : Node} {m left : List ℕ} {said : OfferAnswer} (o : Offers n m left said) where
+module _ {n : Node} {m left : List ℕ} {said : Result Bool Refusal} (o : Offers n m left said) where
   pub offer_keeps_whole : buckets_whole m ≡ true → buckets_whole left ≡ true
   offer_keeps_whole h =
-      offer_ways o (λ (l : List ℕ) (a : OfferAnswer). buckets_whole l ≡ true) (λ w. h) (λ w k. h) (λ w k s. h) (λ w k b f. h)
+      offer_ways o (λ (l : List ℕ) (a : Result Bool Refusal). buckets_whole l ≡ true) (λ w. h) (λ w k. h) (λ w k s. h) (λ w k b f. h)
       (λ w k b q. kept_whole m n o.node w b k)
 
   pub offer_keeps_base : base_of left ≡ base_of m
   offer_keeps_base =
-      offer_ways o (λ (l : List ℕ) (a : OfferAnswer). base_of l ≡ base_of m) (λ w. refl) (λ w k. refl) (λ w k s. refl) (λ w k b f. refl)
+      offer_ways o (λ (l : List ℕ) (a : Result Bool Refusal). base_of l ≡ base_of m) (λ w. refl) (λ w k. refl) (λ w k s. refl) (λ w k b f. refl)
       (λ w k b q. kept_base m n o.node w b)
 
   pub offer_keeps_length : length left ≡ length m
   offer_keeps_length =
-      offer_ways o (λ (l : List ℕ) (a : OfferAnswer). length l ≡ length m) (λ w. refl) (λ w k. refl) (λ w k s. refl) (λ w k b f. refl)
+      offer_ways o (λ (l : List ℕ) (a : Result Bool Refusal). length l ≡ length m) (λ w. refl) (λ w k. refl) (λ w k s. refl) (λ w k b f. refl)
       (λ w k b q. kept_length m n o.node w b)
 
   pub offer_keeps_behind : drop 106784 left ≡ drop 106784 m
   offer_keeps_behind =
-      offer_ways o (λ (l : List ℕ) (a : OfferAnswer). drop 106784 l ≡ drop 106784 m) (λ w. refl) (λ w k. refl) (λ w k s. refl) (λ w k b f. refl)
+      offer_ways o (λ (l : List ℕ) (a : Result Bool Refusal). drop 106784 l ≡ drop 106784 m) (λ w. refl) (λ w k. refl) (λ w k s. refl) (λ w k b f. refl)
       (λ w k b q. kept_behind m n o.node w b)
 
   pub offer_keeps_bytes : Bytes left
   offer_keeps_bytes =
-      offer_ways o (λ (l : List ℕ) (a : OfferAnswer). Bytes l) (λ w. o.bytes) (λ w k. o.bytes) (λ w k s. o.bytes) (λ w k b f. o.bytes)
+      offer_ways o (λ (l : List ℕ) (a : Result Bool Refusal). Bytes l) (λ w. o.bytes) (λ w k. o.bytes) (λ w k s. o.bytes) (λ w k b f. o.bytes)
       (λ w k b q. kept_bytes m n o.node w b o.bytes)
 
   -- every bucket but the key's own holds what it held
   pub offered_other : (c : ℕ) → c < 256 → (c ≡ own_bucket m n → ⊥) → held_in left c ≡ held_in m c
   offered_other c h d =
-      offer_ways o (λ (l : List ℕ) (a : OfferAnswer). held_in l c ≡ held_in m c) (λ w. refl) (λ w k. refl) (λ w k s. refl) (λ w k b f. refl)
+      offer_ways o (λ (l : List ℕ) (a : Result Bool Refusal). held_in l c ≡ held_in m c) (λ w. refl) (λ w k. refl) (λ w k s. refl) (λ w k b f. refl)
       (λ w k b q. ap bucket_nodes (kept_other m n o.node w b c h d))
 
   -- a key that was held is held
   pub held_stays : (k : List ℕ) → holds k (held_nodes m) ≡ true → holds k (held_nodes left) ≡ true
   held_stays k h =
-      offer_ways o (λ (l : List ℕ) (a : OfferAnswer). holds k (held_nodes l) ≡ true) (λ w. h) (λ w f. h) (λ w f s. h) (λ w f b g. h)
+      offer_ways o (λ (l : List ℕ) (a : Result Bool Refusal). holds k (held_nodes l) ≡ true) (λ w. h) (λ w f. h) (λ w f s. h) (λ w f b g. h)
       (λ w f b q. kept_holds m n o.node w b k h)
 
   -- no node but the one offered comes in
   pub offered_only : (x : Node) → In x (held_nodes left) → (x ≡ n) ⊎ In x (held_nodes m)
   offered_only x =
-      offer_ways o (λ (l : List ℕ) (a : OfferAnswer). In x (held_nodes l) → (x ≡ n) ⊎ In x (held_nodes m)) (λ w i. inr i) (λ w k i. inr i) (λ w k s i. inr i)
+      offer_ways o (λ (l : List ℕ) (a : Result Bool Refusal). In x (held_nodes l) → (x ≡ n) ⊎ In x (held_nodes m)) (λ w i. inr i) (λ w k i. inr i) (λ w k s i. inr i)
       (λ w k b f i. inr i) (λ w k b q. kept_only m n o.node w b x)
 
   -- and each node of another key stays
   pub offered_others : (x : Node) → In x (held_nodes m) → (node_key x ≡ node_key n → ⊥) → In x (held_nodes left)
   offered_others x i d =
-      offer_ways o (λ (l : List ℕ) (a : OfferAnswer). In x (held_nodes l)) (λ w. i) (λ w k. i) (λ w k s. i) (λ w k b f. i)
+      offer_ways o (λ (l : List ℕ) (a : Result Bool Refusal). In x (held_nodes l)) (λ w. i) (λ w k. i) (λ w k s. i) (λ w k b f. i)
       (λ w k b q. kept_others m n o.node w b x i d)
 
   -- a node that is kept is held
-  pub kept_is_held : said ≡ offer.Kept → In n (held_nodes left)
+  pub kept_is_held : said ≡ Ok true → In n (held_nodes left)
   kept_is_held =
-      offer_ways o (λ (l : List ℕ) (a : OfferAnswer). a ≡ offer.Kept → In n (held_nodes l)) (λ w e. refused_not_kept BucketsNotWhole e)
+      offer_ways o (λ (l : List ℕ) (a : Result Bool Refusal). a ≡ Ok true → In n (held_nodes l)) (λ w e. refused_not_kept BucketsNotWhole e)
       (λ w k e. refused_not_kept UnknownFamily e) (λ w k s e. never_kept e) (λ w k b f e. never_kept e) (λ w k b q e. kept_in_lem m n o.node w b q)
 
   -- one that is not leaves every byte
-  pub unkept_leaves : (said ≡ offer.Kept → ⊥) → left ≡ m
+  pub unkept_leaves : (said ≡ Ok true → ⊥) → left ≡ m
   unkept_leaves =
-      offer_ways o (λ (l : List ℕ) (a : OfferAnswer). (a ≡ offer.Kept → ⊥) → l ≡ m) (λ w e. refl) (λ w k e. refl) (λ w k s e. refl) (λ w k b f e. refl)
+      offer_ways o (λ (l : List ℕ) (a : Result Bool Refusal). (a ≡ Ok true → ⊥) → l ≡ m) (λ w e. refl) (λ w k e. refl) (λ w k s e. refl) (λ w k b f e. refl)
       (λ w k b q e. absurd (e refl))
 
-  pub not_kept_leaves : said ≡ offer.NotKept → left ≡ m
-  not_kept_leaves e = unkept_leaves (λ (h : said ≡ offer.Kept). never_kept (sym e ∙ h))
+  pub not_kept_leaves : said ≡ Ok false → left ≡ m
+  not_kept_leaves e = unkept_leaves (λ (h : said ≡ Ok true). never_kept (sym e ∙ h))
 
-  pub refused_leaves : (why : Refusal) → said ≡ offer.Refused why → left ≡ m
-  refused_leaves why e = unkept_leaves (λ (h : said ≡ offer.Kept). refused_not_kept why (sym e ∙ h))
+  pub refused_leaves : (why : Refusal) → said ≡ Err why → left ≡ m
+  refused_leaves why e = unkept_leaves (λ (h : said ≡ Ok true). refused_not_kept why (sym e ∙ h))
 
   -- ---- the refusals, in their order
 
-  pub not_whole_refused : buckets_whole m ≡ false → (left ≡ m) × (said ≡ offer.Refused BucketsNotWhole)
+  pub not_whole_refused : buckets_whole m ≡ false → (left ≡ m) × (said ≡ Err BucketsNotWhole)
   not_whole_refused h = (o.leaves ∙ not_whole_left m n h, o.answers ∙ not_whole_answer m n h)
 
-  pub unknown_refused : buckets_whole m ≡ true → known_family n.family ≡ false → (left ≡ m) × (said ≡ offer.Refused UnknownFamily)
+  pub unknown_refused : buckets_whole m ≡ true → known_family n.family ≡ false → (left ≡ m) × (said ≡ Err UnknownFamily)
   unknown_refused h k = (o.leaves ∙ unknown_left m n h k, o.answers ∙ unknown_answer m n h k)

@@ -1,19 +1,17 @@
 -- What an offer to whole buckets makes of the key's own bucket, by its effect: a node that is added stands at its place in the order of keys, one that is
 -- replaced where the node of its key stood, and of a full bucket and of the base key nothing is changed. Assumes nothing.
+use Rattle.std.proofs.Common.{Result, Ok}
+use Rattle.refusal.specs.declared.Refusal.{Refusal}
 use mathlib.Core.Path.{◌≡◌, ◌∙◌, refl, sym, ap}
 use mathlib.Core.Bool.{Bool, true, false}
 use mathlib.Core.List.{List}
 use Prim.Native.Nat.{ℕ, ◌<◌}
-use native.Mathlib.Omega.{arith}
 use lib.ListN.{length}
 use Rattle.key.specs.Keys.{same_key}
 use Rattle.lists.specs.Insert.{insert_at}
 use Rattle.node.specs.declared.Node.{Node}
 use Rattle.node.specs.Families.{known_family}
-use Rattle.nearest.specs.declared.OfferAnswer.{OfferAnswer}
-use Rattle.nearest.specs.declared.OfferAnswer.TheVariants as offer
 use Rattle.nearest.specs.Lists.{node_key}
-use Rattle.nearest.specs.Calls.{offer_answer}
 use Rattle.nearest.specs.Effect.{replace}
 use Rattle.table_laws.specs.Table.{is_table, place_of}
 use Rattle.buckets_laws.specs.Layout.{base_of, bucket_at, bucket_nodes, held_in}
@@ -34,20 +32,20 @@ not_base m n e is d = go (same_key (base_of m) (node_key n)) refl
     go true s = absurd (d (sym (effect_base m n s) ∙ is))
     go false s = refl
 
-module _ {n : Node} {m left : List ℕ} {said : OfferAnswer} (o : Offers n m left said) (w : buckets_whole m ≡ true) (k : known_family n.family ≡ true) where
+module _ {n : Node} {m left : List ℕ} {said : Result Bool Refusal} (o : Offers n m left said) (w : buckets_whole m ≡ true) (k : known_family n.family ≡ true) where
   -- the answer is yes just where the effect is that of a node kept
-  pub offered_answer : said ≡ offer_answer (is_kept (effect_on m n))
+  pub offered_answer : said ≡ Ok (is_kept (effect_on m n))
   offered_answer = o.answers ∙ known_answer m n w k
 
-  pub offered_unkept : is_kept (effect_on m n) ≡ false → (left ≡ m) × (said ≡ offer.NotKept)
+  pub offered_unkept : is_kept (effect_on m n) ≡ false → (left ≡ m) × (said ≡ Ok false)
   offered_unkept h = (o.leaves ∙ unkept_left m n w k (effect_on m n) refl h, o.answers ∙ unkept_answer m n w k (effect_on m n) refl h)
 
-  pub offered_full : effect_on m n ≡ full → (left ≡ m) × (said ≡ offer.NotKept)
+  pub offered_full : effect_on m n ≡ full → (left ≡ m) × (said ≡ Ok false)
   unfolding is_kept
   offered_full e = offered_unkept (ap is_kept e)
 
   -- "The base key is never held; offering it answers no."
-  pub offered_base : same_key (base_of m) (node_key n) ≡ true → (left ≡ m) × (said ≡ offer.NotKept)
+  pub offered_base : same_key (base_of m) (node_key n) ≡ true → (left ≡ m) × (said ≡ Ok false)
   unfolding is_kept
   offered_base s = offered_unkept (ap is_kept (effect_base m n s))
 
@@ -72,10 +70,10 @@ module _ {n : Node} {m left : List ℕ} {said : OfferAnswer} (o : Offers n m lef
         ∙ stored_own m (own_bucket m n) (bucket_after e n before) (whole_long m w) low l
 
   added_not_base : base_key ≡ added → ⊥
-  added_not_base e = let z : ◌≡◌ {A = ℕ} 0 1 = cc in omega arith
+  added_not_base e = cc
 
   replaced_not_base : base_key ≡ replaced → ⊥
-  replaced_not_base e = let z : ◌≡◌ {A = ℕ} 0 1 = cc in omega arith
+  replaced_not_base e = cc
 
   pub offered_added : effect_on m n ≡ added
       → held_in left (own_bucket m n) ≡ insert_at (place_of 8 51 (bucket_at m (own_bucket m n)) (node_key n)) n (held_in m (own_bucket m n))

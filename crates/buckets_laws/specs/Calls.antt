@@ -1,21 +1,15 @@
 -- The calls on buckets in lent bytes: for each, the answer and every byte of the memory and of the output afterwards. Document 02, request 05: "Refusals: 20 for
 -- buckets that hold a wrong, doubled or base key; then 10."
-use Rattle.std.specs.Prelude.{cond, List, ◌++◌, map, ◌≡◌, ℕ, leb, length, drop, replicate}
+use Rattle.std.specs.Prelude.{Result, Ok, Err, Bool, cond, List, ◌++◌, map, ◌≡◌, ℕ, leb, length, drop, replicate}
 use Rattle.wire.specs.Numbers.{Bytes}
+use Rattle.refusal.specs.declared.Refusal.{Refusal}
 use Rattle.refusal.specs.declared.Refusal.TheVariants.{OutputTooShort, UnknownFamily, BucketsNotWhole}
 use Rattle.key.specs.declared.Key.{Key}
 use Rattle.key.specs.Keys.{IsKey}
 use Rattle.node.specs.declared.Node.{Node}
-use Rattle.node.specs.declared.writer.Written.{Written}
-use Rattle.node.specs.declared.writer.Written.TheVariants as written
 use Rattle.node.specs.Families.{known_family}
 use Rattle.node.specs.Values.{info_of}
 use Rattle.node.specs.Walks.{packed_nodes}
-use Rattle.nearest.specs.declared.Answer.{Answer}
-use Rattle.nearest.specs.declared.Answer.TheVariants as answer
-use Rattle.nearest.specs.declared.OfferAnswer.{OfferAnswer}
-use Rattle.nearest.specs.declared.OfferAnswer.TheVariants as offer
-use Rattle.nearest.specs.Calls.{offer_answer}
 use Rattle.nearest_first.specs.NearestFirst.{nearest_of}
 use Rattle.lent_list_laws.specs.Layout.{Fits}
 use Rattle.buckets_laws.specs.Layout.{all_buckets_length, buckets_length, held_nodes}
@@ -24,8 +18,8 @@ use Rattle.buckets_laws.specs.Effect.{effect_on, is_kept, memory_after}
 
 -- ---- begin: 10 for memory too short, which is left alone
 
-unfoldable pub begun_answer : List ℕ → Answer
-begun_answer memory = cond (leb buckets_length (length memory)) answer.Done (answer.Refused OutputTooShort)
+unfoldable pub begun_answer : List ℕ → Result (Unit {0}) Refusal
+begun_answer memory = cond (leb buckets_length (length memory)) (Ok tt) (Err OutputTooShort)
 
 unfoldable pub zeros : ℕ → List ℕ
 zeros n = replicate n 0
@@ -35,7 +29,7 @@ unfoldable pub begun_memory : Key → List ℕ → List ℕ
 begun_memory base memory =
     cond (leb buckets_length (length memory)) (base.0 ++ (zeros all_buckets_length ++ drop buckets_length memory)) memory
 
-pub record Begins (base : Key) (memory left : List ℕ) (answer : Answer) : Type 0 where
+pub record Begins (base : Key) (memory left : List ℕ) (answer : Result (Unit {0}) Refusal) : Type 0 where
   -- as the types of the parameters have it
   pub bytes : Bytes memory
   pub key : IsKey base.0
@@ -44,16 +38,14 @@ pub record Begins (base : Key) (memory left : List ℕ) (answer : Answer) : Type
 
 -- ---- offer: 20, then 15 for the node; then yes or no for kept
 
-unfoldable pub offer_answered : List ℕ → Node → OfferAnswer
+unfoldable pub offer_answered : List ℕ → Node → Result Bool Refusal
 offer_answered memory n =
-    cond (buckets_whole memory)
-    (cond (known_family n.family) (offer_answer (is_kept (effect_on memory n))) (offer.Refused UnknownFamily))
-    (offer.Refused BucketsNotWhole)
+    cond (buckets_whole memory) (cond (known_family n.family) (Ok (is_kept (effect_on memory n))) (Err UnknownFamily)) (Err BucketsNotWhole)
 
 unfoldable pub offer_left : List ℕ → Node → List ℕ
 offer_left memory n = cond (buckets_whole memory) (cond (known_family n.family) (memory_after (effect_on memory n) memory n) memory) memory
 
-pub record Offers (n : Node) (memory left : List ℕ) (answer : OfferAnswer) : Type 0 where
+pub record Offers (n : Node) (memory left : List ℕ) (answer : Result Bool Refusal) : Type 0 where
   -- as the types of the parameters have it
   pub bytes : Bytes memory
   pub node : Fits n
@@ -70,11 +62,11 @@ nearest_held memory target = nearest_of 4 target (held_nodes memory)
 unfoldable pub answer_bytes : List ℕ → List ℕ → List ℕ
 answer_bytes memory target = packed_nodes (map info_of (nearest_held memory target))
 
-unfoldable pub nearest_answered : List ℕ → List ℕ → List ℕ → Written
+unfoldable pub nearest_answered : List ℕ → List ℕ → List ℕ → Result ℕ Refusal
 nearest_answered memory target out =
     cond (buckets_whole memory)
-    (cond (leb (length (answer_bytes memory target)) (length out)) (written.Bytes (length (answer_bytes memory target))) (written.Refused OutputTooShort))
-    (written.Refused BucketsNotWhole)
+    (cond (leb (length (answer_bytes memory target)) (length out)) (Ok (length (answer_bytes memory target))) (Err OutputTooShort))
+    (Err BucketsNotWhole)
 
 unfoldable pub nearest_left : List ℕ → List ℕ → List ℕ → List ℕ
 nearest_left memory target out =
@@ -82,7 +74,7 @@ nearest_left memory target out =
     (cond (leb (length (answer_bytes memory target)) (length out)) (answer_bytes memory target ++ drop (length (answer_bytes memory target)) out) out)
     out
 
-pub record Asks (target : Key) (memory out left : List ℕ) (answer : Written) : Type 0 where
+pub record Asks (target : Key) (memory out left : List ℕ) (answer : Result ℕ Refusal) : Type 0 where
   -- as the types of the parameters have it
   pub bytes : Bytes memory
   pub key : IsKey target.0

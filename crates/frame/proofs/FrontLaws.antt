@@ -1,6 +1,6 @@
 -- Laws of what stands at the front of bytes: why it is so, and that what bytes come behind changes only what is unfinished. Assumes nothing.
 use mathlib.Core.Path.{◌≡◌, ◌∙◌, refl, sym, ap, subst}
-use mathlib.Core.Bool.{Bool, true, false, ◌&&◌}
+use mathlib.Core.Bool.{Bool, true, false}
 use mathlib.Core.List.{List, ◌++◌}
 use Prim.Native.Nat.{ℕ, ◌+◌, ◌<◌, ◌≤◌}
 use native.Mathlib.Omega.{arith}
@@ -8,6 +8,7 @@ use lib.Dec.{leb}
 use lib.ListN.{length, take, length-append}
 use lib.Seq.{take-append-le, take-take, length-take-le}
 use borrow.Author.Tests.{le-leb, lt-leb, leb-true, leb-false}
+use Rattle.std.proofs.lemmas.Bool.Decides.{nat_tests}
 use Rattle.wire.specs.Numbers.{number_of}
 use Rattle.frame.specs.declared.Front.{Front}
 use Rattle.frame.specs.declared.Front.TheVariants.{Unfinished, BadLength, Whole}
@@ -15,14 +16,9 @@ use Rattle.frame.specs.Frames.{length_of, length_right, front_with, front}
 
 -- ---- a length that a frame may have
 
-both : (a b : Bool) → (a && b) ≡ true → (a ≡ true) × (b ≡ true)
-both true true e = (refl, refl)
-both true false e = absurd (let z : ◌≡◌ {A = ℕ} 0 1 = cc in omega arith)
-both false b e = absurd (let z : ◌≡◌ {A = ℕ} 0 1 = cc in omega arith)
-
 pub length_bounds : (n : ℕ) → length_right n ≡ true → (17 ≤ n) × (n ≤ 2048)
 unfolding length_right
-length_bounds n e = let w = both (leb 17 n) (leb n 2048) e in (leb-true 17 n w.0, leb-true n 2048 w.1)
+length_bounds n e = (grind (arith, nat_tests), grind (arith, nat_tests))
 
 pub bounds_length : (n : ℕ) → 17 ≤ n → n ≤ 2048 → length_right n ≡ true
 unfolding length_right
@@ -102,14 +98,14 @@ module _ (bytes : List ℕ) where
 -- ---- read backwards
 
 no_whole : {size : ℕ} → Whole size ≡ Unfinished → ⊥
-no_whole e = let z : ◌≡◌ {A = ℕ} 0 1 = cc in absurd (omega arith)
+no_whole e = absurd (cc)
 
 pub long_of : (bytes : List ℕ) (size : ℕ) → front bytes ≡ Whole size → Long bytes size
 long_of bytes size e = go (front_is bytes)
   where
     go : FrontIs bytes (front bytes) → Long bytes size
     go (few h f) = absurd (no_whole (sym e ∙ f))
-    go (wrong w f) = absurd (let z : ◌≡◌ {A = ℕ} 0 1 = cc in omega arith)
+    go (wrong w f) = absurd (cc)
     go (short w f) = absurd (no_whole (sym e ∙ f))
     go (long n w f) = subst (Long bytes) (let q : n ≡ size = cc in q) w
 
@@ -117,10 +113,10 @@ pub wrong_of : (bytes : List ℕ) → front bytes ≡ BadLength → Wrong bytes
 wrong_of bytes e = go (front_is bytes)
   where
     go : FrontIs bytes (front bytes) → Wrong bytes
-    go (few h f) = absurd (let z : ◌≡◌ {A = ℕ} 0 1 = cc in omega arith)
+    go (few h f) = absurd (cc)
     go (wrong w f) = w
-    go (short w f) = absurd (let z : ◌≡◌ {A = ℕ} 0 1 = cc in omega arith)
-    go (long n w f) = absurd (let z : ◌≡◌ {A = ℕ} 0 1 = cc in omega arith)
+    go (short w f) = absurd (cc)
+    go (long n w f) = absurd (cc)
 
 -- a frame has 19 to 2,050 bytes
 pub long_bounds : (bytes : List ℕ) (size : ℕ) → Long bytes size → (19 ≤ size) × (size ≤ 2050)
@@ -132,7 +128,7 @@ unfinished_bound bytes e = go (front_is bytes)
   where
     go : FrontIs bytes (front bytes) → length bytes < 2050
     go (few h f) = omega arith
-    go (wrong w f) = absurd (let z : ◌≡◌ {A = ℕ} 0 1 = cc in omega arith)
+    go (wrong w f) = absurd (cc)
     go (short w f) = omega (arith, w.lacks, (length_bounds (length_of bytes) w.right).1)
     go (long n w f) = absurd (no_whole (sym f ∙ e))
 
@@ -186,6 +182,6 @@ grown a b size e w = go (front_is a)
 
     go : FrontIs a (front a) → length a < size
     go (few h f) = omega (arith, h, (long_bounds (a ++ b) size long_ab).0)
-    go (wrong w f) = absurd (let z : ◌≡◌ {A = ℕ} 0 1 = cc in omega arith)
+    go (wrong w f) = absurd (cc)
     go (short s f) = omega (arith, s.lacks, long_ab.ends, length_behind a b s.two)
     go (long n w f) = absurd (no_whole (sym f ∙ e))

@@ -6,12 +6,14 @@ use Prim.Native.Nat.{ℕ, ◌-◌, ◌<◌, ◌≤◌}
 use native.Mathlib.Omega.{arith}
 use lib.ListN.{length, take, drop, length-append}
 use lib.Seq.{take_at, take-length, length-take-le}
+use Rattle.std.specs.Prelude.{Result, Ok, Err}
+use Rattle.refusal.specs.declared.Refusal.{Refusal}
 use Rattle.refusal.specs.declared.Refusal.TheVariants.{BadFrame}
 use Rattle.frame.specs.declared.Front.{Front}
 use Rattle.frame.specs.declared.Front.TheVariants.{Unfinished, BadLength, Whole}
 use Rattle.frame.specs.declared.Reader.{Reader}
 use Rattle.frame.specs.declared.Shown.{Shown}
-use Rattle.frame.specs.declared.Shown.TheVariants.{More, InPiece, InKeep, Refused}
+use Rattle.frame.specs.declared.Shown.TheVariants.{More, InPiece, InKeep}
 use Rattle.frame.specs.Frames.{front, unfinished, bad, Parted, parted, frames_of}
 use Rattle.frame.specs.Reader.{reader_holding, held_bytes, over, Outcome, read_frame}
 use Rattle.frame.proofs.FrontLaws.{Long, long_of, whole_alone, bad_behind, grown}
@@ -23,11 +25,11 @@ abbrev pub Held : (used : List ℕ) (frames : List (List ℕ)) (reader : Reader)
 Held used frames reader keep = frames_of used ≡ parted frames (unfinished (held_bytes reader keep))
 
 -- the frames that a call shows: none or one
-abbrev pub frames_shown : Shown → (keep piece : List ℕ) → List (List ℕ)
-frames_shown More keep piece = []
-frames_shown (InPiece end) keep piece = take end piece ∷ []
-frames_shown (InKeep end) keep piece = take end keep ∷ []
-frames_shown (Refused why) keep piece = []
+abbrev pub frames_shown : Result Shown Refusal → (keep piece : List ℕ) → List (List ℕ)
+frames_shown (Ok More) keep piece = []
+frames_shown (Ok (InPiece end)) keep piece = take end piece ∷ []
+frames_shown (Ok (InKeep end)) keep piece = take end keep ∷ []
+frames_shown (Err why) keep piece = []
 
 module _ (used : List ℕ) (frames : List (List ℕ)) (reader : Reader) (keep piece : List ℕ) (h : Held used frames reader keep) where
   abbrev held : List ℕ
@@ -99,7 +101,7 @@ module _ (used : List ℕ) (frames : List (List ℕ)) (reader : Reader) (keep pi
   goes_on_after = goes_by (read_frame reader keep piece) (ways reader keep piece)
 
   abbrev TellsBad : Outcome → Type 0
-  TellsBad o = o.read.shown ≡ Refused BadFrame → (later : List ℕ) → frames_of (used ++ (piece ++ later)) ≡ parted frames bad
+  TellsBad o = o.read.shown ≡ Err BadFrame → (later : List ℕ) → frames_of (used ++ (piece ++ later)) ≡ parted frames bad
 
   bad_length : front (held ++ piece) ≡ BadLength → (later : List ℕ) → frames_of (used ++ (piece ++ later)) ≡ parted frames bad
   bad_length e later =
@@ -109,12 +111,12 @@ module _ (used : List ℕ) (frames : List (List ℕ)) (reader : Reader) (keep pi
       ∙ ap (λ (l : List (List ℕ)). parted l bad) (append-nil frames)
 
   ends_by : (o : Outcome) → Ways reader keep piece o → TellsBad o
-  ends_by o (refuses_short short q) = subst TellsBad (sym q) (λ r. absurd (let z : ◌≡◌ {A = ℕ} 0 1 = cc in omega arith))
+  ends_by o (refuses_short short q) = subst TellsBad (sym q) (λ r. cc)
   ends_by o (refuses_state long closed q) = absurd (closed state)
   ends_by o (refuses_length long good e q) = λ r. bad_length e
-  ends_by o (goes_on long good e q) = subst TellsBad (sym q) (λ r. absurd (let z : ◌≡◌ {A = ℕ} 0 1 = cc in omega arith))
-  ends_by o (shows_piece size long good e none q) = subst TellsBad (sym q) (λ r. absurd (let z : ◌≡◌ {A = ℕ} 0 1 = cc in omega arith))
-  ends_by o (shows_keep size long good e some q) = subst TellsBad (sym q) (λ r. absurd (let z : ◌≡◌ {A = ℕ} 0 1 = cc in omega arith))
+  ends_by o (goes_on long good e q) = subst TellsBad (sym q) (λ r. cc)
+  ends_by o (shows_piece size long good e none q) = subst TellsBad (sym q) (λ r. cc)
+  ends_by o (shows_keep size long good e some q) = subst TellsBad (sym q) (λ r. cc)
 
   -- 18: a bad length stands where the next frame would begin, and what comes behind the piece does not matter
   pub ends_bad : TellsBad (read_frame reader keep piece)
@@ -122,12 +124,12 @@ module _ (used : List ℕ) (frames : List (List ℕ)) (reader : Reader) (keep pi
 
   -- and it is told at once: where the bytes used and the piece are the frames shown, then bad, the call is refused with 18
   told_by : 2050 ≤ length keep → (frames_of (held ++ piece)).rest ≡ bad → length (frames_of (held ++ piece)).frames ≡ 0 → (f : Front) → front (held ++ piece) ≡ f
-      → (read_frame reader keep piece).read.shown ≡ Refused BadFrame
-  told_by long r l Unfinished e = absurd (let q = sym (ap (λ (p : Parted). p.rest) (frames_at (held ++ piece) Unfinished e)) ∙ r in let z : ◌≡◌ {A = ℕ} 0 1 = cc in omega arith)
+      → (read_frame reader keep piece).read.shown ≡ Err BadFrame
+  told_by long r l Unfinished e = absurd (let q = sym (ap (λ (p : Parted). p.rest) (frames_at (held ++ piece) Unfinished e)) ∙ r in cc)
   told_by long r l BadLength e = ap (λ (o : Outcome). o.read.shown) (by_front reader keep piece long state BadLength e)
   told_by long r l (Whole size) e = absurd (omega (arith, l, ap (λ (p : Parted). length p.frames) (frames_at (held ++ piece) (Whole size) e)))
 
-  pub told_at_once : 2050 ≤ length keep → frames_of (used ++ piece) ≡ parted frames bad → (read_frame reader keep piece).read.shown ≡ Refused BadFrame
+  pub told_at_once : 2050 ≤ length keep → frames_of (used ++ piece) ≡ parted frames bad → (read_frame reader keep piece).read.shown ≡ Err BadFrame
   told_at_once long e =
       let all : behind frames (frames_of (held ++ piece)) ≡ parted frames bad = sym (goes piece) ∙ e in
       told_by long (ap (λ (p : Parted). p.rest) all)

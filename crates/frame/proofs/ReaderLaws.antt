@@ -8,13 +8,15 @@ use lib.Dec.{leb}
 use lib.ListN.{length, take, drop, length-append, length-take}
 use lib.Seq.{length-take-le, drop-append-add, drop-drop}
 use borrow.Author.Tests.{le-leb, lt-leb, leb-true, leb-false}
+use Rattle.std.specs.Prelude.{Result, Ok, Err}
+use Rattle.refusal.specs.declared.Refusal.{Refusal}
 use Rattle.refusal.specs.declared.Refusal.TheVariants.{OutputTooShort, BadFrame}
 use Rattle.wire.proofs.Copy.{length_written}
 use Rattle.frame.specs.declared.Front.{Front}
 use Rattle.frame.specs.declared.Front.TheVariants.{Unfinished, BadLength, Whole}
 use Rattle.frame.specs.declared.Reader.{Reader}
 use Rattle.frame.specs.declared.Shown.{Shown}
-use Rattle.frame.specs.declared.Shown.TheVariants.{More, InPiece, InKeep, Refused}
+use Rattle.frame.specs.declared.Shown.TheVariants.{More, InPiece, InKeep}
 use Rattle.frame.specs.Frames.{front}
 use Rattle.frame.specs.Reader.{reader_holding, broken, held_bytes, over, Outcome, shows, refuses, read_front, read_held, read_frame}
 use Rattle.frame.proofs.FrontLaws.{long_of, long_bounds, unfinished_bound, grown}
@@ -72,10 +74,10 @@ module _ (reader : Reader) (keep piece : List ℕ) where
         → o ≡ shows (InKeep size) (reader_holding 0) (size - length (held_bytes reader keep)) (over (take size there) keep) → Ways o
 
   bad_not_open : {f : Front} → f ≡ BadLength → f ≡ Unfinished → ⊥
-  bad_not_open e g = let z : ◌≡◌ {A = ℕ} 0 1 = cc in absurd (omega arith)
+  bad_not_open e g = absurd (cc)
 
   whole_not_open : {f : Front} {size : ℕ} → f ≡ Whole size → f ≡ Unfinished → ⊥
-  whole_not_open e g = let z : ◌≡◌ {A = ℕ} 0 1 = cc in absurd (omega arith)
+  whole_not_open e g = absurd (cc)
 
   at_held : (size : ℕ) → 2050 ≤ length keep → front (held_bytes reader keep) ≡ Unfinished → front there ≡ Whole size
       → (t : Bool) → leb 1 (length (held_bytes reader keep)) ≡ t → Ways (read_frame reader keep piece)
@@ -111,18 +113,9 @@ all_held reader keep long many e =
 
 -- ---- what every way out has
 
-abbrev pub IsAccepted : Shown → Type 0
-IsAccepted More = Unit {0}
-IsAccepted (InPiece end) = Unit {0}
-IsAccepted (InKeep end) = Unit {0}
-IsAccepted (Refused why) = ⊥
-
--- what is shown, as a number for each case
-abbrev shown_number : Shown → ℕ
-shown_number More = 0
-shown_number (InPiece end) = 1
-shown_number (InKeep end) = 2
-shown_number (Refused why) = 3
+abbrev pub IsAccepted : Result Shown Refusal → Type 0
+IsAccepted (Ok shown) = Unit {0}
+IsAccepted (Err why) = ⊥
 
 -- bytes written over the front of a keep: it stays as long, and behind them as it was
 module _ (bytes keep : List ℕ) (n : ℕ) (l : length bytes ≤ n) (k : n ≤ length keep) where
@@ -150,7 +143,7 @@ module _ (reader : Reader) (keep piece : List ℕ) where
   pub record Uses (o : Outcome) : Type 0 where
     pub within : o.read.used ≤ length piece
     pub moves : IsAccepted o.read.shown → 1 ≤ length piece → 1 ≤ o.read.used
-    pub all : o.read.shown ≡ More → o.read.used ≡ length piece
+    pub all : o.read.shown ≡ Ok More → o.read.used ≡ length piece
 
   -- the keep stays as long, and only its first 2,050 bytes are written
   pub record Keeps (o : Outcome) : Type 0 where
@@ -159,22 +152,22 @@ module _ (reader : Reader) (keep piece : List ℕ) where
 
   uses_of : (o : Outcome) → Ways reader keep piece o → Uses o
   uses_of o (refuses_short short q) =
-      subst Uses (sym q) (record { within = omega arith; moves = λ a. absurd a; all = λ s. absurd (omega (arith, ap shown_number s)) })
+      subst Uses (sym q) (record { within = omega arith; moves = λ a. absurd a; all = λ s. cc })
   uses_of o (refuses_state long closed q) =
-      subst Uses (sym q) (record { within = omega arith; moves = λ a. absurd a; all = λ s. absurd (omega (arith, ap shown_number s)) })
+      subst Uses (sym q) (record { within = omega arith; moves = λ a. absurd a; all = λ s. cc })
   uses_of o (refuses_length long good e q) =
-      subst Uses (sym q) (record { within = omega arith; moves = λ a. absurd a; all = λ s. absurd (omega (arith, ap shown_number s)) })
+      subst Uses (sym q) (record { within = omega arith; moves = λ a. absurd a; all = λ s. cc })
   uses_of o (goes_on long good e q) = subst Uses (sym q) (record { within = omega arith; moves = λ a some. some; all = λ s. refl })
   uses_of o (shows_piece size long good e none q) =
       subst Uses (sym q)
       (record {
         within = omega (arith, none, lacked_within size e);
         moves = λ a some. omega (arith, none, lacked_some size good e);
-        all = λ s. absurd (omega (arith, ap shown_number s));
+        all = λ s. cc;
       })
   uses_of o (shows_keep size long good e some q) =
       subst Uses (sym q)
-      (record { within = lacked_within size e; moves = λ a some. lacked_some size good e; all = λ s. absurd (omega (arith, ap shown_number s)) })
+      (record { within = lacked_within size e; moves = λ a some. lacked_some size good e; all = λ s. cc })
 
   kept : (o : Outcome) → o.keep ≡ keep → Keeps o
   kept o e = record { as_long = ap length e; behind = ap (drop 2050) e }
@@ -202,40 +195,36 @@ module _ (reader : Reader) (keep piece : List ℕ) where
 
   -- a frame that is shown has 19 bytes at least, and they stand in the piece, or in the keep
   pub record Shows (o : Outcome) : Type 0 where
-    pub in_the_piece : (size : ℕ) → o.read.shown ≡ InPiece size → (19 ≤ size) × (size ≤ length piece)
-    pub in_the_keep : (size : ℕ) → o.read.shown ≡ InKeep size → (19 ≤ size) × (size ≤ length o.keep)
+    pub in_the_piece : (size : ℕ) → o.read.shown ≡ Ok (InPiece size) → (19 ≤ size) × (size ≤ length piece)
+    pub in_the_keep : (size : ℕ) → o.read.shown ≡ Ok (InKeep size) → (19 ≤ size) × (size ≤ length o.keep)
 
-  -- by a number that is neither 1 nor 2 no frame is shown
-  shows_none : (o : Outcome) (n : ℕ) → shown_number o.read.shown ≡ n → (n ≡ 1 → ⊥) → (n ≡ 2 → ⊥) → Shows o
-  shows_none o n e not-1 not-2 = record {
-    in_the_piece = λ size s. absurd (not-1 (sym e ∙ ap shown_number s));
-    in_the_keep = λ size s. absurd (not-2 (sym e ∙ ap shown_number s));
-  }
+  shows_none : (o : Outcome) → ((size : ℕ) → o.read.shown ≡ Ok (InPiece size) → ⊥) → ((size : ℕ) → o.read.shown ≡ Ok (InKeep size) → ⊥) → Shows o
+  shows_none o no_piece no_keep = record { in_the_piece = λ size s. absurd (no_piece size s); in_the_keep = λ size s. absurd (no_keep size s) }
 
   shows_of : (o : Outcome) → Ways reader keep piece o → Shows o
-  shows_of o (refuses_short short q) = shows_none o 3 (ap (λ (x : Outcome). shown_number x.read.shown) q) (λ e. omega (arith, e)) (λ e. omega (arith, e))
-  shows_of o (refuses_state long closed q) = shows_none o 3 (ap (λ (x : Outcome). shown_number x.read.shown) q) (λ e. omega (arith, e)) (λ e. omega (arith, e))
-  shows_of o (refuses_length long good e q) = shows_none o 3 (ap (λ (x : Outcome). shown_number x.read.shown) q) (λ e. omega (arith, e)) (λ e. omega (arith, e))
-  shows_of o (goes_on long good e q) = shows_none o 0 (ap (λ (x : Outcome). shown_number x.read.shown) q) (λ e. omega (arith, e)) (λ e. omega (arith, e))
+  shows_of o (refuses_short short q) = subst Shows (sym q) (shows_none _ (λ n s. cc) (λ n s. cc))
+  shows_of o (refuses_state long closed q) = subst Shows (sym q) (shows_none _ (λ n s. cc) (λ n s. cc))
+  shows_of o (refuses_length long good e q) = subst Shows (sym q) (shows_none _ (λ n s. cc) (λ n s. cc))
+  shows_of o (goes_on long good e q) = subst Shows (sym q) (shows_none _ (λ n s. cc) (λ n s. cc))
   shows_of o (shows_piece size long good e none q) =
       let w = long_of (held ++ piece) size e in
-      record {
+      subst Shows (sym q)
+      (record {
         in_the_piece = λ n s.
-            let t : InPiece n ≡ InPiece size = sym s ∙ ap (λ (x : Outcome). x.read.shown) q in
             let same : n ≡ size = cc in
             (omega (arith, same, (long_bounds (held ++ piece) size w).0), omega (arith, same, none, w.there, length-append held piece));
-        in_the_keep = λ n s. absurd (omega (arith, ap shown_number (sym s ∙ ap (λ (x : Outcome). x.read.shown) q)));
-      }
+        in_the_keep = λ n s. cc;
+      })
   shows_of o (shows_keep size long good e some q) =
       let w = long_of (held ++ piece) size e in
-      record {
-        in_the_piece = λ n s. absurd (omega (arith, ap shown_number (sym s ∙ ap (λ (x : Outcome). x.read.shown) q)));
+      let as_long = ap (λ (x : Outcome). length x.keep) (sym q) ∙ (keeps_of o (shows_keep size long good e some q)).as_long in
+      subst Shows (sym q)
+      (record {
+        in_the_piece = λ n s. cc;
         in_the_keep = λ n s.
-            let t : InKeep n ≡ InKeep size = sym s ∙ ap (λ (x : Outcome). x.read.shown) q in
             let same : n ≡ size = cc in
-            let as_long = (keeps_of o (shows_keep size long good e some q)).as_long in
             (omega (arith, same, (long_bounds (held ++ piece) size w).0), omega (arith, same, (long_bounds (held ++ piece) size w).1, as_long, long));
-      }
+      })
 
   pub shown_within : Shows (read_frame reader keep piece)
   shown_within = shows_of (read_frame reader keep piece) (ways reader keep piece)

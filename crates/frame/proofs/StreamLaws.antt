@@ -62,7 +62,7 @@ abbrev pub behind : List (List ℕ) → Parted → Parted
 behind frames later = parted (frames ++ later.frames) later.rest
 
 not_bad : {h : List ℕ} → bad ≡ unfinished h → ⊥
-not_bad e = let z : ◌≡◌ {A = ℕ} 0 1 = cc in absurd (omega arith)
+not_bad e = absurd (cc)
 
 -- what holds of a stream that has no frame, and of one with a first frame where it holds of the bytes behind that, holds of every stream
 module _ (P : List ℕ → Type 0) (none : (a : List ℕ) → front a ≡ Unfinished → P a) (wrong : (a : List ℕ) → front a ≡ BadLength → P a)

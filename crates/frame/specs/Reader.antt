@@ -1,12 +1,12 @@
 -- Document 02, Req 01: what a call of the reader answers, and every byte of its keep afterwards.
-use Rattle.std.specs.Prelude.{cond, List, ◌++◌, ℕ, ◌-◌, leb, length, take, drop}
+use Rattle.std.specs.Prelude.{cond, List, ◌++◌, ℕ, ◌-◌, leb, length, take, drop, Ok, Err}
 use Rattle.refusal.specs.declared.Refusal.{Refusal}
 use Rattle.refusal.specs.declared.Refusal.TheVariants.{OutputTooShort, BadFrame}
 use Rattle.frame.specs.declared.Front.{Front}
 use Rattle.frame.specs.declared.Front.TheVariants.{Unfinished, BadLength, Whole}
 use Rattle.frame.specs.declared.Reader.{Reader}
 use Rattle.frame.specs.declared.Shown.{Shown}
-use Rattle.frame.specs.declared.Shown.TheVariants.{More, InPiece, InKeep, Refused}
+use Rattle.frame.specs.declared.Shown.TheVariants.{More, InPiece, InKeep}
 use Rattle.frame.specs.declared.Read.{Read}
 use Rattle.frame.specs.Frames.{front}
 
@@ -36,11 +36,11 @@ pub record Outcome : Type 0 where
   pub keep : List ℕ
 
 abbrev pub shows : Shown → Reader → ℕ → List ℕ → Outcome
-shows shown reader used keep = record { read = record { shown = shown; reader = reader; used = used }; keep = keep }
+shows shown reader used keep = record { read = record { shown = Ok shown; reader = reader; used = used }; keep = keep }
 
 -- "A call [..] counts the bytes used, 0 if refused"
 abbrev pub refused_read : Refusal → Reader → Read
-refused_read why reader = record { shown = Refused why; reader = reader; used = 0 }
+refused_read why reader = record { shown = Err why; reader = reader; used = 0 }
 
 abbrev pub refuses : Refusal → Reader → List ℕ → Outcome
 refuses why reader keep = record { read = refused_read why reader; keep = keep }

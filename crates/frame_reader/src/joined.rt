@@ -1,48 +1,34 @@
 // The bytes held at the front of the keep and the piece behind them, read as one without being put together.
-ghost use Rattle.std.specs.Prelude.{◌++◌, ◌≡◌, ◌+◌, ◌<◌, ◌≤◌, get_or, length, take};
-ghost use Rattle.frame.specs.Frames.{front};
+ghost use Rattle.std.specs.Prelude.{◌++◌, ◌≡◌, ◌<◌, ◌≤◌, length, MatchOption};
+ghost use Rattle.frame.specs.Frames.{length_of, front};
 
 use crate::{LENGTH_BYTES, LONGEST_LENGTH, SHORTEST_LENGTH};
 use frame::Front;
 
-// The byte at an index of them.
-fn byte_at(i: usize, held: usize, keep: &[u8], piece: &[u8]) -> u8
-    requires held_in_bounds { held ≤ length keep.now }
-    requires i_bound { i < held + length piece.now }
-    ensures { result ≡ get_or (take held keep.now ++ piece.now) i 0 }
+// The length at their front, where both of its bytes are there.
+fn length_of(held: &[u8], piece: &[u8]) -> Option<usize>
+    ensures { MatchOption result (length (held.now ++ piece.now) < 2) (λ n. (2 ≤ length (held.now ++ piece.now)) × (n ≡ length_of (held.now ++ piece.now))) }
 {
-    if i < held {
-        return keep[i];
-    }
-    let behind = i - held;
-    piece[behind]
-}
-
-// A byte as a `usize`.
-fn wide(byte: u8) -> usize
-    ensures { result ≡ byte }
-{
-    byte as usize
+    let both = match held {
+        [high, low, ..] => [*high, *low],
+        [high] => [*high, *piece.first()?],
+        [] => *piece.first_chunk()?,
+    };
+    Some(usize::from(u16::from_be_bytes(both)))
 }
 
 // What stands at the front of these bytes. The length is judged "as soon as both length bytes are there".
-pub(crate) fn front_of(held: usize, keep: &[u8], piece: &[u8]) -> Front
-    requires { held ≤ length keep.now }
-    ensures { result ≡ front (take held keep.now ++ piece.now) }
+pub(crate) fn front_of(held: &[u8], piece: &[u8]) -> Front
+    ensures { result ≡ front (held.now ++ piece.now) }
 {
-    let there = held + piece.len();
-    if there < LENGTH_BYTES {
+    let Some(length) = length_of(held, piece) else {
         return Front::Unfinished;
-    }
-    let length = wide(byte_at(0, held, keep, piece)) * 256 + wide(byte_at(1, held, keep, piece));
-    if length < SHORTEST_LENGTH {
-        return Front::BadLength;
-    }
-    if LONGEST_LENGTH < length {
+    };
+    if !(SHORTEST_LENGTH..=LONGEST_LENGTH).contains(&length) {
         return Front::BadLength;
     }
     let size = LENGTH_BYTES + length;
-    if there < size {
+    if held.len() + piece.len() < size {
         return Front::Unfinished;
     }
     Front::Whole(size)

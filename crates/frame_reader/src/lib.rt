@@ -8,7 +8,7 @@
 ghost use Rattle.std.specs.Prelude.{◌≡◌, ◌+◌, ◌≤◌, length, take};
 ghost use Rattle.frame.specs.Frames.{front};
 ghost use Rattle.frame.specs.declared.Front.TheVariants.{Unfinished, Whole};
-ghost use Rattle.frame.specs.Reader.{keep_bytes, reader_holding, refused_read, read_front, read_held, read_frame};
+ghost use Rattle.frame.specs.Reader.{keep_bytes, refused_read, read_front, read_held, read_frame};
 
 mod joined;
 pub mod shown;
@@ -27,7 +27,9 @@ pub(crate) const LONGEST_LENGTH: usize = 2048;
 pub const KEEP_BYTES: usize = LENGTH_BYTES + LONGEST_LENGTH;
 
 // What a reader holds after 18. Such a reader is refused whatever the keep holds, "until begun anew".
-const BROKEN: usize = KEEP_BYTES + 1;
+const BROKEN: Reader = Reader {
+    held: KEEP_BYTES + 1,
+};
 
 // Reads a piece of the stream: 10, 18. A frame that stands whole in the piece is shown there and nothing is copied; one that began in an earlier piece is
 // finished in the keep and shown there.
@@ -37,34 +39,32 @@ pub fn read(reader: Reader, keep: &mut [u8], piece: &[u8]) -> Read
 {
     let held = reader.held;
     if keep.len() < KEEP_BYTES {
-        return refused(Refusal::OutputTooShort, held);
+        return refused(Refusal::OutputTooShort, reader);
     }
     // no unfinished frame is so long; from here on what is held lies within the keep
     if KEEP_BYTES <= held {
         return refused(Refusal::BadFrame, BROKEN);
     }
     // the bytes held alone, before the piece is looked at
-    let state = joined::front_of(held, keep, &piece[..0]);
-    match state {
+    match joined::front_of(&keep[..held], &piece[..0]) {
         Front::Unfinished => go_on(held, keep, piece),
-        Front::BadLength => refused(Refusal::BadFrame, BROKEN),
-        Front::Whole(_) => refused(Refusal::BadFrame, BROKEN),
+        Front::BadLength | Front::Whole(_) => refused(Refusal::BadFrame, BROKEN),
     }
 }
 
 // "A call [..] counts the bytes used, 0 if refused".
-fn refused(why: Refusal, held: usize) -> Read
-    ensures { result ≡ refused_read why (reader_holding held) }
+fn refused(why: Refusal, reader: Reader) -> Read
+    ensures { result ≡ refused_read why reader }
 {
-    let reader = Reader { held };
     Read {
-        shown: Shown::Refused(why),
+        shown: Err(why),
         reader,
         used: 0,
     }
 }
 
-// The piece goes on after the bytes held, which start an unfinished frame.
+// The piece goes on after the bytes held, which start an unfinished frame. Here and below the keep is lent by itself, not in a struct beside the number and the
+// piece, so that each contract says what is left in it.
 fn go_on(held: usize, keep: &mut [u8], piece: &[u8]) -> Read
     requires long_keep { keep_bytes ≤ length keep.old }
     requires held_in_keep { held ≤ length keep.old }
@@ -72,8 +72,7 @@ fn go_on(held: usize, keep: &mut [u8], piece: &[u8]) -> Read
     ensures value { result ≡ (read_held Unfinished (take held keep.old) piece.now keep.old).read }
     ensures keep_after { keep.new ≡ (read_held Unfinished (take held keep.old) piece.now keep.old).keep }
 {
-    let next = joined::front_of(held, keep, piece);
-    match next {
+    match joined::front_of(&keep[..held], piece) {
         Front::Unfinished => hold(held, keep, piece),
         Front::BadLength => refused(Refusal::BadFrame, BROKEN),
         Front::Whole(size) => finish(size, held, keep, piece),
@@ -89,10 +88,9 @@ fn hold(held: usize, keep: &mut [u8], piece: &[u8]) -> Read
     let used = piece.len();
     let all = held + used;
     keep[held..all].copy_from_slice(piece);
-    let reader = Reader { held: all };
     Read {
-        shown: Shown::More,
-        reader,
+        shown: Ok(Shown::More),
+        reader: Reader { held: all },
         used,
     }
 }
@@ -108,7 +106,7 @@ fn finish(size: usize, held: usize, keep: &mut [u8], piece: &[u8]) -> Read
     let reader = Reader { held: 0 };
     if held == 0 {
         return Read {
-            shown: Shown::InPiece(size),
+            shown: Ok(Shown::InPiece(size)),
             reader,
             used: size,
         };
@@ -116,7 +114,7 @@ fn finish(size: usize, held: usize, keep: &mut [u8], piece: &[u8]) -> Read
     let lacked = size - held;
     keep[held..size].copy_from_slice(&piece[..lacked]);
     Read {
-        shown: Shown::InKeep(size),
+        shown: Ok(Shown::InKeep(size)),
         reader,
         used: lacked,
     }

@@ -12,18 +12,13 @@ use lib.Dec.{leb}
 use lib.IntN.{ℤ, pos}
 use lib.ListN.{length}
 use borrow.Author.Tests.{leb-true, leb-false}
+use Rattle.std.proofs.Common.{Result, Ok, Err}
 use Rattle.refusal.specs.declared.Refusal.{Refusal}
 use Rattle.refusal.specs.declared.Refusal.TheVariants.{BucketsNotWhole}
 use Rattle.key.specs.declared.Key.{Key}
 use Rattle.key.specs.Keys.{same_key}
 use Rattle.key.proofs.Same.{same_refl}
 use Rattle.node.specs.declared.Node.{Node}
-use Rattle.node.specs.declared.writer.Written.{Written}
-use Rattle.node.specs.declared.writer.Written.TheVariants as written
-use Rattle.nearest.specs.declared.Answer.{Answer}
-use Rattle.nearest.specs.declared.Answer.TheVariants as answer
-use Rattle.nearest.specs.declared.OfferAnswer.{OfferAnswer}
-use Rattle.nearest.specs.declared.OfferAnswer.TheVariants as offer
 use Rattle.nearest.specs.Lists.{node_key}
 use Rattle.nearest.specs.Effect.{holds}
 use Rattle.nearest.specs.Calls.{offer_answer}
@@ -40,7 +35,7 @@ use Rattle.buckets_laws.proofs.HeldLaws.{held_apart, base_not_held}
 use Rattle.buckets_laws.proofs.OfferLaws.{held_stays, offered_only, offered_others, kept_is_held, unkept_leaves, unknown_refused}
 use Rattle.buckets_laws.proofs.OfferedBucket.{offered_answer, offered_base}
 use Rattle.buckets_laws.proofs.Theorems.{answers_as_a_list, answer_written, answer_no_room, answer_not_whole, reached_whole, offer_never_refused, question_never_refused}
-use Rattle.banavoge_laws.specs.Answers.{refusal_code, ToldAs}
+use Rattle.banavoge_laws.specs.Answers.{refusal_code, written_code, ToldAs}
 use Rattle.banavoge_laws.specs.Nodes.{node_written_code}
 use Rattle.banavoge_laws.specs.Nearest.{done_code, kept_code}
 use Rattle.histories.specs.ExportedCalls.{Below0}
@@ -50,27 +45,27 @@ use Rattle.histories.proofs.Answered.{below_not, same_refusal}
 
 -- ---- the number tells the answer
 
-done_number : (a : Answer) → pos 0 ≡ done_code a → a ≡ answer.Done
+done_number : (a : Result (Unit {0}) Refusal) → pos 0 ≡ done_code a → a ≡ Ok tt
 unfolding done_code
-done_number answer.Done e = refl
-done_number (answer.Refused why) e = absurd (below_not why 0 (sym e))
+done_number (Ok done) e = refl
+done_number (Err why) e = absurd (below_not why 0 (sym e))
 
-kept_number : (a : OfferAnswer) → pos 1 ≡ kept_code a → a ≡ offer.Kept
+kept_number : (a : Result Bool Refusal) → pos 1 ≡ kept_code a → a ≡ Ok true
 unfolding kept_code
-kept_number offer.Kept e = refl
-kept_number offer.NotKept e = let z : ◌≡◌ {A = ℕ} 0 1 = cc in absurd (omega arith)
-kept_number (offer.Refused why) e = absurd (below_not why 1 (sym e))
+kept_number (Ok true) e = refl
+kept_number (Ok false) e = absurd (cc)
+kept_number (Err why) e = absurd (below_not why 1 (sym e))
 
-refused_number : (a : OfferAnswer) (why : Refusal) → kept_code a ≡ refusal_code why → a ≡ offer.Refused why
+refused_number : (a : Result Bool Refusal) (why : Refusal) → kept_code a ≡ refusal_code why → a ≡ Err why
 unfolding kept_code
-refused_number offer.Kept why e = absurd (below_not why 1 (sym e))
-refused_number offer.NotKept why e = absurd (below_not why 0 (sym e))
-refused_number (offer.Refused other) why e = ap offer.Refused (same_refusal other why e)
+refused_number (Ok true) why e = absurd (below_not why 1 (sym e))
+refused_number (Ok false) why e = absurd (below_not why 0 (sym e))
+refused_number (Err other) why e = ap Err (same_refusal other why e)
 
-unwritten_number : (w : Written) (why : Refusal) → node_written_code w ≡ refusal_code why → w ≡ written.Refused why
-unfolding node_written_code
-unwritten_number (written.Bytes count) why e = absurd (below_not why count (sym e))
-unwritten_number (written.Refused other) why e = ap written.Refused (same_refusal other why e)
+unwritten_number : (w : Result ℕ Refusal) (why : Refusal) → node_written_code w ≡ refusal_code why → w ≡ Err why
+unfolding node_written_code written_code
+unwritten_number (Ok count) why e = absurd (below_not why count (sym e))
+unwritten_number (Err other) why e = ap Err (same_refusal other why e)
 
 -- ---- what a refused call leaves, of any memory
 
@@ -78,19 +73,19 @@ pub begin_below_0 : {base : Key} {memory left : List ℕ} {z : ℤ} → ToldAs d
 unfolding done_code
 begin_below_0 {base} {memory} {left} c below = go c.given c.relates (subst Below0 c.codes below)
   where
-    go : (a : Answer) → Begins base memory left a → Below0 (done_code a) → left ≡ memory
-    go answer.Done is l = absurd l
-    go (answer.Refused why) is l = (begin_refused is).2
+    go : (a : Result (Unit {0}) Refusal) → Begins base memory left a → Below0 (done_code a) → left ≡ memory
+    go (Ok done) is l = absurd l
+    go (Err why) is l = (begin_refused is).2
 
 -- an offer that is not answered 1
 pub offer_not_1 : {n : Node} {memory left : List ℕ} {z : ℤ} → ToldAs kept_code (Offers n memory left) z → (z ≡ pos 1 → ⊥) → left ≡ memory
-offer_not_1 c d = unkept_leaves c.relates (λ (e : c.given ≡ offer.Kept). d (c.codes ∙ ap kept_code e ∙ (unfold kept_code in refl)))
+offer_not_1 c d = unkept_leaves c.relates (λ (e : c.given ≡ Ok true). d (c.codes ∙ ap kept_code e ∙ (unfold kept_code in refl)))
 
 pub offer_below_0 : {n : Node} {memory left : List ℕ} {z : ℤ} → ToldAs kept_code (Offers n memory left) z → Below0 z → left ≡ memory
 offer_below_0 c below = offer_not_1 c (λ e. subst Below0 e below)
 
 pub question_below_0 : {target : Key} {memory out left : List ℕ} {z : ℤ} → ToldAs node_written_code (Asks target memory out left) z → Below0 z → left ≡ out
-unfolding node_written_code
+unfolding node_written_code written_code
 question_below_0 {target} {memory} {out} {left} {z} c below = go (buckets_whole memory) refl (leb (length (answer_bytes memory target.0)) (length out)) refl
   where
     go : (t : Bool) → buckets_whole memory ≡ t → (u : Bool) → leb (length (answer_bytes memory target.0)) (length out) ≡ u → left ≡ out
@@ -148,7 +143,7 @@ module _ {base : Key} {m : List ℕ} (r : Reached base m) where
 
   module _ {target : Key} {number : ℤ} {out left : List ℕ} (c : ToldAs node_written_code (Asks target m out left) number) where
     question_answers : QuestionAnswered (nearest_written m target) out number left
-    unfolding nearest_written node_written_code
+    unfolding nearest_written node_written_code written_code
     question_answers =
         let is = c.relates in
         let whole = (reached_whole r).0 in

@@ -8,7 +8,7 @@ use borrow.Author.Tests.{le-leb}
 use Rattle.wire.specs.Numbers.{Bytes}
 use Rattle.key.specs.declared.Key.{Key}
 use Rattle.key.specs.Keys.{IsKey}
-use Rattle.nearest.specs.declared.Answer.TheVariants as answer
+use Rattle.std.proofs.Common.{Ok}
 use Rattle.buckets_laws.specs.Layout.{buckets_length}
 use Rattle.buckets_laws.specs.Calls.{begun_answer, begun_memory, Begins, offer_answered, offer_left, Offers, nearest_answered, nearest_left, Asks}
 use Rattle.buckets_laws.proofs.BeginLaws.{begin_bytes}
@@ -50,7 +50,7 @@ chained (asking target out ∷ calls) f m b =
     }
 
 begin_of : (base : Key) → IsKey base.0 → (memory : List ℕ) → Bytes memory → buckets_length ≤ length memory
-    → Begins base memory (begun_memory base memory) answer.Done
+    → Begins base memory (begun_memory base memory) (Ok tt)
 unfolding begun_answer
 begin_of base k memory b long = record { bytes = b; key = k; answers = rw (le-leb 106784 (length memory) long); leaves = refl }
 
@@ -64,7 +64,7 @@ every_buckets base k memory b long calls f =
       left = rest.left;
       history = record {
         memory = begun_memory base memory;
-        begun = record { memory = memory; begins = record { given = answer.Done; relates = is; codes = unfold done_code in refl } };
+        begun = record { memory = memory; begins = record { given = Ok tt; relates = is; codes = unfold done_code in refl } };
         chain = rest.chain;
       };
       are = rest.are;

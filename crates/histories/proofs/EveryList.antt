@@ -12,7 +12,7 @@ use Rattle.refusal.specs.declared.Refusal.TheVariants.{ListSize}
 use Rattle.key.specs.declared.Key.{Key}
 use Rattle.key.specs.Keys.{IsKey}
 use Rattle.nearest.specs.declared.NearestList.{NearestList}
-use Rattle.nearest.specs.declared.Answer.TheVariants as answer
+use Rattle.std.proofs.Common.{Ok, Err}
 use Rattle.nearest.specs.Lists.{default_size, size_right}
 use Rattle.nearest.specs.Calls.{begun, offered, removed}
 use Rattle.lent_list_laws.specs.Layout.{list_length, list_at, stored, Storable}
@@ -73,7 +73,7 @@ chained (reading index before ∷ calls) f m h =
     let shown = held_at m index in
     let rest = chained calls f m h in
     record {
-      seen_as = list_event (reading index before) (held_code shown.held) (held_after shown.held shown.node before) ∷ rest.seen_as;
+      seen_as = list_event (reading index before) (held_code shown) (held_after shown before) ∷ rest.seen_as;
       left = rest.left;
       chain = next (list.reads index _ before _ (record { answers = refl; leaves = refl }) refl refl) rest.chain;
       are = ap (λ (x : List ListCall). reading index before ∷ x) rest.are;
@@ -84,16 +84,16 @@ begins : (target : Key) (asked : ℕ) → IsKey target.0 → (memory : List ℕ)
     → ListBegun target (cond (size_right asked) asked default_size) (stored (begun target asked).list memory)
 begins target asked k memory long = go (size_right asked) refl
   where
-    answers : (t : Bool) → size_right asked ≡ t → cond t answer.Done (answer.Refused ListSize) ≡ begun_answer (begun target asked).answer memory
+    answers : (t : Bool) → size_right asked ≡ t → cond t (Ok tt) (Err ListSize) ≡ begun_answer (begun target asked).answer memory
     answers true e = sym (begun_answer_lem target asked memory ∙ simp (e, le-leb 850 (length memory) long))
     answers false e = sym (begun_answer_lem target asked memory ∙ simp e)
 
     go : (t : Bool) → size_right asked ≡ t → ListBegun target (cond t asked default_size) (stored (begun target asked).list memory)
     go true e =
-        of_size memory (record { given = answer.Done; relates = record { key = k; answers = answers true e; leaves = refl }; codes = unfold done_code in refl })
+        of_size memory (record { given = Ok tt; relates = record { key = k; answers = answers true e; leaves = refl }; codes = unfold done_code in refl })
     go false e =
         of_bad_size asked memory long
-        (record { given = answer.Refused ListSize; relates = record { key = k; answers = answers false e; leaves = refl }; codes = unfold done_code in refl })
+        (record { given = Err ListSize; relates = record { key = k; answers = answers false e; leaves = refl }; codes = unfold done_code in refl })
 
 pub every_list_history : (target : Key) (asked : ℕ) → IsKey target.0 → (memory : List ℕ) → list_length ≤ length memory → Bytes memory
     → (calls : List ListCall) → FitsCalls calls → ListHistoryOf target (cond (size_right asked) asked default_size) calls

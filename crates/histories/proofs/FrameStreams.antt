@@ -9,11 +9,12 @@ use native.Mathlib.Omega.{arith}
 use lib.IntN.{ℤ, pos}
 use lib.ListN.{length, take, drop, length-take, take-append-drop}
 use lib.Seq.{take-add, take-take, take_all}
+use Rattle.std.proofs.Common.{Result, Ok, Err}
 use Rattle.refusal.specs.declared.Refusal.{Refusal}
 use Rattle.refusal.specs.declared.Refusal.TheVariants.{OutputTooShort, BadFrame}
 use Rattle.frame.specs.declared.Front.TheVariants.{Unfinished, Whole}
 use Rattle.frame.specs.declared.Shown.{Shown}
-use Rattle.frame.specs.declared.Shown.TheVariants.{More, InPiece, InKeep, Refused}
+use Rattle.frame.specs.declared.Shown.TheVariants.{More, InPiece, InKeep}
 use Rattle.frame.specs.Frames.{front, unfinished, bad, Parted, parted, frames_of, concatenated, AllWhole}
 use Rattle.frame.specs.Reader.{reader_holding, held_bytes, Outcome, read_frame}
 use Rattle.frame.proofs.FrontLaws.{front_few}
@@ -29,33 +30,31 @@ use Rattle.histories.proofs.Answered.{below_zero, below_not, same_refusal}
 
 -- ---- the number answered tells what is shown
 
-accepted_number : (s : Shown) (n : ℕ) → shown_code s ≡ pos n → IsAccepted s
+accepted_number : (s : Result Shown Refusal) (n : ℕ) → shown_code s ≡ pos n → IsAccepted s
 unfolding shown_code
-accepted_number More n e = tt
-accepted_number (InPiece end) n e = tt
-accepted_number (InKeep end) n e = tt
-accepted_number (Refused why) n e = below_not why n e
+accepted_number (Ok shown) n e = tt
+accepted_number (Err why) n e = below_not why n e
 
-more_number : (s : Shown) → shown_code s ≡ pos 0 → s ≡ More
+more_number : (s : Result Shown Refusal) → shown_code s ≡ pos 0 → s ≡ Ok More
 unfolding shown_code
-more_number More e = refl
-more_number (InPiece end) e = absurd (let z : ◌≡◌ {A = ℕ} 1 0 = cc in omega arith)
-more_number (InKeep end) e = absurd (let z : ◌≡◌ {A = ℕ} 2 0 = cc in omega arith)
-more_number (Refused why) e = absurd (below_not why 0 e)
+more_number (Ok More) e = refl
+more_number (Ok (InPiece end)) e = absurd (cc)
+more_number (Ok (InKeep end)) e = absurd (cc)
+more_number (Err why) e = absurd (below_not why 0 e)
 
-seen_as_shown : (s : Shown) (before : ℕ) (piece left : List ℕ) → frames_seen (shown_code s) (end_after s before) piece left ≡ frames_shown s left piece
+seen_as_shown : (s : Result Shown Refusal) (before : ℕ) (piece left : List ℕ) → frames_seen (shown_code s) (end_after s before) piece left ≡ frames_shown s left piece
 unfolding shown_code end_after frames_seen
-seen_as_shown More before piece left = refl
-seen_as_shown (InPiece end) before piece left = refl
-seen_as_shown (InKeep end) before piece left = refl
-seen_as_shown (Refused why) before piece left = ap (λ (z : ℤ). frames_seen z before piece left) (below_zero why).is
+seen_as_shown (Ok More) before piece left = refl
+seen_as_shown (Ok (InPiece end)) before piece left = refl
+seen_as_shown (Ok (InKeep end)) before piece left = refl
+seen_as_shown (Err why) before piece left = ap (λ (z : ℤ). frames_seen z before piece left) (below_zero why).is
 
-refused_number : (s : Shown) (why : Refusal) → shown_code s ≡ refusal_code why → s ≡ Refused why
+refused_number : (s : Result Shown Refusal) (why : Refusal) → shown_code s ≡ refusal_code why → s ≡ Err why
 unfolding shown_code
-refused_number More why e = absurd (below_not why 0 (sym e))
-refused_number (InPiece end) why e = absurd (below_not why 1 (sym e))
-refused_number (InKeep end) why e = absurd (below_not why 2 (sym e))
-refused_number (Refused other) why e = ap Refused (same_refusal other why e)
+refused_number (Ok More) why e = absurd (below_not why 0 (sym e))
+refused_number (Ok (InPiece end)) why e = absurd (below_not why 1 (sym e))
+refused_number (Ok (InKeep end)) why e = absurd (below_not why 2 (sym e))
+refused_number (Err other) why e = ap Err (same_refusal other why e)
 
 -- ---- one call
 
@@ -109,15 +108,15 @@ module _ {held : ℕ} {keep piece left : List ℕ} {answer : ℤ} {after : Frame
   copied_by o (goes_on long good f q) a l =
       let zero_answered = a ∙ ap (λ (x : Outcome). shown_code x.read.shown) q in
       record {
-        in_piece = λ e. absurd (let z : ◌≡◌ {A = ℕ} 0 1 = cc in omega arith);
-        in_keep = λ e. absurd (let z : ◌≡◌ {A = ℕ} 0 2 = cc in omega arith);
+        in_piece = λ e. absurd (cc);
+        in_keep = λ e. absurd (cc);
       }
   copied_by o (shows_piece size long good f no_bytes q) a l =
       let one-answered = a ∙ ap (λ (x : Outcome). shown_code x.read.shown) q in
-      record { in_piece = λ e. l ∙ ap (λ (x : Outcome). x.keep) q; in_keep = λ e. absurd (let z : ◌≡◌ {A = ℕ} 1 2 = cc in omega arith) }
+      record { in_piece = λ e. l ∙ ap (λ (x : Outcome). x.keep) q; in_keep = λ e. absurd (cc) }
   copied_by o (shows_keep size long good f some q) a l =
       let two-answered = a ∙ ap (λ (x : Outcome). shown_code x.read.shown) q in
-      record { in_piece = λ e. absurd (let z : ◌≡◌ {A = ℕ} 2 1 = cc in omega arith); in_keep = λ e. omega (arith, some, length-take held keep) }
+      record { in_piece = λ e. absurd (cc); in_keep = λ e. omega (arith, some, length-take held keep) }
 
   pub copied_only : CopiedOnly held keep answer left
   copied_only = copied_by outcome (ways (reader_holding held) keep piece) c.reads.answers c.reads.leaves

@@ -162,7 +162,7 @@ module _ (s n : ℕ) (b : List ℕ) (begun : BeginsEmpty s n b) where
       → (fits_room s n memory ≡ true) × (b ≡ emptied s n memory)
   unfolding done_or refusal_code
   made_empty memory true m e = (sym m.answers, m.leaves ∙ ap (λ (t : Bool). cond t (emptied s n memory) memory) (sym m.answers))
-  made_empty memory false m e = let z : ◌≡◌ {A = ℕ} 0 1 = cc in absurd (omega arith)
+  made_empty memory false m e = absurd (cc)
 
   begun_emptied : (fits_room s n begun.memory ≡ true) × (b ≡ emptied s n begun.memory)
   begun_emptied = made_empty begun.memory begun.empties.given begun.empties.relates begun.empties.codes

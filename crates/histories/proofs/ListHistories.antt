@@ -11,6 +11,8 @@ use lib.Dec.{leb}
 use lib.IntN.{ℤ, pos, negsuc}
 use lib.ListN.{length, get_or}
 use borrow.Author.Tests.{le-leb, lt-leb, leb-true}
+use Rattle.std.proofs.Common.{Option, Some, None, Result, Ok, Err}
+use Rattle.refusal.specs.declared.Refusal.{Refusal}
 use Rattle.refusal.specs.declared.Refusal.TheVariants.{ListSize, KeyNotHeld, ListNotWhole, UnknownFamily}
 use Rattle.key.specs.declared.Key.{Key}
 use Rattle.key.specs.Keys.{IsKey}
@@ -18,15 +20,10 @@ use Rattle.node.specs.declared.Node.{Node}
 use Rattle.node.specs.Families.{known_family}
 use Rattle.node.specs.Values.{blank_node}
 use Rattle.nearest.specs.declared.NearestList.{NearestList}
-use Rattle.nearest.specs.declared.Answer.{Answer}
-use Rattle.nearest.specs.declared.Answer.TheVariants as answer
-use Rattle.nearest.specs.declared.OfferAnswer.{OfferAnswer}
-use Rattle.nearest.specs.declared.OfferAnswer.TheVariants as offer
-use Rattle.nearest.specs.declared.Begun.{Begun}
-use Rattle.nearest.specs.declared.Removed.{Removed}
+use Rattle.nearest.specs.declared.Answered.{Answered}
 use Rattle.nearest.specs.Lists.{held, holding, empty_of, size_right}
 use Rattle.nearest.specs.Effect.{holds, without, kept}
-use Rattle.nearest.specs.Calls.{begun, checked, offer_answer, effect_on, not_offered, taken, offered_after, offered, removed_after, removed}
+use Rattle.nearest.specs.Calls.{begun, checked, effect_on, not_offered, taken, offered_after, offered, removed_after, removed}
 use Rattle.nearest.specs.Sequence.{offers, refused_offer, accepted, Nearest, Keyed, Reached}
 use Rattle.nearest.specs.Sequence as reached
 use Rattle.nearest.proofs.Judge.{size_bounds, bounds_size, whole}
@@ -34,8 +31,6 @@ use Rattle.nearest.proofs.Holding.{held_length}
 use Rattle.nearest.proofs.ListOf.{begun_bad}
 use Rattle.nearest.proofs.KNearest.{offers_hold_nearest}
 use Rattle.nearest.proofs.Kept.{reached_whole}
-use Rattle.lent_list.specs.declared.Held.TheVariants as found
-use Rattle.lent_list.specs.declared.HeldNode.{HeldNode}
 use Rattle.lent_list_laws.specs.Layout.{list_at, stored, Storable}
 use Rattle.lent_list_laws.specs.Calls.{begun_answer, Begins, offer_answered, remove_answered}
 use Rattle.lent_list.specs.Held.{held_at}
@@ -100,20 +95,20 @@ record Sized (target : Key) (size : ℕ) (m : List ℕ) : Type 0 where
   stands : HoldsList target size m (begun target size).list
 
 -- the answer to a beginning, by whether the size is right and the memory long enough
-sized_long : (t u : Bool) → answer.Done ≡ cond t (cond u answer.Done (answer.Refused ListNotWhole)) (answer.Refused ListSize) → (t ≡ true) × (u ≡ true)
+sized_long : (t u : Bool) → ◌≡◌ {A = Result (Unit {0}) Refusal} (Ok tt) (cond t (cond u (Ok tt) (Err ListNotWhole)) (Err ListSize)) → (t ≡ true) × (u ≡ true)
 sized_long true true e = (refl, refl)
-sized_long true false e = let z : ◌≡◌ {A = ℕ} 0 1 = cc in absurd (omega arith)
-sized_long false u e = let z : ◌≡◌ {A = ℕ} 0 1 = cc in absurd (omega arith)
+sized_long true false e = absurd (cc)
+sized_long false u e = absurd (cc)
 
 module _ (target : Key) (size : ℕ) where
   pub begun_answer_lem : (memory : List ℕ)
-      → begun_answer (begun target size).answer memory ≡ cond (size_right size) (cond (leb 850 (length memory)) answer.Done (answer.Refused ListNotWhole)) (answer.Refused ListSize)
+      → begun_answer (begun target size).answer memory ≡ cond (size_right size) (cond (leb 850 (length memory)) (Ok tt) (Err ListNotWhole)) (Err ListSize)
   unfolding begun begun_answer
   begun_answer_lem memory = go (size_right size)
     where
       go : (t : Bool)
-          → begun_answer (cond {A = Begun} t (record { list = empty_of target size; answer = answer.Done }) (record { list = empty_of target 8; answer = answer.Refused ListSize })).answer memory
-          ≡ cond t (cond (leb 850 (length memory)) answer.Done (answer.Refused ListNotWhole)) (answer.Refused ListSize)
+          → begun_answer (cond {A = Answered (Unit {0})} t (record { list = empty_of target size; answer = Ok tt }) (record { list = empty_of target 8; answer = Err ListSize })).answer memory
+          ≡ cond t (cond (leb 850 (length memory)) (Ok tt) (Err ListNotWhole)) (Err ListSize)
       go true = refl
       go false = refl
 
@@ -122,10 +117,10 @@ module _ (target : Key) (size : ℕ) where
   begun_list e = simp e
 
 -- of the size asked for
-asked_begins : (target : Key) (size : ℕ) (memory m : List ℕ) (a : Answer) → Begins target size memory m a → pos 0 ≡ done_code a → Sized target size m
+asked_begins : (target : Key) (size : ℕ) (memory m : List ℕ) (a : Result (Unit {0}) Refusal) → Begins target size memory m a → pos 0 ≡ done_code a → Sized target size m
 unfolding done_code
-asked_begins target size memory m (answer.Refused why) b z = absurd (below_not why 0 (sym z))
-asked_begins target size memory m answer.Done b z =
+asked_begins target size memory m (Err why) b z = absurd (below_not why 0 (sym z))
+asked_begins target size memory m (Ok done) b z =
     let w = sized_long (size_right size) (leb 850 (length memory)) (b.answers ∙ begun_answer_lem target size memory) in
     let s = size_bounds size w.0 in
     record {
@@ -136,13 +131,13 @@ asked_begins target size memory m answer.Done b z =
     }
 
 -- of size 8, where a bad size was asked for
-bad_begins : (target : Key) (size : ℕ) (memory m : List ℕ) (a : Answer) → 850 ≤ length memory → Begins target size memory m a → refusal_code ListSize ≡ done_code a
+bad_begins : (target : Key) (size : ℕ) (memory m : List ℕ) (a : Result (Unit {0}) Refusal) → 850 ≤ length memory → Begins target size memory m a → refusal_code ListSize ≡ done_code a
     → Sized target 8 m
 bad_begins target size memory m a h b z = go (size_right size) refl
   where
     go : (t : Bool) → size_right size ≡ t → Sized target 8 m
     go true e =
-        let done : a ≡ answer.Done = b.answers ∙ begun_answer_lem target size memory ∙ simp (e, le-leb 850 (length memory) h) in
+        let done : a ≡ Ok tt = b.answers ∙ begun_answer_lem target size memory ∙ simp (e, le-leb 850 (length memory) h) in
         absurd (below_not ListSize 0 (z ∙ ap done_code done ∙ (unfold done_code in refl)))
     go false e =
         record {
@@ -151,7 +146,7 @@ bad_begins target size memory m a h b z = go (size_right size) refl
           key = b.key;
           stands =
               stored_holds memory m (begun target 8).list h (begin_storable target 8 b.key) reached.begins
-              (b.leaves ∙ ap (λ (x : Begun). stored x.list memory) (begun_bad target size e));
+              (b.leaves ∙ ap (λ (x : Answered (Unit {0})). stored x.list memory) (begun_bad target size e));
         }
 
 begin_sized : {target : Key} {size : ℕ} {m : List ℕ} → ListBegun target size m → Sized target size m
@@ -160,12 +155,12 @@ begin_sized {target} {size} {m} (of_bad_size asked memory h c) = bad_begins targ
 
 -- ---- the numbers of calls on a list that keeps its rules
 
-module _ (l : NearestList) (w : checked l ≡ answer.Done) where
+module _ (l : NearestList) (w : checked l ≡ Ok tt) where
   offer_unbroken : (n : Node) → Unbroken (kept_code (offered l n).answer)
-  unfolding offered offered_after taken offer_answer kept_code
+  unfolding offered offered_after taken kept_code
   offer_unbroken n = rw w (go (known_family n.family) (kept (effect_on l n)))
     where
-      go : (t u : Bool) → Unbroken (kept_code (cond t (record { list = (taken l n).list; answer = offer_answer u }) (not_offered l UnknownFamily)).answer)
+      go : (t u : Bool) → Unbroken (kept_code (cond t (record { list = (taken l n).list; answer = Ok u }) (not_offered l UnknownFamily)).answer)
       go true true = above_unbroken 1
       go true false = above_unbroken 0
       go false u = family_unbroken
@@ -175,15 +170,15 @@ module _ (l : NearestList) (w : checked l ≡ answer.Done) where
   remove_unbroken key = rw w (go (holds key.0 (held l)))
     where
       go : (t : Bool)
-          → Unbroken (done_code (cond {A = Removed} t (record { list = holding l (without key.0 (held l)); answer = answer.Done }) (record { list = l; answer = answer.Refused KeyNotHeld })).answer)
+          → Unbroken (done_code (cond {A = Answered (Unit {0})} t (record { list = holding l (without key.0 (held l)); answer = Ok tt }) (record { list = l; answer = Err KeyNotHeld })).answer)
       go true = above_unbroken 0
       go false = not_held_unbroken
 
-  read_unbroken : (index : ℕ) → Unbroken (held_code (lent.held_after (checked l) l index).held)
+  read_unbroken : (index : ℕ) → Unbroken (held_code (lent.held_after (checked l) l index))
   unfolding lent.held_after held_code
   read_unbroken index = rw w (go (leb l.count index))
     where
-      go : (t : Bool) → Unbroken (held_code (cond t (lent.nothing_shown found.Nothing) (record { held = found.Node; node = get_or (held l) index blank_node })).held)
+      go : (t : Bool) → Unbroken (held_code (Ok (cond t None (Some (get_or (held l) index blank_node)))))
       go true = above_unbroken 0
       go false = above_unbroken 1
 
@@ -197,7 +192,7 @@ record Steps (target : Key) (size : ℕ) (l : NearestList) (e : ListEvent) (m' :
   keyed : (n : Node) → e.call ≡ offering n → IsKey n.key.0
 
 module _ {target : Key} {size : ℕ} (least : 1 ≤ size) (most : size ≤ 16) (ht : IsKey target.0) {m : List ℕ} {l : NearestList} (s : HoldsList target size m l) where
-  keeps_rules : checked l ≡ answer.Done
+  keeps_rules : checked l ≡ Ok tt
   keeps_rules = reached_whole target size least most ht s.reached
 
   offer_answer_lem : (n : Node) → offer_answered m n ≡ (offered l n).answer
@@ -234,18 +229,17 @@ module _ {target : Key} {size : ℕ} (least : 1 ≤ size) (most : size ≤ 16) (
             stored_holds m m' (removed l key).list s.long (remove_storable l s.storable key) (reached.removing s.reached key)
             (r.leaves ∙ ap (λ (x : NearestList). stored (removed x key).list m) s.is);
         unbroken = subst Unbroken (sym z) (remove_unbroken l keeps_rules key);
-        keyed = λ x f. let z : ◌≡◌ {A = ℕ} 0 1 = cc in absurd (omega arith);
+        keyed = λ x f. absurd (cc);
       })
   step_runs {e} {m'} (list.reads index number before after c same q) =
       let h = shown_held index in
-      let z : number ≡ held_code (lent.held_after (checked l) l index).held = c.answers ∙ ap (λ (x : HeldNode). held_code x.held) h in
-      let p : after ≡ told.held_after (lent.held_after (checked l) l index).held (lent.held_after (checked l) l index).node before =
-      c.leaves ∙ ap (λ (x : HeldNode). told.held_after x.held x.node before) h in
+      let z : number ≡ held_code (lent.held_after (checked l) l index) = c.answers ∙ ap held_code h in
+      let p : after ≡ told.held_after (lent.held_after (checked l) l index) before = c.leaves ∙ ap (λ (x : Result (Option Node) Refusal). told.held_after x before) h in
       rw q (record {
         event_is = ap₂ (λ (x : ℤ) (y : HeldPlaces). list_event (reading index before) x y) z p;
         stands = subst (λ (x : List ℕ). HoldsList target size x l) (sym same) s;
         unbroken = subst Unbroken (sym z) (read_unbroken l keeps_rules index);
-        keyed = λ x f. let z : ◌≡◌ {A = ℕ} 0 1 = cc in absurd (omega arith);
+        keyed = λ x f. absurd (cc);
       })
 
 -- ---- any calls
@@ -313,30 +307,30 @@ reads_back : {target : Key} {size : ℕ} (least : 1 ≤ size) (most : size ≤ 1
 reads_back {target} {size} least most ht {m} {l} s = record {
   shown = λ index number before after c i.
       let k : index < l.count = let n = counted in omega arith in
-      let z = c.answers ∙ ap (λ (x : HeldNode). held_code x.held) (is index ∙ node index k) in
+      let z = c.answers ∙ ap held_code (is index ∙ node index k) in
       let p : after ≡ held_places_of (get_or (held l) index blank_node) =
-      c.leaves ∙ ap (λ (x : HeldNode). told.held_after x.held x.node before) (is index ∙ node index k) ∙ (unfold told.held_after in refl) in
+      c.leaves ∙ ap (λ (x : Result (Option Node) Refusal). told.held_after x before) (is index ∙ node index k) ∙ (unfold told.held_after in refl) in
       (z ∙ (unfold held_code in refl), ap (λ (x : HeldPlaces). node_given x.family x.address x.port x.key) p);
   ended = λ index number before after c i.
       let k : l.count ≤ index = let n = counted in omega arith in
-      let z = c.answers ∙ ap (λ (x : HeldNode). held_code x.held) (is index ∙ nothing index k) in
-      let p = c.leaves ∙ ap (λ (x : HeldNode). told.held_after x.held x.node before) (is index ∙ nothing index k) in
+      let z = c.answers ∙ ap held_code (is index ∙ nothing index k) in
+      let p = c.leaves ∙ ap (λ (x : Result (Option Node) Refusal). told.held_after x before) (is index ∙ nothing index k) in
       (z ∙ (unfold held_code in refl), p ∙ (unfold told.held_after in refl));
 }
   where
-    rules : checked l ≡ answer.Done
+    rules : checked l ≡ Ok tt
     rules = keeps_rules least most ht s
 
     counted : length (held l) ≡ l.count
     counted = let w = whole l rules in let a = w.within in let b = w.small in let z = s.storable.slots in held_length l (omega arith)
 
-    is : (index : ℕ) → held_at m index ≡ lent.held_after answer.Done l index
-    is index = shown_held least most ht s index ∙ ap (λ (a : Answer). lent.held_after a l index) rules
+    is : (index : ℕ) → held_at m index ≡ lent.held_after (Ok tt) l index
+    is index = shown_held least most ht s index ∙ ap (λ (a : Result (Unit {0}) Refusal). lent.held_after a l index) rules
 
-    node : (index : ℕ) → index < l.count → lent.held_after answer.Done l index ≡ record { held = found.Node; node = get_or (held l) index blank_node }
+    node : (index : ℕ) → index < l.count → lent.held_after (Ok tt) l index ≡ Ok (Some (get_or (held l) index blank_node))
     node index k = unfold lent.held_after in simp (lt-leb l.count index k)
 
-    nothing : (index : ℕ) → l.count ≤ index → lent.held_after answer.Done l index ≡ lent.nothing_shown found.Nothing
+    nothing : (index : ℕ) → l.count ≤ index → lent.held_after (Ok tt) l index ≡ Ok None
     nothing index k = unfold lent.held_after in simp (le-leb l.count index k)
 
 -- what is read back after any calls is what the list by value holds
@@ -353,9 +347,9 @@ not_removed : (l : NearestList) (key : Key) → TakesNothingOut (removing key) (
 unfolding done_code
 not_removed l key out = go (removed l key).answer refl out
   where
-    go : (a : Answer) → (removed l key).answer ≡ a → TakesNothingOut (removing key) (done_code a) → (removed l key).list ≡ l
-    go answer.Done e out = absurd out
-    go (answer.Refused why) e out = remove_refused_same l key why e
+    go : (a : Result (Unit {0}) Refusal) → (removed l key).answer ≡ a → TakesNothingOut (removing key) (done_code a) → (removed l key).list ≡ l
+    go (Ok done) e out = absurd out
+    go (Err why) e out = remove_refused_same l key why e
 
 -- with nothing removed, the list is that after the offers
 only_offers : (calls : List ListCall) (l : NearestList) → NothingRemoved (list_events l calls) → list_after_all l calls ≡ offers l (nodes_in calls)
@@ -367,11 +361,11 @@ only_offers (removing key ∷ calls) l unremoved =
 only_offers (reading index before ∷ calls) l unremoved = only_offers calls l unremoved.1
 
 -- an offer is refused exactly where its number is below 0
-offered_number : (n : Node) (a : OfferAnswer) (rest : List Node) → offered_by (offering n) (kept_code a) ++ rest ≡ cond (refused_offer a) rest (n ∷ rest)
-unfolding offered_by kept_code refused_offer
-offered_number n offer.Kept rest = refl
-offered_number n offer.NotKept rest = refl
-offered_number n (offer.Refused why) rest = ap (λ (z : ℤ). offered_by (offering n) z ++ rest) (below_zero why).is
+offered_number : (n : Node) (a : Result Bool Refusal) (rest : List Node) → offered_by (offering n) (kept_code a) ++ rest ≡ cond (refused_offer a) rest (n ∷ rest)
+unfolding offered_by kept_code
+offered_number n (Ok true) rest = refl
+offered_number n (Ok false) rest = refl
+offered_number n (Err why) rest = ap (λ (z : ℤ). offered_by (offering n) z ++ rest) (below_zero why).is
 
 unrefused : (calls : List ListCall) (l : NearestList) → NothingRemoved (list_events l calls) → offered_in (list_events l calls) ≡ accepted l (nodes_in calls)
 unfolding offered_in list_events event_of list_after accepted nodes_in offered_by

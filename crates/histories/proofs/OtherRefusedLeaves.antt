@@ -10,29 +10,23 @@ use native.Mathlib.Omega.{arith}
 use lib.Dec.{leb}
 use lib.IntN.{ℤ}
 use lib.ListN.{length}
+use Rattle.std.proofs.Common.{Option, Some, None, Result, Ok, Err}
+use Rattle.refusal.specs.declared.Refusal.{Refusal}
 use Rattle.refusal.specs.declared.Refusal.TheVariants.{ListSize}
 use Rattle.key.specs.declared.Key.{Key}
-use Rattle.packet_write.specs.declared.Written as packet-written
 use Rattle.packet_laws.specs.Read as packet
 use Rattle.packet_write.specs.Written as packets
 use Rattle.node.specs.declared.Node.{Node}
-use Rattle.node.specs.declared.writer.Written as node-written
 use Rattle.node.specs.Families.{known_family}
 use Rattle.node.specs.Nodes as nodes
 use Rattle.node.specs.Values.{info_of}
 use Rattle.node.specs.Steps as steps
 use Rattle.node.specs.Written as node-writes
 use Rattle.nearest.specs.declared.NearestList.{NearestList}
-use Rattle.nearest.specs.declared.Begun.{Begun}
-use Rattle.nearest.specs.declared.Answer.{Answer}
-use Rattle.nearest.specs.declared.Answer.TheVariants as answer
-use Rattle.nearest.specs.declared.OfferAnswer.{OfferAnswer}
-use Rattle.nearest.specs.declared.OfferAnswer.TheVariants as offer
+use Rattle.nearest.specs.declared.Answered.{Answered}
 use Rattle.nearest.specs.Lists.{empty_of, size_right}
 use Rattle.nearest.proofs.Judge.{bounds_size}
 use Rattle.nearest.proofs.ListOf.{begun_bad}
-use Rattle.lent_list.specs.declared.Held.{Held}
-use Rattle.lent_list.specs.declared.Held.TheVariants as found
 use Rattle.lent_list_laws.specs.Layout.{stored}
 use Rattle.lent_list_laws.specs.Calls.{Begins, Offers, Removes}
 use Rattle.lent_list.specs.Held.{held_at}
@@ -74,67 +68,67 @@ step_leaves place (steps.shows n) z before after c below = absurd (subst Below0 
 step_leaves place steps.ends z before after c below = c.leaves
 step_leaves place (steps.refuses why) z before after c below = c.leaves
 
-held_leaves : (shown : Held) (n : Node) (z : ℤ) (before after : HeldPlaces) → z ≡ held_code shown → after ≡ held_after shown n before → Below0 z → after ≡ before
+held_leaves : (shown : Result (Option Node) Refusal) (z : ℤ) (before after : HeldPlaces) → z ≡ held_code shown → after ≡ held_after shown before → Below0 z → after ≡ before
 unfolding held_code held_after
-held_leaves found.Node n z before after a l below = absurd (subst Below0 a below)
-held_leaves found.Nothing n z before after a l below = l
-held_leaves (found.Refused why) n z before after a l below = l
+held_leaves (Ok (Some n)) z before after a l below = absurd (subst Below0 a below)
+held_leaves (Ok None) z before after a l below = l
+held_leaves (Err why) z before after a l below = l
 
 -- ---- writers
 
 -- the packet was judged and refused, or the output was too short
 module _ {A : Type 0} (made out left : List ℕ) where
-  write_leaves : (judged : packet.Read A) (w : packet-written.Written) → packets.Writes judged made out w left → Below0 (written_code w) → left ≡ out
+  write_leaves : (judged : packet.Read A) (w : Result ℕ Refusal) → packets.Writes judged made out w left → Below0 (written_code w) → left ≡ out
   unfolding packets.written_answer packets.written_output written_code
   write_leaves (packet.refused why) w c below = c.leaves
   write_leaves (packet.packet p) w c below = go (leb (length made) (length out)) refl
     where
       go : (t : Bool) → leb (length made) (length out) ≡ t → left ≡ out
-      go true e = let a : w ≡ packet-written.TheVariants.Bytes (length made) = c.answers ∙ simp e in absurd (subst Below0 (ap written_code a) below)
+      go true e = let a : w ≡ Ok (length made) = c.answers ∙ simp e in absurd (subst Below0 (ap written_code a) below)
       go false e = c.leaves ∙ simp e
 
-node_write_leaves : (n : nodes.NodeInfo) (out left : List ℕ) (w : node-written.Written) → node-writes.Writes n out w left → Below0 (node_written_code w) → left ≡ out
-unfolding node-writes.written_answer node-writes.written_output node_written_code
+node_write_leaves : (n : nodes.NodeInfo) (out left : List ℕ) (w : Result ℕ Refusal) → node-writes.Writes n out w left → Below0 (node_written_code w) → left ≡ out
+unfolding node-writes.written_answer node-writes.written_output node_written_code written_code
 node_write_leaves n out left w c below = go (known_family n.family) refl (leb (length (nodes.packed_node n)) (length out)) refl
   where
     go : (t : Bool) → known_family n.family ≡ t → (u : Bool) → leb (length (nodes.packed_node n)) (length out) ≡ u → left ≡ out
     go true e true f =
-        let a : w ≡ node-written.TheVariants.Bytes (length (nodes.packed_node n)) = c.answers ∙ simp (e, f) in absurd (subst Below0 (ap node_written_code a) below)
+        let a : w ≡ Ok (length (nodes.packed_node n)) = c.answers ∙ simp (e, f) in absurd (subst Below0 (ap node_written_code a) below)
     go true e false f = c.leaves ∙ simp (e, f)
     go false e u f = c.leaves ∙ simp e
 
 -- ---- lists
 
 -- of a right size only memory too short is refused
-begin_leaves : (target : Key) (size : ℕ) (memory left : List ℕ) (a : Answer) → size_right size ≡ true → Begins target size memory left a → Below0 (done_code a) → left ≡ memory
+begin_leaves : (target : Key) (size : ℕ) (memory left : List ℕ) (a : Result (Unit {0}) Refusal) → size_right size ≡ true → Begins target size memory left a → Below0 (done_code a) → left ≡ memory
 unfolding done_code
 begin_leaves target size memory left a right b below = go (leb 850 (length memory)) refl
   where
     go : (t : Bool) → leb 850 (length memory) ≡ t → left ≡ memory
     go true e =
-        let done : a ≡ answer.Done = b.answers ∙ begun_answer_lem target size memory ∙ simp (right, e) in
-        absurd (subst (λ (x : Answer). Below0 (done_code x)) done below)
+        let done : a ≡ Ok tt = b.answers ∙ begun_answer_lem target size memory ∙ simp (right, e) in
+        absurd (subst (λ (x : Result (Unit {0}) Refusal). Below0 (done_code x)) done below)
     go false e = b.leaves ∙ (unfold stored in simp e)
 
-offer_leaves : (n : Node) (memory left : List ℕ) (a : OfferAnswer) → Offers n memory left a → Below0 (kept_code a) → left ≡ memory
+offer_leaves : (n : Node) (memory left : List ℕ) (a : Result Bool Refusal) → Offers n memory left a → Below0 (kept_code a) → left ≡ memory
 unfolding kept_code
-offer_leaves n memory left offer.Kept o below = absurd below
-offer_leaves n memory left offer.NotKept o below = absurd below
-offer_leaves n memory left (offer.Refused why) o below = refused_offer_leaves memory left why n o
+offer_leaves n memory left (Ok true) o below = absurd below
+offer_leaves n memory left (Ok false) o below = absurd below
+offer_leaves n memory left (Err why) o below = refused_offer_leaves memory left why n o
 
-remove_leaves : (key : Key) (memory left : List ℕ) (a : Answer) → Removes key memory left a → Below0 (done_code a) → left ≡ memory
+remove_leaves : (key : Key) (memory left : List ℕ) (a : Result (Unit {0}) Refusal) → Removes key memory left a → Below0 (done_code a) → left ≡ memory
 unfolding done_code
-remove_leaves key memory left answer.Done r below = absurd below
-remove_leaves key memory left (answer.Refused why) r below = refused_remove_leaves memory left why key r
+remove_leaves key memory left (Ok done) r below = absurd below
+remove_leaves key memory left (Err why) r below = refused_remove_leaves memory left why key r
 
 -- document 01's one exception: a list begun with a bad size is refused with 12, and memory long enough then holds the empty list of size 8
 pub bad_size_leaves : (target : Key) (size : ℕ) (memory left : List ℕ) (z : ℤ) → size_right size ≡ false → ToldAs done_code (Begins target size memory left) z
     → (z ≡ refusal_code ListSize) × (left ≡ stored (empty_of target 8) memory)
 unfolding done_code
 bad_size_leaves target size memory left z bad c =
-    let a : c.given ≡ answer.Refused ListSize = c.relates.answers ∙ begun_answer_lem target size memory ∙ simp bad in (
+    let a : c.given ≡ Err ListSize = c.relates.answers ∙ begun_answer_lem target size memory ∙ simp bad in (
       c.codes ∙ ap done_code a,
-      c.relates.leaves ∙ ap (λ (x : Begun). stored x.list memory) (begun_bad target size bad)
+      c.relates.leaves ∙ ap (λ (x : Answered (Unit {0})). stored x.list memory) (begun_bad target size bad)
           ∙ ap (λ (l : NearestList). stored l memory) (begun_list target 8 (bounds_size 8 (omega arith) (omega arith))),
     )
 
@@ -165,4 +159,4 @@ other_refused_leaves (begins_buckets base c) below = ap lent_bytes (begin_below_
 other_refused_leaves (offers_bucket n c) below = ap lent_bytes (offer_below_0 c below)
 other_refused_leaves (asks_buckets target memory c) below = ap lent_bytes (question_below_0 c below)
 other_refused_leaves (reads_frame piece c) below = frame_leaves (frame_refused (record { used_before = _; end_before = _; reads = c }) below)
-other_refused_leaves (shows m index c) below = ap lent_held (held_leaves (held_at m index).held (held_at m index).node _ _ _ c.answers c.leaves below)
+other_refused_leaves (shows m index c) below = ap lent_held (held_leaves (held_at m index) _ _ _ c.answers c.leaves below)

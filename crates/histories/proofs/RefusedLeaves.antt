@@ -10,6 +10,7 @@ use native.Mathlib.Omega.{arith}
 use lib.IntN.{ℤ}
 use lib.ListN.{length}
 use borrow.Author.Tests.{le-leb}
+use Rattle.std.proofs.Common.{Result, Ok, Err}
 use Rattle.refusal.specs.declared.Refusal.{Refusal}
 use Rattle.refusal.specs.declared.Refusal.TheVariants.{OutputTooShort, RoomNotWhole}
 use Rattle.rules.specs.Call.{Call, arrive, leave, packet_call, tick, Answer, accepted, refused, needed}
@@ -40,7 +41,7 @@ module _ (s n : ℕ) (b out b' out' : List ℕ) where
   leaves_all o (refusal w given e) why l = (rw e at l.stores, rw e at l.writes)
   leaves_all o (acceptance seat changes sent e) why l =
       let q = l.answers ∙ ap (λ (x : Outcome). x.answer) e in
-      let z : ◌≡◌ {A = ℕ} 0 1 = cc in absurd (omega arith)
+      absurd (cc)
 
   -- an answer whose number is below 0 is a refusal
   by_number : (o : Outcome) → RefusedOrAccepted o → (given : Answer) → Below0 (count_code given) → Leaves s n o b out given b' out' → (b' ≡ b) × (out' ≡ out)
@@ -59,25 +60,25 @@ empty_leaves s n b b' false below m = m.leaves ∙ ap (λ (t : Bool). cond t (em
 
 module _ (s n allowance : ℕ) (stored b out b' out' : List ℕ) where
   -- only a room that is not whole is refused, before the first call
-  run_leaves : (given : code.Run) → Below0 (run_code given) → Plays s n allowance stored b out b' out' given → (b' ≡ b) × (out' ≡ out)
+  run_leaves : (given : Result code.Run Refusal) → Below0 (run_code given) → Plays s n allowance stored b out b' out' given → (b' ≡ b) × (out' ≡ out)
   unfolding run_code playing
-  run_leaves (code.TheVariants.Stopped why calls read written) below p = absurd below
-  run_leaves (code.TheVariants.Refused why) below p = go (room_whole s n b) p
+  run_leaves (Ok given) below p = absurd below
+  run_leaves (Err why) below p = go (room_whole s n b) p
     where
       whole : Playing
       whole = played (sizes_of s n) (view_room s n b) (run (sizes_of s n) allowance (view_room s n b) stored (length out))
 
       go : (t : Bool)
-          → LeavesRun s n (cond t whole (record { answer = code.TheVariants.Refused RoomNotWhole; changes = []; bytes = [] })) b out (code.TheVariants.Refused why) b' out'
+          → LeavesRun s n (cond t whole (record { answer = Err RoomNotWhole; changes = []; bytes = [] })) b out (Err why) b' out'
           → (b' ≡ b) × (out' ≡ out)
       go true l = let q = l.answers in let z : ◌≡◌ {A = ℕ} 0 1 = unfold played in cc in absurd (omega arith)
       go false l = unfold store_all in (l.stores, l.writes)
 
   -- the places too
-  run_places : (given : code.Run) (before : Counts) → Below0 (run_code given) → run_counts given before ≡ before
+  run_places : (given : Result code.Run Refusal) (before : Counts) → Below0 (run_code given) → run_counts given before ≡ before
   unfolding run_code run_counts
-  run_places (code.TheVariants.Stopped why calls read written) before below = absurd below
-  run_places (code.TheVariants.Refused why) before below = refl
+  run_places (Ok given) before below = absurd below
+  run_places (Err why) before below = refl
 
 -- ---- every export
 

@@ -8,6 +8,7 @@ use Prim.Native.Nat.{ℕ}
 use lib.IntN.{ℤ}
 use lib.ListN.{length}
 use borrow.Author.Tests.{not-true}
+use Rattle.std.proofs.Common.{Err}
 use Rattle.refusal.specs.declared.Refusal.{Refusal}
 use Rattle.refusal.specs.declared.Refusal.TheVariants.{AlreadySeated, OutputTooShort, RoomNotWhole, NotSeated}
 use Rattle.refusal.specs.Numbers.{is_retired}
@@ -21,7 +22,6 @@ use Rattle.room_laws.specs.Whole.{room_whole}
 use Rattle.relay_laws.specs.Calls.{Leaves, with_output}
 use Rattle.relay_laws.proofs.CallsLaws.{call_made}
 use Rattle.room_laws.specs.View.{view_room}
-use Rattle.relay.specs.declared.play.Run as code
 use Rattle.relay.specs.Play.{run, played, playing, Plays}
 use Rattle.banavoge_laws.specs.Answers.{refusal_code, ToldAs}
 use Rattle.banavoge_laws.specs.Rooms.{done_or}
@@ -107,7 +107,7 @@ run_not s n allowance stored b out = go (room_whole s n b)
     sizes = sizes_of s n
 
     go : (t : Bool)
-        → run_code (cond t (played sizes (view_room s n b) (run sizes allowance (view_room s n b) stored (length out))) (record { answer = code.TheVariants.Refused RoomNotWhole; changes = []; bytes = [] })).answer
+        → run_code (cond t (played sizes (view_room s n b) (run sizes allowance (view_room s n b) stored (length out))) (record { answer = Err RoomNotWhole; changes = []; bytes = [] })).answer
         ≢ refusal_code AlreadySeated
     go true = λ e. below_not AlreadySeated _ (sym e)
     go false = not_retired RoomNotWhole refl

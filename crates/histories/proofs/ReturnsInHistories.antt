@@ -17,7 +17,6 @@ use Rattle.rules.specs.Outcome.{Outcome, outcome, apply, apply_all, room_after, 
 use Rattle.rules.specs.History.{Event, event, transcript, happens}
 use Rattle.rules.specs.Transcript.{client_of, from_empty, sitter}
 use Rattle.rules.specs.After.{past_after}
-use Rattle.rules.proofs.FindLaws.{clash}
 use Rattle.rules.proofs.Whole.{key_found}
 use Rattle.rules.proofs.ComesBack.{held, some_empty, comes_back_to, leaves_first, takes_then}
 use Rattle.after_calls.specs.Given.{ArriveAnswered}
@@ -139,14 +138,14 @@ own_arrival_after_calls s n lents events b h key out b' out' place place' answer
     subst (λ (x : Call). handed (from_empty (sizes_of s n)) past key (event room x).sent ≡ []) (sym q)
     (own_arrival_hands_none (sizes_of s n) (from_empty (sizes_of s n)) past room whole tie key))
     lents events b h (lent_with (arrive key) out) e b' step long refl in
-    (before, handed_throughout_after_calls s n lents events b h (lent_with (arrive key) out) e b' step long (λ time number q. clash (cc)) key ∙ before)
+    (before, handed_throughout_after_calls s n lents events b h (lent_with (arrive key) out) e b' step long (λ time number q. absurd (cc)) key ∙ before)
 
 pub own_arrival_in_histories : (s n : ℕ) (events : List Event) (b : List ℕ) → History s n events b
     → (before : List Event) (e : Event) (later : List Event) → events ≡ before ++ (e ∷ later) → (key : Key) → e.call ≡ arrive key
     → (handed (from_empty (sizes_of s n)) (past_after [] before) key e.sent ≡ []) × (handed (from_empty (sizes_of s n)) (e ∷ past_after [] before) key e.sent ≡ [])
 own_arrival_in_histories s n events b h before e later t key call =
     let first = own_arrival_from_empty (sizes_of s n) (calls_of events) before e later (history_event s n events b h before e later t) key call in
-    (first, handed_throughout_in_histories s n events b h before e later t (λ time number q. let same : arrive key ≡ tick time number = sym call ∙ q in clash (cc)) key ∙ first)
+    (first, handed_throughout_in_histories s n events b h before e later t (λ time number q. let same : arrive key ≡ tick time number = sym call ∙ q in absurd (cc)) key ∙ first)
 
 -- ---- in a history
 

@@ -19,6 +19,7 @@ use lib.IntN.{pos}
 use lib.ListN.{length, drop, length-append, length-drop}
 use lib.Seq.{drop-drop}
 use borrow.Author.Tests.{leb-false, eqb-true, eqb-false}
+use Rattle.std.proofs.Common.{Err}
 use Rattle.refusal.specs.declared.Refusal.TheVariants.{RoomNotWhole}
 use Rattle.rules.specs.Room.{Sizes, Room, sizes_of}
 use Rattle.rules.specs.Call.{Call}
@@ -29,7 +30,6 @@ use Rattle.room_laws.specs.View.{view_room}
 use Rattle.room_laws.specs.Whole.{room_whole}
 use Rattle.stored.specs.Stored.{stored_bytes, stored_all, First, none, call, first_call}
 use Rattle.stored.proofs.StoredLaws.{first_within}
-use Rattle.relay.specs.declared.play.Run as code
 use Rattle.relay.specs.declared.play.Stop.{Stop}
 use Rattle.relay.specs.declared.play.Stop.TheVariants.{End, NoCall, Allowance, Output}
 use Rattle.relay.specs.Play.{entry_bytes, entries_bytes, Next, stops, plays, least_space, next_call, next, Run, go_on, run, played, Playing, playing, Plays}
@@ -210,9 +210,9 @@ told_whole s n allowance stored b out b' out' before number calls read written p
     ran = played (sizes_of s n) (view_room s n b) (run_on s n allowance stored b out)
 
     go : (t : Bool) → room_whole s n b ≡ t
-        → pos number ≡ run_code (cond t ran (record { answer = code.TheVariants.Refused RoomNotWhole; changes = []; bytes = [] })).answer → room_whole s n b ≡ true
+        → pos number ≡ run_code (cond t ran (record { answer = Err RoomNotWhole; changes = []; bytes = [] })).answer → room_whole s n b ≡ true
     go true w e = w
-    go false w e = let z : ◌≡◌ {A = ℕ} 0 1 = cc in absurd (omega arith)
+    go false w e = absurd (cc)
 
 -- of the export
 pub stop_means : (s n allowance : ℕ) (stored b out : List ℕ) (before : Counts) (b' out' : List ℕ) (why : Stop) (calls read written : ℕ)

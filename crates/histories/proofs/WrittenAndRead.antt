@@ -12,8 +12,8 @@ use lib.Seq.{take_all, take_at, drop_at}
 use borrow.Author.Tests.{le-leb}
 use Rattle.wire.specs.Numbers.{Bytes}
 use Rattle.wire.proofs.Numbers.{bytes_drop}
-use Rattle.packet_write.specs.declared.Written.{Written}
-use Rattle.packet_write.specs.declared.Written.TheVariants as written
+use Rattle.std.proofs.Common.{Result, Ok, Err}
+use Rattle.refusal.specs.declared.Refusal.{Refusal}
 use Rattle.refusal.specs.declared.Refusal.TheVariants.{PacketSize, UnexpectedKind, NodeCutShort, BytesAfterNodes}
 use Rattle.packet_laws.specs.Read as packet
 use Rattle.packet_laws.specs.Table.{kind_of, size_right}
@@ -28,7 +28,6 @@ use Rattle.packet_laws.proofs.ClientRoundTrip.{relay_reads_written, client_write
 use Rattle.packet_laws.proofs.RelayRoundTrip.{client_reads_written, relay_writes_read}
 use Rattle.packet_write.proofs.WriteLaws.{writes_put}
 use Rattle.node.specs.declared.Node.{Node}
-use Rattle.node.specs.declared.writer.Written as node-written
 use Rattle.node.specs.Nodes.{NodeInfo, packed_node, Read, node, refused, read_node}
 use Rattle.node.specs.Values.{info_of, value_of, settled}
 use Rattle.node.specs.Steps.{Showing, shows, ends, refuses, showing_read, step_of}
@@ -47,18 +46,18 @@ use Rattle.histories.proofs.Answered.{below_not}
 -- ---- either end
 
 -- a byte count is that of a packet written
-count_told : (count : ℕ) (w : Written) → pos count ≡ written_code w → w ≡ written.Bytes count
+count_told : (count : ℕ) (w : Result ℕ Refusal) → pos count ≡ written_code w → w ≡ Ok count
 unfolding written_code
-count_told count (written.Bytes n) e = let q : count ≡ n = cc in ap written.Bytes (sym q)
-count_told count (written.Refused why) e = absurd (below_not why count (sym e))
+count_told count (Ok n) e = let q : count ≡ n = cc in ap Ok (sym q)
+count_told count (Err why) e = absurd (below_not why count (sym e))
 
 -- a writer that takes the packet puts its bytes into an output that has room
-puts : {A : Type 0} (judged : packet.Read A) (p : A) (bytes out left : List ℕ) (w : Written) (answer : ℤ) → judged ≡ packet.packet p
+puts : {A : Type 0} (judged : packet.Read A) (p : A) (bytes out left : List ℕ) (w : Result ℕ Refusal) (answer : ℤ) → judged ≡ packet.packet p
     → packets.Writes judged bytes out w left → answer ≡ written_code w → length bytes ≤ length out → (answer ≡ pos (length bytes)) × (left ≡ bytes ++ drop (length bytes) out)
 unfolding written_answer written_output written_code
 puts judged p bytes out left w answer taken writes code h =
     let l = le-leb (length bytes) (length out) h in
-    let counted : w ≡ written.Bytes (length bytes) = writes.answers ∙ simp (taken, l) in
+    let counted : w ≡ Ok (length bytes) = writes.answers ∙ simp (taken, l) in
     (code ∙ ap written_code counted, writes.leaves ∙ simp (taken, l))
 
 -- packets that one end writes (`judged`, `bytes_of`, with fields that fit) and the other reads (`read`) and tells
@@ -69,7 +68,7 @@ module _ {A : Type 0} (told : ℕ → Places → List ℕ → List ℕ → A) (f
     × (told (fields_of p).kind (places_of (fields_of p)) (key_in (packet.packet p)) (payload_at (bytes_of p) (places_of (fields_of p))) ≡ p)) where
   -- a packet written, as a call of its writer's export has it
   record Wrote (p : A) (out left : List ℕ) (answer : ℤ) : Type 0 where
-    given : Written
+    given : Result ℕ Refusal
     fits : FitsIn p
     writes : packets.Writes (judged p) (bytes_of p) out given left
     codes : answer ≡ written_code given
@@ -95,7 +94,7 @@ module _ {A : Type 0} (told : ℕ → Places → List ℕ → List ℕ → A) (f
   tells_written : ((p q : A) → FitsIn p → judged p ≡ packet.packet q → (q ≡ p) × (read (bytes_of p) ≡ packet.packet p))
       → (p : A) (out left : List ℕ) (count : ℕ) → Wrote p out left (pos count) → Tells told fields_of key_in (read (take count left)) p (take count left)
   tells_written back p out left count c =
-      let w = subst (λ (x : Written). packets.Writes (judged p) (bytes_of p) out x left) (count_told count c.given c.codes) c.writes in
+      let w = subst (λ (x : Result ℕ Refusal). packets.Writes (judged p) (bytes_of p) out x left) (count_told count c.given c.codes) c.writes in
       let put = writes_put (judged p) (bytes_of p) out left count w in
       read_tells p put.found (take count left) c.fits put.taken (ap read put.front ∙ (back p put.found c.fits put.taken).1) (sym put.front)
 
@@ -133,8 +132,8 @@ data_high number bytes after q e = go (size_right (length (number ∷ bytes))) (
   where
     go : (t u : Bool) → leb 16 number ≡ u → packet.check t PacketSize (packet.check u UnexpectedKind after) ≡ packet.packet q → leb 16 number ≡ true
     go true true h e = h
-    go true false h e = let z : ◌≡◌ {A = ℕ} 0 1 = cc in absurd (omega arith)
-    go false u h e = let z : ◌≡◌ {A = ℕ} 0 1 = cc in absurd (omega arith)
+    go true false h e = absurd (cc)
+    go false u h e = absurd (cc)
 
 -- ---- from a client to the relay
 
@@ -205,10 +204,9 @@ module _ {p : client.FromClient} {q : relay.FromRelay} {out left : List ℕ} {an
 
 -- ---- nodes
 
-node_count_told : (count : ℕ) (w : node-written.Written) → pos count ≡ node_written_code w → w ≡ node-written.TheVariants.Bytes count
+node_count_told : (count : ℕ) (w : Result ℕ Refusal) → pos count ≡ node_written_code w → w ≡ Ok count
 unfolding node_written_code
-node_count_told count (node-written.TheVariants.Bytes n) e = let q : count ≡ n = cc in ap node-written.TheVariants.Bytes (sym q)
-node_count_told count (node-written.TheVariants.Refused why) e = absurd (below_not why count (sym e))
+node_count_told = count_told
 
 -- what the places of a reader are then
 pub places_told : (after : NodePlaces) (n : Node) (next : ℕ) → after ≡ node_places_of n next → NodeTold after n next
@@ -252,7 +250,7 @@ node_told_written n out left count c bytes rest at stands =
 -- WRITING WHAT WAS READ: the places of a reader that found a node
 node_makes : (bytes : List ℕ) → Bytes bytes → (at : ℕ) (told : NodePlaces) (i : NodeInfo) → read_node (drop at bytes) ≡ node i
     → told ≡ node_places_of (value_of i) (at + length (packed_node i)) → NodeMakes bytes at told
-unfolding node_written_code
+unfolding node_written_code written_code
 node_makes bytes b at told i r e out left answer w h =
     let t = read_exactly (drop at bytes) i (bytes_drop at bytes b) r in
     let v : node_given told.family told.address told.port told.key ≡ value_of i =
@@ -272,11 +270,11 @@ unfolding step_of showing_read
 step_shows bytes at count i e = go (ltb (length bytes) at) (eqb at (length bytes)) (leb 4 count) (read_node (drop at bytes)) e
   where
     go : (past end full : Bool) (r : Read) → cond past (refuses NodeCutShort) (cond end ends (cond full (refuses BytesAfterNodes) (showing_read r))) ≡ shows i → r ≡ node i
-    go true end full r e = let z : ◌≡◌ {A = ℕ} 0 1 = cc in absurd (omega arith)
-    go false true full r e = let z : ◌≡◌ {A = ℕ} 0 1 = cc in absurd (omega arith)
-    go false false true r e = let z : ◌≡◌ {A = ℕ} 0 1 = cc in absurd (omega arith)
+    go true end full r e = absurd (cc)
+    go false true full r e = absurd (cc)
+    go false false true r e = absurd (cc)
     go false false false (node n) e = let q : n ≡ i = cc in ap node q
-    go false false false (refused why) e = let z : ◌≡◌ {A = ℕ} 0 1 = cc in absurd (omega arith)
+    go false false false (refused why) e = absurd (cc)
 
 -- by `banavoge_node_read`
 pub node_writes_told : (bytes : List ℕ) (at : ℕ) (before told : NodePlaces) → OfBytes bytes (ReadsNode at (read_node (drop at bytes)) (pos 0) before told) → NodeMakes bytes at told
@@ -294,5 +292,5 @@ node_writes_stepped bytes at count before told c = go (step_of bytes at count) r
   where
     go : (s : Showing) → step_of bytes at count ≡ s → pos 1 ≡ step_code s → told ≡ step_after at s before → NodeMakes bytes at told
     go (shows i) s z e = node_makes bytes c.bytes at told i (step_shows bytes at count i s) e
-    go ends s z e = let w : ◌≡◌ {A = ℕ} 1 0 = cc in absurd (omega arith)
+    go ends s z e = absurd (cc)
     go (refuses why) s z e = absurd (below_not why 1 (sym z))

@@ -94,7 +94,7 @@ unfoldable pub event_of : NearestList → ListCall → ListEvent
 event_of l (offering n) = list_event (offering n) (kept_code (offered l n).answer) no_held
 event_of l (removing key) = list_event (removing key) (done_code (removed l key).answer) no_held
 event_of l (reading index before) =
-    let shown = lent.held_after (checked l) l index in list_event (reading index before) (held_code shown.held) (told.held_after shown.held shown.node before)
+    let shown = lent.held_after (checked l) l index in list_event (reading index before) (held_code shown) (told.held_after shown before)
 
 unfoldable pub list_events : NearestList → List ListCall → List ListEvent
 list_events l [] = []

@@ -20,7 +20,7 @@ use Rattle.rules.specs.Outcome.{with_ping, apply_all, refuse, accept, to, room_a
 use Rattle.rules.specs.Transcript.{Past, Start, is_accepted, put_out, is_among}
 use Rattle.rules.specs.After.{Tied}
 use Rattle.isolation.specs.Record.{handed_if, key_unless, strike}
-use Rattle.rules.proofs.FindLaws.{clash, set_default, seat_set_other}
+use Rattle.rules.proofs.FindLaws.{set_default, seat_set_other}
 use Rattle.rules.proofs.Whole.{key_once, key_found, whole_set}
 use Rattle.rules.proofs.PeerLaws.{peer_has}
 use Rattle.rules.proofs.TickLaws.{set_each, remaining, seat_after_tick, due_not_overdue, room_after_departures, room_after_tick}
@@ -40,7 +40,7 @@ module _ (before room : Room) (left : Left before room) where
   left_more gone seat held e = left seat held (go (eqb gone seat) refl)
     where
       go : (t : Bool) → eqb gone seat ≡ t → get_or room.seats seat vacant ≡ holds held
-      go true q = clash (cc (set_default room.seats gone vacant, eqb-true gone seat q))
+      go true q = absurd (cc (set_default room.seats gone vacant, eqb-true gone seat q))
       go false q = sym (unfold seat_at in seat_set_other room gone vacant seat (λ s. eqb-false gone seat q (sym s))) ∙ e
 
   -- a notice goes to a seat that still holds who held it before: it is C's by the one room where it is by the other

@@ -7,7 +7,6 @@ use mathlib.Core.Bool.{false}
 use mathlib.Core.Logic.{◌≢◌}
 use mathlib.Core.List.{List, [], ◌∷◌, ◌++◌, map}
 use Prim.Native.Nat.{ℕ}
-use native.Mathlib.Omega.{arith}
 use Rattle.wire.specs.Numbers.{bytes_of}
 use Rattle.rules.specs.Room.{Key, base_sizes}
 use Rattle.rules.specs.Call.{Call, arrive, leave, packet_call, tick}
@@ -59,11 +58,11 @@ pinged number = (4 ∷ bytes_of 8 number) ∷ []
 
 pinged_or_not : [] ≢ pinged 1
 unfolding pinged
-pinged_or_not e = let z : ◌≡◌ {A = ℕ} 0 1 = cc in absurd (omega arith)
+pinged_or_not e = absurd (cc)
 
 numbers_differ : pinged 1 ≢ pinged 2
 unfolding pinged bytes_of
-numbers_differ e = let z : ◌≡◌ {A = ℕ} 1 2 = cc in absurd (omega arith)
+numbers_differ e = absurd (cc)
 
 -- without ticks
 abbrev pub no_ticks : List Entry → List Entry
@@ -147,7 +146,7 @@ puts_none_out = record { no_zero = refl; entered = refl; given = refl }
 
 told_or_not : handed_then (lost ∷ ping ∷ []) ≢ handed_then (ping ∷ [])
 unfolding handed_then lost ping
-told_or_not e = let z : ◌≡◌ {A = ℕ} 3 4 = cc in absurd (omega arith)
+told_or_not e = absurd (cc)
 
 pub needs_keys : Suffices no_keys → ⊥
 needs_keys =
@@ -168,7 +167,7 @@ out_by_leave = record { no_zero = refl; entered = refl; given = refl }
 
 told_before_or_after : handed_then (lost ∷ ping ∷ []) ≢ handed_then (ping ∷ lost ∷ [])
 unfolding handed_then lost ping
-told_before_or_after e = let z : ◌≡◌ {A = ℕ} 3 4 = cc in absurd (omega arith)
+told_before_or_after e = absurd (cc)
 
 pub needs_marks : Suffices unmarked → ⊥
 needs_marks =
@@ -189,4 +188,4 @@ reads_otherwise : record_for (from_empty base_sizes) [] kc (happens base_sizes (
 reads_otherwise e = differ (sym tick_reads ∙ e ∙ leave_reads)
   where
     differ : met ++ (ticked 60 2 (ka ∷ []) ∷ []) ≢ met ++ (ticked 60 2 [] ∷ departed ka ∷ [])
-    differ e = unfold met in let z : ◌≡◌ {A = ℕ} 0 1 = cc in absurd (omega arith)
+    differ e = unfold met in absurd (cc)

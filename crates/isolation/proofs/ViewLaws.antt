@@ -20,7 +20,7 @@ use Rattle.rules.specs.Transcript.{Past, Start}
 use Rattle.rules.specs.After.{Tied}
 use Rattle.isolation.specs.Record.{handed_if, handed}
 use Rattle.rules.proofs.SeatedLaws.{is_found, client_of_lem}
-use Rattle.rules.proofs.FindLaws.{Once, clash, find_hit, once_tail, once_first}
+use Rattle.rules.proofs.FindLaws.{Once, find_hit, once_tail, once_first}
 use Rattle.rules.proofs.Whole.{key_once, wanted_once}
 use Rattle.rules.proofs.PeerLaws.{peer_has}
 use Rattle.rules.proofs.SentLaws.{count_append, count_same}
@@ -47,13 +47,13 @@ found_later (at i) = refl
 -- put in at a place that is there, it is found
 pub find_put : {A : Type 0} (test' test : A → Bool) (l : List A) (i : ℕ) (y : A) → test y ≡ true → find test' l ≡ at i → is_found (find test (set l i y)) ≡ true
 unfolding find or_later is_found
-find_put test' test [] i y hy e = clash (cc)
+find_put test' test [] i y hy e = absurd (cc)
 find_put test' test (x ∷ l) zero y hy e = rw hy
 find_put test' test (x ∷ l) (suc i) y hy e = go (test' x) (find test' l) (find_put test' test l i y hy) e (test x)
   where
     go : (b : Bool) (f : Found) → (f ≡ at i → is_found (find test (set l i y)) ≡ true) → or_later b f ≡ at (suc i) → (t : Bool) → is_found (or_later t (find test (set l i y))) ≡ true
     go true f k h t = let z : 0 ≡ suc i = cc in absurd (omega arith)
-    go false none k h t = clash (cc)
+    go false none k h t = absurd (cc)
     go false (at m) k h true = refl
     go false (at m) k h false = found_later (find test (set l i y)) ∙ k (let q : suc m ≡ suc i = cc in ap at (suc_inj q))
 

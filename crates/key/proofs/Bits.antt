@@ -9,7 +9,7 @@ use native.Mathlib.Numerals.{add-one}
 use lib.Bits.{bit_xor, xor_self, xor_lt, xor_shr}
 use lib.Count.{count_leading_zeros, leading_of_zero, leading_top}
 use lib.Dec.{eqb}
-use lib.ListN.{length, get_or, drop, length-append, drop_of_length-le}
+use lib.ListN.{length, get_or, drop, length-append}
 use lib.Seq.{drop-cons}
 use borrow.Author.Tests.{eq-eqb, ne_eqb, eqb-true, eqb-false}
 use Rattle.wire.specs.Numbers.{Bytes}
@@ -163,9 +163,21 @@ module _ (a b : List ℕ) (i : ℕ) (ha : i < length a) (hb : i < length b) wher
       → shared_bits (drop i a) (drop i b) ≡ count_leading_zeros 8 (bit_xor (get_or a i 0) (get_or b i 0))
   shared_differ_at sa sb ne = opened ∙ shared_differ (get_or a i 0) (get_or b i 0) (drop (suc i) a) (drop (suc i) b) sa sb ne
 
-pub shared_end : (a b : List ℕ) (i : ℕ) → length a ≤ i → shared_bits (drop i a) (drop i b) ≡ 0
-unfolding shared_bits bits
-shared_end a b i h = ap (λ (l : List ℕ). shared_bits l (drop i b)) (drop_of_length-le a {i = i} h) ∙ alike_end (bits (drop i b))
+-- up to the first byte in which two lists differ, each byte counts 8
+shared_front : (a b : List ℕ) (i : ℕ) → i ≤ length a → i ≤ length b → ((j : ℕ) → j < i → get_or a j 0 ≡ get_or b j 0)
+    → shared_bits a b ≡ 8 * i + shared_bits (drop i a) (drop i b)
+shared_front a b zero ha hb e = omega arith
+shared_front a b (suc i) ha hb e =
+    let h = shared_front a b i (omega arith) (omega arith) (λ j (k : j < i). e j (omega arith)) in
+    let s = rw add-one at (shared_same_at a b i ha hb (e i (omega arith))) in
+    omega arith
+
+-- and that byte the leading zeros of the XOR
+pub shared_first : (a b : List ℕ) (i : ℕ) → i < length a → i < length b → ((j : ℕ) → j < i → get_or a j 0 ≡ get_or b j 0)
+    → get_or a i 0 < 256 → get_or b i 0 < 256 → (get_or a i 0 ≡ get_or b i 0 → ⊥)
+    → shared_bits a b ≡ 8 * i + count_leading_zeros 8 (bit_xor (get_or a i 0) (get_or b i 0))
+shared_first a b i ha hb e sa sb ne =
+    shared_front a b i (omega arith) (omega arith) e ∙ ap (λ (n : ℕ). 8 * i + n) (shared_differ_at a b i ha hb sa sb ne)
 
 -- ---- lists of bytes
 

@@ -120,15 +120,19 @@ module _ (t a b : List ℕ) (ea : length t ≡ length a) (eb : length t ≡ leng
       same_front i (omega arith) (λ (j : ℕ) (k : j < i). e j (omega arith))
       ∙ rw add-one at (byte_same i h (ap (bit_xor (get_or t i 0)) (e i (omega arith))))
 
+  -- and that byte decides
+  pub difference_decides : (i : ℕ) → i < length t → ((j : ℕ) → j < i → get_or a j 0 ≡ get_or b j 0) → Bytes t → Bytes a → Bytes b
+      → (bit_xor (get_or t i 0) (get_or a i 0) ≡ bit_xor (get_or t i 0) (get_or b i 0) → ⊥)
+      → nearer t a b ≡ ltb (bit_xor (get_or t i 0) (get_or a i 0)) (bit_xor (get_or t i 0) (get_or b i 0))
+  difference_decides i h e st sa sb ne = same_front i (omega arith) e ∙ byte_decides i h st sa sb ne
+
 -- the first byte in which two keys differ decides which is nearer: nothing after it is looked at
 pub first_difference_decides : (t a b : List ℕ) → IsKey t → IsKey a → IsKey b → (i : ℕ) → i < 32 → ((j : ℕ) → j < i → get_or a j 0 ≡ get_or b j 0)
     → (bit_xor (get_or t i 0) (get_or a i 0) ≡ bit_xor (get_or t i 0) (get_or b i 0) → ⊥)
     → nearer t a b ≡ ltb (bit_xor (get_or t i 0) (get_or a i 0)) (bit_xor (get_or t i 0) (get_or b i 0))
 first_difference_decides t a b ht ha hb i h e ne =
-    let p = ht.long ∙ sym ha.long in
-    let q = ht.long ∙ sym hb.long in
     let l = ht.long in
-    same_front t a b p q i (omega arith) e ∙ byte_decides t a b p q i (omega arith) ht.bytes ha.bytes hb.bytes ne
+    difference_decides t a b (ht.long ∙ sym ha.long) (ht.long ∙ sym hb.long) i (omega arith) e ht.bytes ha.bytes hb.bytes ne
 
 -- ---- the number itself
 

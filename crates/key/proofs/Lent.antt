@@ -1,16 +1,16 @@
 -- Laws of a key's bytes in lent memory. Assumes nothing.
-use mathlib.Core.Path.{◌≡◌, ◌∙◌, refl, sym, ap}
+use mathlib.Core.Path.{◌≡◌, ◌∙◌, refl, ap}
 use mathlib.Core.Bool.{Bool, true, false, cond}
 use mathlib.Core.List.{List, ◌++◌, append-nil}
-use Prim.Native.Nat.{ℕ, zero, suc, ◌<◌, ◌≤◌}
+use Prim.Native.Nat.{ℕ, zero, suc, ◌≤◌}
 use native.Mathlib.Omega.{arith}
 use lib.Dec.{leb}
-use lib.ListN.{length, take, get_or, replicate, drop_of_length-le}
-use lib.Seq.{length-take-le, take_all, get_or-take}
-use borrow.Author.Tests.{le-leb, lt-leb, leb-true}
+use lib.ListN.{length, take, replicate, drop_of_length-le}
+use lib.Seq.{length-take-le, take_all}
+use borrow.Author.Tests.{le-leb, leb-true}
 use Rattle.wire.specs.Numbers.{Bytes}
 use Rattle.wire.proofs.Numbers.{bytes_take}
-use Rattle.key.specs.Keys.{IsKey, key_of, with_key}
+use Rattle.key.specs.Keys.{key_of, with_key}
 
 -- enough bytes hold a key
 pub key_whole : (bytes : List ℕ) → 32 ≤ length bytes → key_of bytes ≡ take 32 bytes
@@ -41,23 +41,6 @@ bytes_key bytes s = by (leb 32 (length bytes))
     by : (t : Bool) → Bytes (cond t (take 32 bytes) (replicate 32 0))
     by true = bytes_take 32 bytes s
     by false = zeros 32
-
-pub key_of_lem : (bytes : List ℕ) → Bytes bytes → IsKey (key_of bytes)
-key_of_lem bytes s = record { long = length_key bytes; bytes = bytes_key bytes s }
-
--- a byte of it, of bytes that are enough and of too few
-module _ (bytes : List ℕ) (i : ℕ) where
-  pub key_byte : i < 32 → 32 ≤ length bytes → get_or bytes i 0 ≡ get_or (key_of bytes) i 0
-  key_byte h k = sym (ap (λ (l : List ℕ). get_or l i 0) (key_whole bytes k) ∙ get_or-take 32 bytes i 0 h)
-
-  pub zero_byte : length bytes < 32 → ◌≡◌ {A = ℕ} 0 (get_or (key_of bytes) i 0)
-  unfolding key_of
-  zero_byte h = simp (lt-leb 32 (length bytes) h) (sym (each 32 i))
-    where
-      each : (n j : ℕ) → get_or (replicate {A = ℕ} n 0) j 0 ≡ 0
-      each zero j = refl
-      each (suc n) zero = refl
-      each (suc n) (suc j) = each n j
 
 -- a part of 32 bytes becomes the key
 pub with_key_whole : (key out : List ℕ) → length out ≡ 32 → with_key key out ≡ key

@@ -9,7 +9,9 @@ ghost use Rattle.key.specs.Keys.{same_key, nearer, key_of, with_key};
 
 pub mod in_place;
 
-#[derive(Clone, Copy)]
+use std::fmt;
+
+#[derive(Clone, Copy, PartialEq, Eq, Debug)]
 pub struct Key(pub [u8; 32]);
 
 impl Key {
@@ -20,59 +22,37 @@ impl Key {
     pub fn equals(self, other: Key) -> bool
         ensures { result ≡ same_key self.0 other.0 }
     {
-        let mut i = 0;
-        while i < Key::BYTES {
-            if self.0[i] != other.0[i] {
-                return false;
-            }
-            i += 1;
-        }
-        true
+        self == other
     }
 
     // Whether `a` is nearer to this key than `b`. The first byte in which `a` and `b` differ decides, so no distance is ever made.
     pub fn nearer(self, a: Key, b: Key) -> bool
         ensures { result ≡ nearer self.0 a.0 b.0 }
     {
-        let mut i = 0;
-        while i < Key::BYTES {
-            let to_a = self.0[i] ^ a.0[i];
-            let to_b = self.0[i] ^ b.0[i];
-            if to_a != to_b {
-                return to_a < to_b;
-            }
-            i += 1;
-        }
-        false
+        in_place::nearer_of_parts(&self.0, &a.0, &b.0)
     }
 
     // The key that the first 32 bytes are, or the key of zeros where there are fewer.
     pub fn read(bytes: &[u8]) -> Key
         ensures { result.0 ≡ key_of bytes.now }
     {
-        let mut key = [0u8; 32];
-        if bytes.len() < Key::BYTES {
-            return Key(key);
-        }
-        let mut i = 0;
-        while i < Key::BYTES {
-            key[i] = bytes[i];
-            i += 1;
-        }
-        Key(key)
+        Key(*in_place::front(bytes))
     }
 
     // Writes the key's 32 bytes to the front of `out`, or nothing where it has fewer.
     pub fn write(self, out: &mut [u8])
         ensures { out.new ≡ with_key self.0 out.old }
     {
-        if out.len() < Key::BYTES {
-            return;
+        if Key::BYTES <= out.len() {
+            out[..Key::BYTES].copy_from_slice(&self.0);
         }
-        let mut i = 0;
-        while i < Key::BYTES {
-            out[i] = self.0[i];
-            i += 1;
-        }
+    }
+}
+
+// The first eight bytes: enough for a person to tell keys apart.
+impl fmt::Display for Key {
+    fn fmt<W: fmt::Write>(&self, f: &mut fmt::Formatter<W>) -> fmt::Result {
+        let front = wire::read_number(&self.0);
+        write!(f, "key {front:016x}..")
     }
 }

@@ -1,56 +1,30 @@
--- Laws of slots moved where they stand: the turns of the loops that move bytes by one slot, and the bytes of the slots with one node replaced, one
+-- Laws of slots moved where they stand: the bytes moved by one slot, and the bytes of the slots with one node replaced, one
 -- put between them, and one taken from between them. Assumes nothing.
 use mathlib.Core.Path.{◌≡◌, ◌∙◌, sym, ap, ap₂}
-use mathlib.Core.List.{List, [], ◌∷◌, ◌++◌, append_assoc}
+use mathlib.Core.List.{List, ◌∷◌, ◌++◌, append_assoc}
 use Prim.Native.Nat.{ℕ, suc, ◌+◌, ◌-◌, ◌*◌, ◌<◌, ◌≤◌}
-use native.Mathlib.Nat.{sub_self}
 use native.Mathlib.Omega.{arith}
 use native.Mathlib.Numerals.{add-one}
-use lib.ListN.{length, get_or, take, drop, set, length-append, length-drop, take-append-drop, get_or-append}
-use lib.Seq.{length-take-le, take_all, take-suc, take-take, take-append-le, drop-cons, drop-drop, drop_at, set_at, set_split, append_snoc, get_or-take, get_or-drop, get_or-append-add}
+use lib.ListN.{length, take, drop, set, length-append, length-drop}
+use lib.Seq.{length-take-le, take_all, take-take, take-append-le, drop-drop, drop_at, set_split}
 use Rattle.wire.specs.Numbers.{Bytes}
 use Rattle.wire.proofs.Numbers.{bytes_drop}
-use Rattle.wire.proofs.Copy.{written_byte, written_part, length_lent}
+use Rattle.wire.proofs.Copy.{written_part, length_lent}
 use Rattle.lists.specs.Insert.{insert_at, remove_at}
 use Rattle.lists.proofs.Shift.{front_in, front_out}
 use Rattle.node.specs.declared.Node.{Node}
 use Rattle.lent_list_laws.specs.Layout.{slots_at, slot_bytes, slots_bytes}
 use Rattle.lent_list_laws.proofs.SlotLaws.{slots_number, slots_taken, slots_dropped, slots_append, slots_of_bytes}
 
--- ---- the turns of the loops
+-- ---- the bytes moved
 
--- the bytes from i to before the end have moved back by one slot
+-- the bytes from i to before the end moved back by one slot
 abbrev pub moved_back : List ℕ → ℕ → ℕ → List ℕ
 moved_back s end i = take (i + 51) s ++ (take (end - i) (drop i s) ++ drop (end + 51) s)
 
--- the places from the start to before i have the bytes from one slot behind
+-- the bytes from one slot behind moved to the places from the start to before i
 abbrev pub moved_forward : List ℕ → ℕ → ℕ → List ℕ
 moved_forward s start i = take start s ++ (take (i - start) (drop (start + 51) s) ++ drop i s)
-
--- before the first turn
-pub back_begins : (s : List ℕ) (end : ℕ) → s ≡ moved_back s end end
-back_begins s end = rw (sub_self end) (sym (take-append-drop (end + 51) s))
-
-pub forward_begins : (s : List ℕ) (start : ℕ) → s ≡ moved_forward s start start
-forward_begins s start = rw (sub_self start) (sym (take-append-drop start s))
-
--- one byte more moves back
-pub back_more : (s : List ℕ) (end i : ℕ) → i < end → end + 51 ≤ length s
-    → set (moved_back s end (suc i)) (i + 51) (get_or (moved_back s end (suc i)) i 0) ≡ moved_back s end i
-back_more s end i h room =
-    let front = take (i + 51) s in
-    let rest = take (end - suc i) (drop (suc i) s) ++ drop (end + 51) s in
-    let long = length-take-le (suc i + 51) s (omega arith) in
-    let split : moved_back s end (suc i) ≡ front ++ (get_or s (i + 51) 0 ∷ rest)
-    = ap (λ (k : ℕ). take k s ++ rest) (let e : suc i + 51 ≡ suc (i + 51) = omega arith in e)
-    ∙ ap (λ (x : List ℕ). x ++ rest) (take-suc s (i + 51) 0 (omega arith)) ∙ append_snoc front (get_or s (i + 51) 0) rest in
-    let read : get_or (moved_back s end (suc i)) i 0 ≡ get_or s i 0
-    = get_or-append (take (suc i + 51) s) rest 0 i (omega arith) ∙ get_or-take (suc i + 51) s i 0 (omega arith) in
-    let more : take (end - i) (drop i s) ≡ get_or s i 0 ∷ take (end - suc i) (drop (suc i) s)
-    = ap₂ (λ (k : ℕ) (x : List ℕ). take k x) (let e : end - i ≡ suc (end - suc i) = omega arith in e) (drop-cons s i 0 (omega arith)) in
-    ap₂ (λ (x : List ℕ) (y : ℕ). set x (i + 51) y) split read
-    ∙ set_at front (get_or s (i + 51) 0) rest (get_or s i 0) (i + 51) (length-take-le (i + 51) s (omega arith))
-    ∙ ap (λ (x : List ℕ). front ++ (x ++ drop (end + 51) s)) (sym more)
 
 -- as long as the places passed
 forward_long : (s : List ℕ) (start i : ℕ) → start ≤ i → i + 51 ≤ length s → length (take start s ++ take (i - start) (drop (start + 51) s)) ≡ i
@@ -58,27 +32,6 @@ forward_long s start i h room =
     let a = length-take-le start s (omega arith) in
     let b = length_lent s (start + 51) (i - start) (omega arith) in
     length-append (take start s) (take (i - start) (drop (start + 51) s)) ∙ omega arith
-
--- one byte more moves forward
-pub forward_more : (s : List ℕ) (start i : ℕ) → start ≤ i → i + 51 < length s
-    → set (moved_forward s start i) i (get_or (moved_forward s start i) (i + 51) 0) ≡ moved_forward s start (i + 1)
-forward_more s start i h room =
-    let moved = take (i - start) (drop (start + 51) s) in
-    let front = take start s ++ moved in
-    let byte = get_or s (i + 51) 0 in
-    let long = forward_long s start i h (omega arith) in
-    let d = length-drop (start + 51) s in
-    let read : get_or (front ++ drop i s) (i + 51) 0 ≡ byte
-    = ap (λ (k : ℕ). get_or (front ++ drop i s) (k + 51) 0) (sym long) ∙ get_or-append-add front (drop i s) 51 0 ∙ get_or-drop i s 51 0 in
-    let more : take (i + 1 - start) (drop (start + 51) s) ≡ moved ++ (byte ∷ [])
-    = ap (λ (k : ℕ). take k (drop (start + 51) s)) (let e : i + 1 - start ≡ suc (i - start) = omega arith in e)
-    ∙ take-suc (drop (start + 51) s) (i - start) 0 (omega arith)
-    ∙ ap (λ (x : ℕ). moved ++ (x ∷ [])) (get_or-drop (start + 51) s (i - start) 0 ∙ ap (λ (k : ℕ). get_or s k 0) (let e : start + 51 + (i - start) ≡ i + 51 = omega arith in e)) in
-    ap (λ (x : List ℕ). set x i (get_or x (i + 51) 0)) (sym (append_assoc (take start s) moved (drop i s)))
-    ∙ ap (set (front ++ drop i s) i) read
-    ∙ written_byte front s i byte long (omega arith)
-    ∙ ap (λ (x : List ℕ). x ++ drop (i + 1) s) (append_assoc (take start s) moved (byte ∷ []) ∙ ap (λ (x : List ℕ). take start s ++ x) (sym more))
-    ∙ append_assoc (take start s) (take (i + 1 - start) (drop (start + 51) s)) (drop (i + 1) s)
 
 -- ---- the bytes of all slots, with some of them changed
 

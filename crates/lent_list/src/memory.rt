@@ -18,8 +18,8 @@ pub fn load(memory: &[u8]) -> NearestList
     }
     NearestList {
         target: Key::read(&memory[layout::TARGET..layout::SLOTS]),
-        size: memory[layout::SIZE] as usize,
-        count: memory[layout::COUNT] as usize,
+        size: usize::from(memory[layout::SIZE]),
+        count: usize::from(memory[layout::COUNT]),
         nodes: slot::read_all(&memory[layout::SLOTS..layout::END]),
     }
 }
@@ -33,6 +33,7 @@ pub fn store(list: NearestList, memory: &mut [u8])
     }
     let target = list.target;
     let nodes = list.nodes;
+    // the lowest byte is what is meant here, so each is cut and not converted
     memory[layout::SIZE] = (list.size % 256) as u8;
     memory[layout::COUNT] = (list.count % 256) as u8;
     target.write(&mut memory[layout::TARGET..layout::SLOTS]);

@@ -1,33 +1,35 @@
 // The slots of a list in lent bytes: one by itself, one by its index, and all 16.
-ghost use Rattle.std.specs.Prelude.{◌≡◌, ◌++◌, ◌+◌, ◌*◌, ◌<◌, length, take, drop};
-ghost use Rattle.lent_list_laws.specs.Layout.{slot_length, slots_length, slot_number, slot_at, slots_at, slot_bytes, slots_bytes};
+ghost use Rattle.std.specs.Prelude.{◌≡◌, ◌++◌, ◌+◌, ◌*◌, ◌<◌, ◌≤◌, length, take, drop};
+ghost use Rattle.lent_list_laws.specs.Layout.{key_place, slot_length, slots_length, slot_number, slot_at, slots_at, slot_bytes, slots_bytes};
 
 use crate::layout;
 use key::Key;
-use nearest::NearestList;
 use node::Node;
+use std::array;
+
+// The key in a slot.
+pub(crate) fn key_at(slots: &[u8], index: usize) -> &[u8]
+    requires { index * slot_length + slot_length ≤ length slots.now }
+    ensures { result.now ≡ take 32 (drop (index * slot_length + key_place) slots.now) }
+{
+    let at = index * layout::SLOT_END + layout::KEY;
+    let end = at + Key::BYTES;
+    &slots[at..end]
+}
 
 // The node that stands in a slot.
 fn read(bytes: &[u8]) -> Node
     requires { length bytes.now ≡ slot_length }
     ensures { result ≡ slot_at bytes.now }
 {
+    let mut address = [0; 16];
+    address.copy_from_slice(&bytes[layout::ADDRESS..layout::PORT]);
     Node {
         family: bytes[layout::FAMILY],
-        address: address(&bytes[layout::ADDRESS..layout::PORT]),
-        port: wire::read_number(&bytes[layout::PORT..layout::KEY]) as u16,
+        address,
+        port: u16::from_be_bytes([bytes[layout::PORT], bytes[layout::PORT + 1]]),
         key: Key::read(&bytes[layout::KEY..layout::SLOT_END]),
     }
-}
-
-// The 16 address bytes, by value.
-fn address(bytes: &[u8]) -> [u8; 16]
-    requires { length bytes.now ≡ 16 }
-    ensures { result ≡ bytes.now }
-{
-    let mut address = [0u8; 16];
-    address.copy_from_slice(bytes);
-    address
 }
 
 // Fills a slot.
@@ -35,13 +37,10 @@ fn write(node: Node, out: &mut [u8])
     requires { length out.old ≡ slot_length }
     ensures { out.new ≡ slot_bytes node }
 {
-    let address = node.address;
-    let port = node.port as u64;
-    let key = node.key;
     out[layout::FAMILY] = node.family;
-    out[layout::ADDRESS..layout::PORT].copy_from_slice(&address);
-    wire::write_number(port, &mut out[layout::PORT..layout::KEY]);
-    key.write(&mut out[layout::KEY..layout::SLOT_END]);
+    out[layout::ADDRESS..layout::PORT].copy_from_slice(&node.address);
+    out[layout::PORT..layout::KEY].copy_from_slice(&node.port.to_be_bytes());
+    out[layout::KEY..].copy_from_slice(&node.key.0);
 }
 
 // The node in the slot at an index.
@@ -69,18 +68,7 @@ pub(crate) fn read_all(bytes: &[u8]) -> [Node; 16]
     requires { length bytes.now ≡ slots_length }
     ensures { result ≡ slots_at slot_number bytes.now }
 {
-    let blank = Node::blank();
-    let mut nodes = [blank; 16];
-    let mut at = 0;
-    let mut i = 0;
-    while i < NearestList::LARGEST_SIZE {
-        let end = at + layout::SLOT_END;
-        let node = read(&bytes[at..end]);
-        nodes[i] = node;
-        at = end;
-        i += 1;
-    }
-    nodes
+    array::from_fn(|i| read_at(bytes, i))
 }
 
 // Fills all slots.
@@ -88,13 +76,7 @@ pub(crate) fn write_all(nodes: [Node; 16], out: &mut [u8])
     requires { length out.old ≡ slots_length }
     ensures { out.new ≡ slots_bytes nodes }
 {
-    let mut at = 0;
-    let mut i = 0;
-    while i < NearestList::LARGEST_SIZE {
-        let end = at + layout::SLOT_END;
-        let node = nodes[i];
-        write(node, &mut out[at..end]);
-        at = end;
-        i += 1;
+    for (i, node) in nodes.iter().enumerate() {
+        write_at(*node, out, i);
     }
 }

@@ -1,71 +1,54 @@
 // The test of a list where it stands in lent bytes: its keys are compared in place, and no list is read out.
-ghost use Rattle.std.specs.Prelude.{◌≡◌, ◌≤◌, length, take};
+ghost use Rattle.std.specs.Prelude.{◌≡◌, ◌/◌, length};
 ghost use Rattle.nearest.specs.Lists.{all_known, rising};
-ghost use Rattle.nearest.specs.Calls.{checked};
-ghost use Rattle.lent_list_laws.specs.Layout.{list_length, slots_length, slot_number, slots_at, list_at};
+ghost use Rattle.lent_list_laws.specs.Layout.{slot_length, slots_at};
+ghost use Rattle.lent_list.specs.Standing.{standing};
 
-use crate::{layout, search};
+use crate::layout::{self, Lent};
+use crate::{memory, slot};
 use key::in_place;
-use nearest::{Answer, NearestList};
+use nearest::NearestList;
 use refusal::Refusal;
 
-// Whether the list keeps its own rules: 12, 14.
-pub(crate) fn check(memory: &[u8]) -> Answer
-    requires { list_length ≤ length memory.now }
-    ensures { result ≡ checked (list_at memory.now) }
+// Whether a whole list stands in the memory, and keeps its own rules: 12, 14. The size is asked for first: of memory too short, 12 where the first byte is no
+// size; else 14, as without a byte.
+pub(crate) fn check(memory: &[u8]) -> Result<(), Refusal>
+    ensures { result ≡ standing memory.now }
 {
-    let size = memory[layout::SIZE] as usize;
+    if memory.is_empty() {
+        return Err(Refusal::ListNotWhole);
+    }
+    let size = usize::from(memory[layout::SIZE]);
     if !NearestList::size_right(size) {
-        return Answer::Refused(Refusal::ListSize);
+        return Err(Refusal::ListSize);
     }
-    let count = memory[layout::COUNT] as usize;
-    if size < count {
-        return Answer::Refused(Refusal::ListNotWhole);
+    if memory.len() < memory::BYTES {
+        return Err(Refusal::ListNotWhole);
     }
-    let slots = &memory[layout::SLOTS..layout::END];
-    if !all_known(slots, count) {
-        return Answer::Refused(Refusal::ListNotWhole);
+    if size < usize::from(memory[layout::COUNT]) {
+        return Err(Refusal::ListNotWhole);
     }
-    if !rising(&memory[layout::TARGET..layout::SLOTS], slots, count) {
-        return Answer::Refused(Refusal::ListNotWhole);
+    let list = Lent::of(memory);
+    let held = list.held();
+    if !all_known(held) || !rising(list.target(), held) {
+        return Err(Refusal::ListNotWhole);
     }
-    Answer::Done
+    Ok(())
 }
 
 // Whether the family of each node held is known.
-fn all_known(slots: &[u8], count: usize) -> bool
-    requires { (length slots.now ≡ slots_length) × (count ≤ slot_number) }
-    ensures { result ≡ all_known (take count (slots_at slot_number slots.now)) }
+fn all_known(held: &[u8]) -> bool
+    ensures { result ≡ all_known (slots_at (length held.now / slot_length) held.now) }
 {
-    let mut i = 0;
-    while i < count {
-        let at = i * layout::SLOT_END + layout::FAMILY;
-        if !node::family::known(slots[at]) {
-            return false;
-        }
-        i += 1;
-    }
-    true
+    held.chunks_exact(layout::SLOT_END)
+        .all(|slot| node::family::known(slot[layout::FAMILY]))
 }
 
-// Whether the nodes held are strictly rising in distance: neighbours decide. The loop goes on from a first node, so there must be one.
-fn rising(target: &[u8], slots: &[u8], count: usize) -> bool
-    requires { (length target.now ≡ 32) × (length slots.now ≡ slots_length) × (count ≤ slot_number) }
-    ensures { result ≡ rising target.now (take count (slots_at slot_number slots.now)) }
+// Whether the nodes held are strictly rising in distance: neighbours decide.
+fn rising(target: &[u8], held: &[u8]) -> bool
+    requires { length target.now ≡ 32 }
+    ensures { result ≡ rising target.now (slots_at (length held.now / slot_length) held.now) }
 {
-    if count == 0 {
-        return true;
-    }
-    let mut i = 1;
-    while i < count {
-        if !in_place::nearer(
-            target,
-            search::key_at(slots, i - 1),
-            search::key_at(slots, i),
-        ) {
-            return false;
-        }
-        i += 1;
-    }
-    true
+    let count = held.len() / layout::SLOT_END;
+    (1..count).all(|i| in_place::nearer(target, slot::key_at(held, i - 1), slot::key_at(held, i)))
 }

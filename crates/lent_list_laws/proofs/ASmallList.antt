@@ -8,13 +8,13 @@ use mathlib.Core.Path.{◌≡◌, refl}
 use mathlib.Core.List.{List, [], ◌∷◌, ◌++◌}
 use Prim.Native.Nat.{ℕ}
 use lib.ListN.{length, replicate}
+use Rattle.std.specs.Prelude.{Ok, Err}
 use Rattle.wire.specs.Numbers.{number_of, bytes_of}
 use Rattle.refusal.specs.declared.Refusal.TheVariants.{ListSize, ListNotWhole}
 use Rattle.key.specs.declared.Key.{Key}
 use Rattle.node.specs.declared.Node.{Node}
 use Rattle.node.specs.Values.{blank_node}
 use Rattle.nearest.specs.declared.NearestList.{NearestList}
-use Rattle.nearest.specs.declared.Answer.TheVariants as answer
 use Rattle.nearest.specs.Lists.{size_right}
 use Rattle.lent_list_laws.specs.Layout.{slot_at, slots_at, list_at, slot_bytes, slots_bytes, list_bytes}
 use Rattle.lent_list_laws.specs.Calls.{short_refusal, begun_answer}
@@ -71,10 +71,10 @@ unfolding short_refusal size_right
 short_seventeen = refl
 
 -- a list begun in it: 12 for a bad size comes first
-pub begun_bad : begun_answer (answer.Refused ListSize) [] ≡ answer.Refused ListSize
+pub begun_bad : begun_answer (Err ListSize) [] ≡ Err ListSize
 unfolding begun_answer
 begun_bad = refl
 
-pub begun_short : begun_answer answer.Done [] ≡ answer.Refused ListNotWhole
+pub begun_short : begun_answer (Ok tt) [] ≡ Err ListNotWhole
 unfolding begun_answer
 begun_short = refl

@@ -10,6 +10,9 @@ use native.Mathlib.Omega.{arith}
 use lib.Dec.{leb}
 use lib.ListN.{length, take, drop, replicate, length-append, length-drop, length-replicate}
 use lib.Seq.{length-take-le}
+use Rattle.std.specs.Prelude.{Result, Ok, Err}
+use Rattle.refusal.specs.declared.Refusal.{Refusal}
+use Rattle.nearest.specs.declared.Answered.{Answered}
 use Rattle.wire.specs.Numbers.{Bytes, bytes_of}
 use Rattle.wire.proofs.Numbers.{bytes_append, bytes_take, bytes_drop, bytes_get_d, bytes_bytes_of}
 use Rattle.wire.proofs.Copy.{length_lent, length_written}
@@ -20,11 +23,6 @@ use Rattle.node.specs.declared.Node.{Node}
 use Rattle.node.specs.Families.{known_family}
 use Rattle.node.specs.Values.{IsNode, blank_node}
 use Rattle.nearest.specs.declared.NearestList.{NearestList}
-use Rattle.nearest.specs.declared.Answer.{Answer}
-use Rattle.nearest.specs.declared.Answer.TheVariants as answer
-use Rattle.nearest.specs.declared.Begun.{Begun}
-use Rattle.nearest.specs.declared.Offered.{Offered}
-use Rattle.nearest.specs.declared.Removed.{Removed}
 use Rattle.nearest.specs.Lists.{held, holding, empty_of, size_right}
 use Rattle.nearest.specs.Effect.{holds, without, after_effect}
 use Rattle.nearest.specs.Calls.{begun, checked, effect_on, not_offered, taken, offered_after, offered, removed_after, removed}
@@ -122,7 +120,7 @@ unfolding begun
 begin_storable target size k = by (size_right size) refl
   where
     by : (t : Bool) → size_right size ≡ t
-        → Storable (cond {A = Begun} t (record { list = empty_of target size; answer = answer.Done }) (record { list = empty_of target 8; answer = answer.Refused ListSize })).list
+        → Storable (cond {A = Answered (Unit {0})} t (record { list = empty_of target size; answer = Ok tt }) (record { list = empty_of target 8; answer = Err ListSize })).list
     by true e = let h = size_bounds size e in empty_storable target size k (omega arith)
     by false e = empty_storable target 8 k (omega arith)
 
@@ -150,17 +148,17 @@ module _ (l : NearestList) (s : Storable l) where
             (each_drop (length ns) behind (each_append (replicate l.count blank_node) (drop l.count l.nodes) (each_blank l.count) (each_drop l.count l.nodes s.nodes)));
       }
 
-  count_small : checked l ≡ answer.Done → l.count ≤ 16
+  count_small : checked l ≡ Ok tt → l.count ≤ 16
   count_small e = let w = whole l e in let a = w.within in let b = w.small in omega arith
 
   module _ (n : Node) (f : Fits n) where
-    taken_storable : checked l ≡ answer.Done → known_family n.family ≡ true → Storable (taken l n).list
+    taken_storable : checked l ≡ Ok tt → known_family n.family ≡ true → Storable (taken l n).list
     unfolding taken holding
     taken_storable e k =
         let g = after_effect (effect_on l n) l.target.0 n (held l) in
         let o = offer_taken l n e k in
         let w = whole (offered l n).list (offer_keeps_whole l e s.slots s.target (λ x i. (each_in (held l) held_fits x i).1.key) n f.1.key) in
-        let q : (offered l n).list.count ≡ length g = ap (λ (x : Offered). x.list.count) o in
+        let q : (offered l n).list.count ≡ length g = ap (λ (x : Answered Bool). x.list.count) o in
         let a = w.within in
         let b = w.small in
         holding_storable g (count_small e) (omega arith)
@@ -170,20 +168,20 @@ module _ (l : NearestList) (s : Storable l) where
     unfolding offered offered_after
     offer_storable = by (checked l) refl
       where
-        family : checked l ≡ answer.Done → (t : Bool) → known_family n.family ≡ t → Storable (cond t (taken l n) (not_offered l UnknownFamily)).list
+        family : checked l ≡ Ok tt → (t : Bool) → known_family n.family ≡ t → Storable (cond t (taken l n) (not_offered l UnknownFamily)).list
         family e true k = taken_storable e k
         family e false k = s
 
-        by : (a : Answer) → checked l ≡ a → Storable (offered_after a l n).list
-        by (answer.Refused why) e = s
-        by answer.Done e = family e (known_family n.family) refl
+        by : (a : Result (Unit {0}) Refusal) → checked l ≡ a → Storable (offered_after a l n).list
+        by (Err why) e = s
+        by (Ok _) e = family e (known_family n.family) refl
 
   pub remove_storable : (key : Key) → Storable (removed l key).list
   unfolding removed removed_after
   remove_storable key = by (checked l) refl
     where
-      search : checked l ≡ answer.Done → (t : Bool)
-          → Storable (cond {A = Removed} t (record { list = holding l (without key.0 (held l)); answer = answer.Done }) (record { list = l; answer = answer.Refused KeyNotHeld })).list
+      search : checked l ≡ Ok tt → (t : Bool)
+          → Storable (cond {A = Answered (Unit {0})} t (record { list = holding l (without key.0 (held l)); answer = Ok tt }) (record { list = l; answer = Err KeyNotHeld })).list
       search e true =
           let c = count_small e in
           let z = s.slots in
@@ -193,9 +191,9 @@ module _ (l : NearestList) (s : Storable l) where
           (in_each (without key.0 (held l)) (λ x i. each_in (held l) held_fits x (in_without key.0 (held l) x i).0))
       search e false = s
 
-      by : (a : Answer) → checked l ≡ a → Storable (removed_after a l key).list
-      by (answer.Refused why) e = s
-      by answer.Done e = search e (holds key.0 (held l))
+      by : (a : Result (Unit {0}) Refusal) → checked l ≡ a → Storable (removed_after a l key).list
+      by (Err why) e = s
+      by (Ok _) e = search e (holds key.0 (held l))
 
 -- ---- the memory stays bytes
 

@@ -8,6 +8,7 @@ use native.Mathlib.Nat.{mod-eq_of_lt}
 use native.Mathlib.Omega.{arith}
 use lib.ListN.{length, get_or, take, drop, set}
 use lib.Seq.{drop-drop}
+use Rattle.std.specs.Prelude.{Ok}
 use Rattle.wire.specs.Numbers.{Bytes}
 use Rattle.wire.proofs.Numbers.{bytes_get_d}
 use Rattle.wire.proofs.Copy.{length_lent}
@@ -16,8 +17,7 @@ use Rattle.node.specs.declared.Node.{Node}
 use Rattle.node.specs.Families.{known_family}
 use Rattle.node.proofs.WriteLaws.{with_part}
 use Rattle.nearest.specs.declared.NearestList.{NearestList}
-use Rattle.nearest.specs.declared.Answer.TheVariants.{Done}
-use Rattle.nearest.specs.Lists.{node_key}
+use Rattle.nearest.specs.Lists.{node_key, held}
 use Rattle.nearest.specs.Slots.{position}
 use Rattle.nearest.specs.Calls.{checked}
 use Rattle.nearest.proofs.Front.{no_node}
@@ -46,7 +46,7 @@ unfolding list_at
 nodes_there m = slots_front 16 (drop 34 m)
 
 -- of a list that passes its test
-pub count_there : (m : List ℕ) → checked (list_at m) ≡ Done → get_or m 1 0 ≤ 16
+pub count_there : (m : List ℕ) → checked (list_at m) ≡ Ok tt → get_or m 1 0 ≤ 16
 unfolding list_at
 count_there m e = let w = whole (list_at m) e in let x = w.within in let y = w.small in omega arith
 
@@ -58,8 +58,8 @@ key_there m room i h part e =
 
 module _ (m : List ℕ) (room : 850 ≤ length m) (b : Bytes m) where
   -- what is known of an offer that is not refused, once the place of its key is found
-  pub placed : (n : Node) (p : ℕ) → checked (list_at m) ≡ Done → known_family n.family ≡ true → IsKey (node_key n)
-      → p ≡ position (take 32 (drop 2 m)) (node_key n) (take (get_or m 1 0) (slots_at 16 (slots_of m))) → AtPlace (list_at m) n p
+  pub placed : (n : Node) (p : ℕ) → checked (list_at m) ≡ Ok tt → known_family n.family ≡ true → IsKey (node_key n)
+      → p ≡ position (list_at m).target.0 (node_key n) (held (list_at m)) → AtPlace (list_at m) n p
   unfolding list_at
   placed n p stands family key e =
       let s = read_storable m room b in
@@ -70,7 +70,7 @@ module _ (m : List ℕ) (room : 850 ≤ length m) (b : Bytes m) where
         target_key = s.target;
         new_key = key;
         held_keys = λ x i. (each_in (list_at m).nodes s.nodes x (in_take (list_at m).count (list_at m).nodes x i)).1.key;
-        place = e ∙ ap (λ (ns : List Node). position (take 32 (drop 2 m)) (node_key n) (take (get_or m 1 0) ns)) (nodes_there m);
+        place = e;
       }
 
   -- ---- the slots written over

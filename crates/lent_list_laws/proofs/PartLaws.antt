@@ -1,10 +1,10 @@
--- The key and the family of the node in one of several slots, read where they stand among the bytes of all. Assumes nothing.
+-- The key of the node in one of several slots, read where it stands among the bytes of all. Assumes nothing.
 use mathlib.Core.Path.{◌≡◌, ◌∙◌, sym, ap}
 use mathlib.Core.List.{List}
 use Prim.Native.Nat.{ℕ, ◌+◌, ◌*◌, ◌<◌, ◌≤◌}
 use native.Mathlib.Omega.{arith}
 use lib.ListN.{length, get_or, take, drop}
-use lib.Seq.{drop-drop, get_or-take, get_or-drop}
+use lib.Seq.{drop-drop}
 use Rattle.wire.proofs.Copy.{length_lent, part_of_part}
 use Rattle.key.specs.Keys.{key_of}
 use Rattle.key.proofs.Lent.{key_itself}
@@ -18,11 +18,6 @@ module _ (n i : ℕ) (s : List ℕ) (d : Node) (below : i < n) where
   unfolding slot_at
   key_in_slot =
       ap node_key (slots_at_lem n i s d below) ∙ part_of_part 32 19 51 (drop (i * 51) s) (omega arith) ∙ ap (take 32) (drop-drop 19 (i * 51) s)
-
-  pub family_in_slot : (get_or (slots_at n s) i d).family ≡ get_or s (i * 51 + 0) 0
-  unfolding slot_at
-  family_in_slot =
-      ap (λ (x : Node). x.family) (slots_at_lem n i s d below) ∙ get_or-take 51 (drop (i * 51) s) 0 0 (omega arith) ∙ get_or-drop (i * 51) s 0 0
 
   -- the bytes that are lent for a key are that key
   pub key_lent : i * 51 + 51 ≤ length s → (part : List ℕ) → part ≡ take 32 (drop (i * 51 + 19) s) → key_of part ≡ node_key (get_or (slots_at n s) i d)

@@ -6,12 +6,11 @@ use mathlib.Core.List.{List}
 use Prim.Native.Nat.{ℕ}
 use lib.Dec.{leb}
 use lib.ListN.{length}
+use Rattle.std.specs.Prelude.{Err}
 use Rattle.refusal.specs.declared.Refusal.{Refusal}
 use Rattle.key.specs.declared.Key.{Key}
 use Rattle.node.specs.declared.Node.{Node}
 use Rattle.nearest.specs.declared.NearestList.{NearestList}
-use Rattle.nearest.specs.declared.Answer.TheVariants as answer
-use Rattle.nearest.specs.declared.OfferAnswer.TheVariants as offer
 use Rattle.nearest.specs.Calls.{offered, removed}
 use Rattle.lent_list_laws.specs.Layout.{list_length, list_at, stored}
 use Rattle.lent_list_laws.specs.Calls.{short_refusal, offer_answered, Offers, remove_answered, Removes}
@@ -28,14 +27,14 @@ module _ (m : List ℕ) where
       go false h e = simp h
 
   module _ (left : List ℕ) (why : Refusal) where
-    pub refused_offer_leaves : (n : Node) → Offers n m left (offer.Refused why) → left ≡ m
+    pub refused_offer_leaves : (n : Node) → Offers n m left (Err why) → left ≡ m
     unfolding offer_answered
     refused_offer_leaves n o =
-        o.leaves ∙ by_length (offered (list_at m) n).list (offered (list_at m) n).answer (offer.Refused (short_refusal m)) (offer.Refused why) (sym o.answers)
+        o.leaves ∙ by_length (offered (list_at m) n).list (offered (list_at m) n).answer (Err (short_refusal m)) (Err why) (sym o.answers)
         (λ e. refused_offer_stored m o.bytes why n e)
 
-    pub refused_remove_leaves : (key : Key) → Removes key m left (answer.Refused why) → left ≡ m
+    pub refused_remove_leaves : (key : Key) → Removes key m left (Err why) → left ≡ m
     unfolding remove_answered
     refused_remove_leaves key r =
-        r.leaves ∙ by_length (removed (list_at m) key).list (removed (list_at m) key).answer (answer.Refused (short_refusal m)) (answer.Refused why) (sym r.answers)
+        r.leaves ∙ by_length (removed (list_at m) key).list (removed (list_at m) key).answer (Err (short_refusal m)) (Err why) (sym r.answers)
         (λ e. refused_remove_stored m r.bytes why key e)

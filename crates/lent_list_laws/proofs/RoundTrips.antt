@@ -10,6 +10,8 @@ use lib.Dec.{leb}
 use lib.ListN.{length, get_or, take, drop, length-drop, take-append-drop}
 use lib.Seq.{take_at, drop_at, take-add, drop-drop, drop-cons}
 use borrow.Author.Tests.{leb-true}
+use Rattle.std.specs.Prelude.{Result, Ok, Err}
+use Rattle.nearest.specs.declared.Answered.{Answered}
 use Rattle.wire.specs.Numbers.{Bytes}
 use Rattle.wire.proofs.Numbers.{bytes_drop, bytes_get_d}
 use Rattle.refusal.specs.declared.Refusal.{Refusal}
@@ -18,13 +20,9 @@ use Rattle.key.specs.declared.Key.{Key}
 use Rattle.node.specs.declared.Node.{Node}
 use Rattle.node.specs.Families.{known_family}
 use Rattle.nearest.specs.declared.NearestList.{NearestList}
-use Rattle.nearest.specs.declared.Answer.{Answer}
-use Rattle.nearest.specs.declared.Answer.TheVariants as answer
-use Rattle.nearest.specs.declared.OfferAnswer.TheVariants as offer
-use Rattle.nearest.specs.declared.Removed.{Removed}
-use Rattle.nearest.specs.Effect.{holds, without, kept}
+use Rattle.nearest.specs.Effect.{holds, without}
 use Rattle.nearest.specs.Lists.{held, holding}
-use Rattle.nearest.specs.Calls.{checked, offer_answer, not_offered, effect_on, taken, offered_after, offered, removed_after, removed}
+use Rattle.nearest.specs.Calls.{checked, not_offered, taken, offered_after, offered, removed_after, removed}
 use Rattle.lent_list_laws.specs.Layout.{slots_at, list_at, slots_bytes, list_bytes, stored, Storable}
 use Rattle.lent_list_laws.proofs.SlotLaws.{slots_of_bytes, slots_back}
 
@@ -82,46 +80,41 @@ read_of_write l rest s =
 
 -- ---- a refusal hands the list back as it stood
 
-kept_unrefused : (t : Bool) (why : Refusal) → offer_answer t ≡ offer.Refused why → ⊥
-unfolding offer_answer
-kept_unrefused true why e = let z : ◌≡◌ {A = ℕ} 0 1 = cc in omega arith
-kept_unrefused false why e = let z : ◌≡◌ {A = ℕ} 0 1 = cc in omega arith
-
 module _ (l : NearestList) where
-  after_family : (n : Node) (t : Bool) (why : Refusal) → (cond t (taken l n) (not_offered l UnknownFamily)).answer ≡ offer.Refused why
+  after_family : (n : Node) (t : Bool) (why : Refusal) → (cond t (taken l n) (not_offered l UnknownFamily)).answer ≡ Err why
       → (cond t (taken l n) (not_offered l UnknownFamily)).list ≡ l
   unfolding taken
-  after_family n true why e = absurd (kept_unrefused (kept (effect_on l n)) why e)
+  after_family n true why e = cc
   after_family n false why e = refl
 
-  after_test : (n : Node) (a : Answer) (why : Refusal) → (offered_after a l n).answer ≡ offer.Refused why → (offered_after a l n).list ≡ l
+  after_test : (n : Node) (a : Result (Unit {0}) Refusal) (why : Refusal) → (offered_after a l n).answer ≡ Err why → (offered_after a l n).list ≡ l
   unfolding offered_after
-  after_test n (answer.Refused x) why e = refl
-  after_test n answer.Done why e = after_family n (known_family n.family) why e
+  after_test n (Err x) why e = refl
+  after_test n (Ok _) why e = after_family n (known_family n.family) why e
 
-  pub offer_refused_same : (n : Node) (why : Refusal) → (offered l n).answer ≡ offer.Refused why → (offered l n).list ≡ l
+  pub offer_refused_same : (n : Node) (why : Refusal) → (offered l n).answer ≡ Err why → (offered l n).list ≡ l
   unfolding offered
   offer_refused_same n why e = after_test n (checked l) why e
 
   after_search : (ns : NearestList) (t : Bool) (why : Refusal)
-      → (cond {A = Removed} t (record { list = ns; answer = answer.Done }) (record { list = l; answer = answer.Refused KeyNotHeld })).answer ≡ answer.Refused why
-      → (cond {A = Removed} t (record { list = ns; answer = answer.Done }) (record { list = l; answer = answer.Refused KeyNotHeld })).list ≡ l
-  after_search ns true why e = let z : ◌≡◌ {A = ℕ} 0 1 = cc in absurd (omega arith)
+      → (cond {A = Answered (Unit {0})} t (record { list = ns; answer = Ok tt }) (record { list = l; answer = Err KeyNotHeld })).answer ≡ Err why
+      → (cond {A = Answered (Unit {0})} t (record { list = ns; answer = Ok tt }) (record { list = l; answer = Err KeyNotHeld })).list ≡ l
+  after_search ns true why e = cc
   after_search ns false why e = refl
 
-  remove_after_test : (key : Key) (a : Answer) (why : Refusal) → (removed_after a l key).answer ≡ answer.Refused why → (removed_after a l key).list ≡ l
+  remove_after_test : (key : Key) (a : Result (Unit {0}) Refusal) (why : Refusal) → (removed_after a l key).answer ≡ Err why → (removed_after a l key).list ≡ l
   unfolding removed_after
-  remove_after_test key (answer.Refused x) why e = refl
-  remove_after_test key answer.Done why e = after_search (holding l (without key.0 (held l))) (holds key.0 (held l)) why e
+  remove_after_test key (Err x) why e = refl
+  remove_after_test key (Ok _) why e = after_search (holding l (without key.0 (held l))) (holds key.0 (held l)) why e
 
-  pub remove_refused_same : (key : Key) (why : Refusal) → (removed l key).answer ≡ answer.Refused why → (removed l key).list ≡ l
+  pub remove_refused_same : (key : Key) (why : Refusal) → (removed l key).answer ≡ Err why → (removed l key).list ≡ l
   unfolding removed
   remove_refused_same key why e = remove_after_test key (checked l) why e
 
 -- so storing what a refused offer or a refused removal hands back leaves every byte of the memory
 module _ (m : List ℕ) (b : Bytes m) (why : Refusal) where
-  pub refused_offer_stored : (n : Node) → (offered (list_at m) n).answer ≡ offer.Refused why → stored (offered (list_at m) n).list m ≡ m
+  pub refused_offer_stored : (n : Node) → (offered (list_at m) n).answer ≡ Err why → stored (offered (list_at m) n).list m ≡ m
   refused_offer_stored n e = ap (λ (l : NearestList). stored l m) (offer_refused_same (list_at m) n why e) ∙ stored_same m b
 
-  pub refused_remove_stored : (key : Key) → (removed (list_at m) key).answer ≡ answer.Refused why → stored (removed (list_at m) key).list m ≡ m
+  pub refused_remove_stored : (key : Key) → (removed (list_at m) key).answer ≡ Err why → stored (removed (list_at m) key).list m ≡ m
   refused_remove_stored key e = ap (λ (l : NearestList). stored l m) (remove_refused_same (list_at m) key why e) ∙ stored_same m b

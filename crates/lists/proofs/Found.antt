@@ -1,4 +1,4 @@
--- Elements found by a test: how many pass from the front, and where the first that passes stands; also in each turn of a loop that looks for them.
+-- Elements found by a test: how many pass from the front, and where the first that passes stands; also in each turn of a loop that counts them.
 use mathlib.Core.Path.{◌≡◌, refl, ap}
 use mathlib.Core.Bool.{Bool, true, false, cond}
 use mathlib.Core.List.{List, [], ◌∷◌}
@@ -67,18 +67,12 @@ module _ {A : Type 0} (t : A → Bool) where
   unfolding first_of
   first_one m ms b e = ap (λ (x : Bool). cond x 0 (suc (first_of t ms))) e
 
-  -- ---- a loop that looks for them, one turn at a time
+  -- ---- a loop that counts them, one turn at a time
 
   module _ (ms : List A) (d : A) (i : ℕ) (h : i < length ms) where
     pub leading_turn : (b : Bool) → t (get_or ms i d) ≡ b → leading t (drop i ms) ≡ cond b (suc (leading t (drop (i + 1) ms))) 0
     leading_turn b e = rw (add-one, drop-cons ms i d h) (leading_one (get_or ms i d) (drop (suc i) ms) b e)
 
-    pub first_turn : (b : Bool) → t (get_or ms i d) ≡ b → first_of t (drop i ms) ≡ cond b 0 (suc (first_of t (drop (i + 1) ms)))
-    first_turn b e = rw (add-one, drop-cons ms i d h) (first_one (get_or ms i d) (drop (suc i) ms) b e)
-
   module _ (ms : List A) (i : ℕ) (h : length ms ≤ i) where
     pub leading_end : leading t (drop i ms) ≡ 0
     leading_end = rw (drop_of_length-le ms h) leading_none
-
-    pub first_end : first_of t (drop i ms) ≡ 0
-    first_end = rw (drop_of_length-le ms h) first_none

@@ -1,4 +1,4 @@
--- `AFewListed`: a few lists, computed. `Shift`: an element put in or taken out, also slot by slot. `Found`: elements found by a test. `Mapped`: a function on every
+-- `AFewListed`: a few lists, computed. `Shift`: an element put in or taken out. `Found`: elements found by a test. `Mapped`: a function on every
 -- element. `Members`: which numbers a list has, and lists that have each once.
 pub mod AFewListed
 pub mod Shift

@@ -13,7 +13,6 @@ use lib.Dec.{eqb}
 use borrow.Author.Tests.{eq-eqb, ne_eqb, eqb-true}
 use Rattle.lists.specs.Insert.{insert_at, remove_at}
 use Rattle.lists.specs.Find.{first_of, member, index_of}
-use Rattle.lists.proofs.Found.{first_turn, first_end}
 
 clash : {t : Bool} → t ≡ true → t ≡ false → ⊥
 clash p q = true≢false (sym p ∙ q)
@@ -69,12 +68,6 @@ index_member n (m ∷ ns) h = go (eqb m n) h (index_member n ns)
 -- ---- loops that look for a number, one turn at a time
 
 module _ (n : ℕ) (ns : List ℕ) (i : ℕ) (h : i < length ns) where
-  pub index_here : get_or ns i 0 ≡ n → index_of n (drop i ns) ≡ 0
-  index_here e = first_turn (λ (m : ℕ). eqb m n) ns 0 i h true (eq-eqb _ _ e)
-
-  pub index_next : (get_or ns i 0 ≡ n → ⊥) → index_of n (drop i ns) ≡ suc (index_of n (drop (i + 1) ns))
-  index_next e = first_turn (λ (m : ℕ). eqb m n) ns 0 i h false (ne_eqb _ _ e)
-
   member_turn : member n (drop i ns) ≡ (eqb (get_or ns i 0) n || member n (drop (i + 1) ns))
   unfolding member
   member_turn = rw (add-one, drop-cons ns i 0 h)
@@ -84,9 +77,6 @@ module _ (n : ℕ) (ns : List ℕ) (i : ℕ) (h : i < length ns) where
 
   pub member_next : (get_or ns i 0 ≡ n → ⊥) → member n (drop i ns) ≡ member n (drop (i + 1) ns)
   member_next e = rw (member_turn, ne_eqb _ _ e)
-
-pub index_end : (n : ℕ) (ns : List ℕ) (i : ℕ) → length ns ≤ i → index_of n (drop i ns) ≡ 0
-index_end n = first_end (λ (m : ℕ). eqb m n)
 
 pub member_end : (n : ℕ) (ns : List ℕ) (i : ℕ) → length ns ≤ i → member n (drop i ns) ≡ false
 unfolding member

@@ -9,14 +9,14 @@ use native.Mathlib.Omega.{arith}
 use lib.Dec.{ltb}
 use lib.ListN.{length}
 use borrow.Author.Tests.{ltb-true, ltb-false}
+use Rattle.std.specs.Prelude.{Ok}
+use Rattle.nearest.specs.declared.Answered.{Answered}
 use Rattle.key.specs.Keys.{same_key, nearer}
 use Rattle.key.proofs.Same.{same_sound}
 use Rattle.key.proofs.Cancel.{same_differs}
 use Rattle.node.specs.declared.Node.{Node}
 use Rattle.node.specs.Families.{known_family}
 use Rattle.nearest.specs.declared.NearestList.{NearestList}
-use Rattle.nearest.specs.declared.Answer.TheVariants.{Done}
-use Rattle.nearest.specs.declared.Offered.{Offered}
 use Rattle.nearest.specs.Lists.{node_key, held}
 use Rattle.nearest.specs.Effect.{Effect, added, replaced, put_out, too_far, holds, replace, insert, without, furthest, effect, after_effect, kept}
 use Rattle.nearest.specs.Calls.{checked, offer_answer, effect_on, offered}
@@ -120,15 +120,15 @@ module _ (t : List ℕ) (size : ℕ) (n : Node) (ns : List Node) (k : List ℕ) 
 
 -- ---- the same of lists
 
-module _ (l : NearestList) (n : Node) (e : checked l ≡ Done) (f : known_family n.family ≡ true) where
+module _ (l : NearestList) (n : Node) (e : checked l ≡ Ok tt) (f : known_family n.family ≡ true) where
   pub held_offered : held (offered l n).list ≡ after_effect (effect_on l n) l.target.0 n (held l)
   held_offered =
-      ap (λ (x : Offered). held x.list) (offer_taken l n e f ∙ taken_by l n (effect_on l n) refl)
+      ap (λ (x : Answered Bool). held x.list) (offer_taken l n e f ∙ taken_by l n (effect_on l n) refl)
       ∙ held_holding l (after_effect (effect_on l n) l.target.0 n (held l))
 
   pub answer_is_held : (offered l n).answer ≡ offer_answer (holds (node_key n) (held (offered l n).list))
   answer_is_held =
-      ap (λ (x : Offered). x.answer) (offer_taken l n e f ∙ taken_by l n (effect_on l n) refl)
+      ap (λ (x : Answered Bool). x.answer) (offer_taken l n e f ∙ taken_by l n (effect_on l n) refl)
       ∙ ap offer_answer (kept_is_held l.target.0 l.size n (held l) ∙ ap (holds (node_key n)) (sym held_offered))
 
   module _ (k : List ℕ) (was : holds k (held l) ≡ true) where

@@ -15,16 +15,15 @@ use mathlib.Core.Logic.{inl, inr, ⊎_elim}
 use mathlib.Core.List.{List, [], ◌∷◌, ◌++◌, append-nil, append_assoc}
 use Prim.Native.Nat.{ℕ, ◌≤◌}
 use native.Mathlib.Omega.{arith}
+use Rattle.nearest.specs.declared.Answered.{Answered}
 use Rattle.key.specs.declared.Key.{Key}
 use Rattle.key.specs.Keys.{IsKey}
 use Rattle.node.specs.declared.Node.{Node}
 use Rattle.node.specs.Families.{known_family}
 use Rattle.nearest.specs.declared.NearestList.{NearestList}
-use Rattle.nearest.specs.declared.Begun.{Begun}
-use Rattle.nearest.specs.declared.Offered.{Offered}
 use Rattle.nearest.specs.Lists.{node_key, held, all_known}
-use Rattle.nearest.specs.Effect.{effect, after_effect, kept}
-use Rattle.nearest.specs.Calls.{begun, offered, offer_answer}
+use Rattle.nearest.specs.Effect.{effect, after_effect}
+use Rattle.nearest.specs.Calls.{begun, offered}
 use Rattle.nearest.specs.Sequence.{offers, refused_offer, accepted, Nearest, Keyed, known_ones, list_of}
 use Rattle.nearest.proofs.Steps.{known_none, rising_none}
 use Rattle.nearest.proofs.LastLaws.{in_more}
@@ -33,11 +32,6 @@ use Rattle.nearest.proofs.OneOffer.{offer_keeps_nearest}
 use Rattle.nearest.proofs.ListOf.{begun_is, held_list_of, offer_known, offer_stranger}
 
 -- ---- the fold, one node more
-
-answer_stands : (b : Bool) → refused_offer (offer_answer b) ≡ false
-unfolding refused_offer offer_answer
-answer_stands true = refl
-answer_stands false = refl
 
 module _ (l : NearestList) (n : Node) (ns : List Node) where
   pub offers_more : (m : NearestList) → (offered l n).list ≡ m → offers l (n ∷ ns) ≡ offers m ns
@@ -71,17 +65,16 @@ module _ (target : Key) (size : ℕ) (lo : 1 ≤ size) (hi : size ≤ 16) (ht : 
 
   step : (n : Node) (ns : List Node) → IsKey (node_key n) → Rest ns → (past h : List Node) → Keyed past → all_known h ≡ true → Nearest target.0 size past h
       → (b : Bool) → known_family n.family ≡ b → Ends past h (n ∷ ns)
-  unfolding refused_offer
   step n ns hn rest past h hp f N true e =
       let w = effect target.0 size n h in
       let g = after_effect w target.0 n h in
       let o = offer_known target size lo hi h N.short f N.rises n e in
-      let q = ap (λ (x : Offered). x.list) o in
+      let q = ap (λ (x : Answered Bool). x.list) o in
       let r = rest (past ++ (n ∷ [])) g (keyed_more past n hp hn) (after_known w target.0 n h e f) (offer_keeps_nearest target.0 size past h n ht hn hp N lo) in record {
         nodes = r.nodes;
         list = offers_more (list_of target size h) n ns (list_of target size g) q ∙ r.list;
         unrefused =
-            accepted_more (list_of target size h) n ns (list_of target size g) false q (ap (λ (x : Offered). refused_offer x.answer) o ∙ answer_stands (kept w))
+            accepted_more (list_of target size h) n ns (list_of target size g) false q (ap (λ (x : Answered Bool). refused_offer x.answer) o)
             ∙ ap (λ (x : List Node). n ∷ x) r.unrefused ∙ sym (ones_one n ns true e);
         nearest =
             subst (λ (x : List Node). Nearest target.0 size x r.nodes)
@@ -89,12 +82,12 @@ module _ (target : Key) (size : ℕ) (lo : 1 ≤ size) (hi : size ≤ 16) (ht : 
       }
   step n ns hn rest past h hp f N false e =
       let o = offer_stranger target size lo hi h N.short f N.rises n e in
-      let q = ap (λ (x : Offered). x.list) o in
+      let q = ap (λ (x : Answered Bool). x.list) o in
       let r = rest past h hp f N in record {
         nodes = r.nodes;
         list = offers_more (list_of target size h) n ns (list_of target size h) q ∙ r.list;
         unrefused =
-            accepted_more (list_of target size h) n ns (list_of target size h) true q (ap (λ (x : Offered). refused_offer x.answer) o)
+            accepted_more (list_of target size h) n ns (list_of target size h) true q (ap (λ (x : Answered Bool). refused_offer x.answer) o)
             ∙ r.unrefused ∙ sym (ones_one n ns false e);
         nearest = subst (λ (x : List Node). Nearest target.0 size (past ++ x) r.nodes) (sym (ones_one n ns false e)) r.nearest;
       }
@@ -121,7 +114,7 @@ module _ (target : Key) (size : ℕ) (lo : 1 ≤ size) (hi : size ≤ 16) (ht : 
     from_empty_lem = ends ns hs [] [] (λ x i. absurd i) known_none none
 
     begins : first ≡ list_of target size []
-    begins = ap (λ (x : Begun). x.list) (begun_is target size lo hi)
+    begins = ap (λ (x : Answered (Unit {0})). x.list) (begun_is target size lo hi)
 
     -- a node is refused just where its family is unknown
     pub accepted_known : accepted first ns ≡ known_ones ns

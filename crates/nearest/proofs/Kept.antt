@@ -7,15 +7,13 @@ use mathlib.Core.List.{List, [], ◌∷◌}
 use Prim.Native.Nat.{ℕ, suc, ◌≤◌}
 use native.Mathlib.Omega.{arith}
 use lib.ListN.{length}
+use Rattle.std.specs.Prelude.{Ok}
+use Rattle.nearest.specs.declared.Answered.{Answered}
 use Rattle.key.specs.declared.Key.{Key}
 use Rattle.key.specs.Keys.{IsKey, same_key}
 use Rattle.node.specs.declared.Node.{Node}
 use Rattle.node.specs.Families.{known_family}
 use Rattle.nearest.specs.declared.NearestList.{NearestList}
-use Rattle.nearest.specs.declared.Begun.{Begun}
-use Rattle.nearest.specs.declared.Offered.{Offered}
-use Rattle.nearest.specs.declared.Removed.{Removed}
-use Rattle.nearest.specs.declared.Answer.TheVariants.{Done}
 use Rattle.nearest.specs.Lists.{node_key, held, holding, all_known, rising}
 use Rattle.nearest.specs.Effect.{holds, without, effect, after_effect}
 use Rattle.nearest.specs.Calls.{checked, effect_on, offered, removed}
@@ -51,8 +49,8 @@ nearest_of_itself t k ns r s = record { rises = r; short = s; last = λ n i. eac
 
 -- ---- any list that keeps its rules
 
-whole_holding : (l : NearestList) → checked l ≡ Done → (g : List Node) → length g ≤ l.size → all_known g ≡ true → rising l.target.0 g ≡ true
-    → checked (holding l g) ≡ Done
+whole_holding : (l : NearestList) → checked l ≡ Ok tt → (g : List Node) → length g ≤ l.size → all_known g ≡ true → rising l.target.0 g ≡ true
+    → checked (holding l g) ≡ Ok tt
 unfolding holding
 whole_holding l e g s k r =
     let w = whole l e in
@@ -65,34 +63,34 @@ whole_holding l e g s k r =
       rises = ap (rising l.target.0) (held_holding l g) ∙ r;
     })
 
-module _ (l : NearestList) (e : checked l ≡ Done) (slots : length l.nodes ≡ 16) where
+module _ (l : NearestList) (e : checked l ≡ Ok tt) (slots : length l.nodes ≡ 16) where
   short : length (held l) ≤ l.size
   short = let w = whole l e in let a = w.within in let b = held_length l (omega arith) in omega arith
 
   -- an offer to a list that keeps its rules hands back one that does
-  pub offer_keeps_whole : IsKey l.target.0 → Keyed (held l) → (n : Node) → IsKey (node_key n) → checked (offered l n).list ≡ Done
+  pub offer_keeps_whole : IsKey l.target.0 → Keyed (held l) → (n : Node) → IsKey (node_key n) → checked (offered l n).list ≡ Ok tt
   offer_keeps_whole ht hs n hn = by (known_family n.family) refl
     where
-      by : (b : Bool) → known_family n.family ≡ b → checked (offered l n).list ≡ Done
-      by false f = ap (λ (x : Offered). checked x.list) (sym (offer_unknown l n e f)) ∙ e
+      by : (b : Bool) → known_family n.family ≡ b → checked (offered l n).list ≡ Ok tt
+      by false f = ap (λ (x : Answered Bool). checked x.list) (sym (offer_unknown l n e f)) ∙ e
       by true f =
           let w = whole l e in
           let N = offer_keeps_nearest l.target.0 l.size (held l) (held l) n ht hn hs (nearest_of_itself l.target.0 l.size (held l) w.rises short) w.some_room in
-          ap (λ (x : Offered). checked x.list) (offer_taken l n e f ∙ taken_by l n (effect_on l n) refl)
+          ap (λ (x : Answered Bool). checked x.list) (offer_taken l n e f ∙ taken_by l n (effect_on l n) refl)
           ∙ whole_holding l e (after_effect (effect_on l n) l.target.0 n (held l)) N.short (after_known (effect_on l n) l.target.0 n (held l) f w.knows) N.rises
 
   module _ (key : Key) where
     -- so does a removal
-    pub remove_keeps_whole : checked (removed l key).list ≡ Done
+    pub remove_keeps_whole : checked (removed l key).list ≡ Ok tt
     remove_keeps_whole = by (holds key.0 (held l)) refl
       where
-        by : (b : Bool) → holds key.0 (held l) ≡ b → checked (removed l key).list ≡ Done
-        by false f = ap (λ (x : Removed). checked x.list) (remove_missing l key e f) ∙ e
+        by : (b : Bool) → holds key.0 (held l) ≡ b → checked (removed l key).list ≡ Ok tt
+        by false f = ap (λ (x : Answered (Unit {0})). checked x.list) (remove_missing l key e f) ∙ e
         by true f =
             let w = whole l e in
             let a = length_without key.0 (held l) in
             let b = short in
-            ap (λ (x : Removed). checked x.list) (remove_taken l key e f)
+            ap (λ (x : Answered (Unit {0})). checked x.list) (remove_taken l key e f)
             ∙ whole_holding l e (without key.0 (held l)) (omega arith) (without_known key.0 (held l) w.knows)
             (up_rising l.target.0 (without key.0 (held l)) (up_without l.target.0 key.0 (held l) (rising_up l.target.0 (held l) w.rises)))
 
@@ -101,8 +99,8 @@ module _ (l : NearestList) (e : checked l ≡ Done) (slots : length l.nodes ≡ 
     held_left = by (holds key.0 (held l)) refl
       where
         by : (b : Bool) → holds key.0 (held l) ≡ b → held (removed l key).list ≡ without key.0 (held l)
-        by false f = ap (λ (x : Removed). held x.list) (remove_missing l key e f) ∙ sym (without_free key.0 (held l) (free_in key.0 (held l) f))
-        by true f = ap (λ (x : Removed). held x.list) (remove_taken l key e f) ∙ held_holding l (without key.0 (held l))
+        by false f = ap (λ (x : Answered (Unit {0})). held x.list) (remove_missing l key e f) ∙ sym (without_free key.0 (held l) (free_in key.0 (held l) f))
+        by true f = ap (λ (x : Answered (Unit {0})). held x.list) (remove_taken l key e f) ∙ held_holding l (without key.0 (held l))
 
     pub remove_takes_only : (x : Node) → In x (held (removed l key).list) → In x (held l) × (node_key x ≡ key.0 → ⊥)
     remove_takes_only x i = in_without key.0 (held l) x (subst (In x) held_left i)
@@ -124,13 +122,13 @@ module _ (target : Key) (size : ℕ) (lo : 1 ≤ size) (hi : size ≤ 16) (ht : 
   Blank l = (h : List Node) × (l ≡ list_of target size h) × Fit target size h
 
   offered_blank : (h : List Node) → Fit target size h → (n : Node) → IsKey (node_key n) → (b : Bool) → known_family n.family ≡ b → Blank (offered (list_of target size h) n).list
-  offered_blank h F n hn false f = (h, ap (λ (x : Offered). x.list) (offer_stranger target size lo hi h F.few F.knows F.rises n f), F)
+  offered_blank h F n hn false f = (h, ap (λ (x : Answered Bool). x.list) (offer_stranger target size lo hi h F.few F.knows F.rises n f), F)
   offered_blank h F n hn true f =
       let w = effect target.0 size n h in
       let g = after_effect w target.0 n h in
       let N = offer_keeps_nearest target.0 size h h n ht hn F.keyed (nearest_of_itself target.0 size h F.rises F.few) lo in (
         g,
-        ap (λ (x : Offered). x.list) (offer_known target size lo hi h F.few F.knows F.rises n f),
+        ap (λ (x : Answered Bool). x.list) (offer_known target size lo hi h F.few F.knows F.rises n f),
         record {
           few = N.short;
           knows = after_known w target.0 n h f F.knows;
@@ -140,10 +138,10 @@ module _ (target : Key) (size : ℕ) (lo : 1 ≤ size) (hi : size ≤ 16) (ht : 
       )
 
   removed_blank : (h : List Node) → Fit target size h → (key : Key) → (b : Bool) → holds key.0 h ≡ b → Blank (removed (list_of target size h) key).list
-  removed_blank h F key false f = (h, ap (λ (x : Removed). x.list) (remove_absent target size lo hi h F.few F.knows F.rises key f), F)
+  removed_blank h F key false f = (h, ap (λ (x : Answered (Unit {0})). x.list) (remove_absent target size lo hi h F.few F.knows F.rises key f), F)
   removed_blank h F key true f = (
     without key.0 h,
-    ap (λ (x : Removed). x.list) (remove_held target size lo hi h F.few F.knows F.rises key f),
+    ap (λ (x : Answered (Unit {0})). x.list) (remove_held target size lo hi h F.few F.knows F.rises key f),
     record {
       few = let a = length_without key.0 h in let b = F.few in omega arith;
       knows = without_known key.0 h F.knows;
@@ -155,7 +153,7 @@ module _ (target : Key) (size : ℕ) (lo : 1 ≤ size) (hi : size ≤ 16) (ht : 
   blank : {l : NearestList} → Reached target size l → Blank l
   blank begins = (
     [],
-    ap (λ (x : Begun). x.list) (begun_is target size lo hi),
+    ap (λ (x : Answered (Unit {0})). x.list) (begun_is target size lo hi),
     record { few = omega arith; knows = known_none; rises = rising_none target.0; keyed = λ x i. absurd i },
   )
   blank (offering r n hn) =
@@ -166,7 +164,7 @@ module _ (target : Key) (size : ℕ) (lo : 1 ≤ size) (hi : size ≤ 16) (ht : 
       subst (λ (l : NearestList). Blank (removed l key).list) (sym w.1) (removed_blank w.0 w.2 key (holds key.0 w.0) refl)
 
   -- a list reached from `begin` keeps its rules, and is blank behind the nodes that it holds
-  pub reached_whole : {l : NearestList} → Reached target size l → checked l ≡ Done
+  pub reached_whole : {l : NearestList} → Reached target size l → checked l ≡ Ok tt
   reached_whole r = let w = blank r in ap checked w.1 ∙ list_of_whole target size lo hi w.0 w.2.few w.2.knows w.2.rises
 
   pub reached_blank : {l : NearestList} → Reached target size l → l ≡ list_of target size (held l)

@@ -18,6 +18,7 @@ pub mod OneOffer
 pub mod ListOf
 pub mod Front
 pub mod Steps
+pub mod Shifted
 pub mod Place
 pub mod Judge
 pub mod Holding

@@ -1,18 +1,18 @@
 -- Lists that are blank behind the nodes they hold: what the calls do to them. Assumes nothing.
 use mathlib.Core.Path.{◌≡◌, ◌∙◌, sym, ap}
-use mathlib.Core.Bool.{true, false}
+use mathlib.Core.Bool.{Bool, true, false}
 use mathlib.Core.List.{List, [], ◌++◌}
 use Prim.Native.Nat.{ℕ, zero, suc, ◌+◌, ◌-◌, ◌≤◌}
 use native.Mathlib.Omega.{arith}
 use lib.ListN.{length, drop, replicate, replicate-append-replicate}
 use lib.Seq.{take-append_seam, drop-append_seam}
+use Rattle.std.specs.Prelude.{Ok, Err}
+use Rattle.nearest.specs.declared.Answered.{Answered}
 use Rattle.key.specs.declared.Key.{Key}
 use Rattle.refusal.specs.declared.Refusal.TheVariants.{UnknownFamily, KeyNotHeld, ListSize}
 use Rattle.node.specs.declared.Node.{Node}
 use Rattle.node.specs.Families.{known_family}
 use Rattle.nearest.specs.declared.NearestList.{NearestList}
-use Rattle.nearest.specs.declared.Answer.TheVariants.{Done, Refused}
-use Rattle.nearest.specs.declared.Offered.{Offered}
 use Rattle.nearest.specs.Lists.{held, holding, empty_of, size_right, all_known, rising}
 use Rattle.node.specs.Values.{blank_node}
 use Rattle.nearest.specs.Effect.{Effect, effect, after_effect, kept, holds, without}
@@ -28,20 +28,20 @@ drop_replicate b zero (suc j) = let e : ◌≡◌ {A = ℕ} 0 (0 - suc j) = omeg
 drop_replicate b (suc m) (suc j) = let e : m - j ≡ suc m - suc j = omega arith in drop_replicate b m j ∙ ap (λ (i : ℕ). replicate i b) e
 
 -- what `begin` returns
-pub begun_is : (target : Key) (size : ℕ) → 1 ≤ size → size ≤ 16 → begun target size ≡ record { list = list_of target size []; answer = Done }
+pub begun_is : (target : Key) (size : ℕ) → 1 ≤ size → size ≤ 16 → begun target size ≡ record { list = list_of target size []; answer = Ok tt }
 unfolding begun list_of empty_of
 begun_is target size lo hi = simp (bounds_size size lo hi)
 
 -- what a bad size begins is what size 8 begins
-pub begun_bad : (target : Key) (size : ℕ) → size_right size ≡ false → begun target size ≡ record { list = (begun target 8).list; answer = Refused ListSize }
+pub begun_bad : (target : Key) (size : ℕ) → size_right size ≡ false → begun target size ≡ record { list = (begun target 8).list; answer = Err ListSize }
 unfolding begun
 begun_bad target size h = simp (h, bounds_size 8 (omega arith) (omega arith))
 
-abbrev handing : NearestList → Effect → Offered
+abbrev handing : NearestList → Effect → Answered Bool
 handing l w = record { list = l; answer = offer_answer (kept w) }
 
 -- what an offer of a node of known family hands back
-abbrev pub offer_to : Key → ℕ → Node → List Node → Offered
+abbrev pub offer_to : Key → ℕ → Node → List Node → Answered Bool
 offer_to target size n h = handing (list_of target size (after_effect (effect target.0 size n h) target.0 n h)) (effect target.0 size n h)
 
 module _ (target : Key) (size : ℕ) where
@@ -62,7 +62,7 @@ module _ (target : Key) (size : ℕ) where
   -- ---- a list that keeps its rules
 
   module _ (lo : 1 ≤ size) (hi : size ≤ 16) (h : List Node) (short : length h ≤ size) (knows : all_known h ≡ true) (rises : rising target.0 h ≡ true) where
-    pub list_of_whole : checked (list_of target size h) ≡ Done
+    pub list_of_whole : checked (list_of target size h) ≡ Ok tt
     unfolding list_of
     list_of_whole =
         whole_passes (list_of target size h)
@@ -88,11 +88,11 @@ module _ (target : Key) (size : ℕ) where
     offer_stranger n f = sym (offer_unknown (list_of target size h) n list_of_whole f)
 
     pub remove_held : (key : Key) → holds key.0 h ≡ true
-        → removed (list_of target size h) key ≡ record { list = list_of target size (without key.0 h); answer = Done }
+        → removed (list_of target size h) key ≡ record { list = list_of target size (without key.0 h); answer = Ok tt }
     remove_held key f =
         remove_taken (list_of target size h) key list_of_whole (ap (holds key.0) (held_list_of h) ∙ f)
-        ∙ ap (λ (x : List Node). record { list = holding (list_of target size h) (without key.0 x); answer = Done }) (held_list_of h)
-        ∙ ap (λ (x : NearestList). record { list = x; answer = Done }) (holding_list_of h (without key.0 h) (omega arith))
+        ∙ ap (λ (x : List Node). record { list = holding (list_of target size h) (without key.0 x); answer = Ok tt }) (held_list_of h)
+        ∙ ap (λ (x : NearestList). record { list = x; answer = Ok tt }) (holding_list_of h (without key.0 h) (omega arith))
 
-    pub remove_absent : (key : Key) → holds key.0 h ≡ false → removed (list_of target size h) key ≡ record { list = list_of target size h; answer = Refused KeyNotHeld }
+    pub remove_absent : (key : Key) → holds key.0 h ≡ false → removed (list_of target size h) key ≡ record { list = list_of target size h; answer = Err KeyNotHeld }
     remove_absent key f = remove_missing (list_of target size h) key list_of_whole (ap (holds key.0) (held_list_of h) ∙ f)

@@ -3,13 +3,14 @@ use mathlib.Core.Path.{◌≡◌, ◌∙◌, refl, sym, ap, ap₂}
 use mathlib.Core.Bool.{Bool, true, false, cond}
 use mathlib.Core.Logic.{◌⊎◌, inl, inr}
 use mathlib.Core.List.{List, [], ◌∷◌, ◌++◌}
-use Prim.Native.Nat.{ℕ, suc, ◌+◌, ◌-◌, ◌<◌, ◌≤◌}
+use Prim.Native.Nat.{ℕ, suc, ◌+◌, ◌<◌, ◌≤◌}
 use native.Mathlib.Omega.{arith}
 use native.Mathlib.Numerals.{add-one}
 use lib.Dec.{ltb}
 use lib.ListN.{length, get_or, take, drop, set, length-set, take-append-drop}
 use lib.Seq.{take-take, get_or-take, length-take-le, set-append_left}
 use borrow.Author.Tests.{lt-ltb, le-ltb, ltb-true, ltb-false}
+use Rattle.std.specs.Prelude.{Result, Ok, Err}
 use Rattle.key.specs.Keys.{IsKey, same_key, nearer}
 use Rattle.refusal.specs.declared.Refusal.{Refusal}
 use Rattle.refusal.specs.declared.Refusal.TheVariants.{UnknownFamily}
@@ -18,9 +19,6 @@ use Rattle.lists.proofs.Shift.{length_in, take_more_in}
 use Rattle.node.specs.declared.Node.{Node}
 use Rattle.node.specs.Families.{known_family}
 use Rattle.nearest.specs.declared.NearestList.{NearestList}
-use Rattle.nearest.specs.declared.Answer.{Answer}
-use Rattle.nearest.specs.declared.Answer.TheVariants.{Done, Refused}
-use Rattle.nearest.specs.declared.OfferAnswer.TheVariants as offer
 use Rattle.nearest.specs.Lists.{node_key, held, holding}
 use Rattle.nearest.specs.Effect.{Effect, added, replaced, put_out, too_far, holds, insert, without, furthest, effect, after_effect, kept}
 use Rattle.nearest.specs.Calls.{checked, not_offered, effect_on, taken, offer_answer, offered_after, offered}
@@ -80,18 +78,18 @@ module _ (t : List ℕ) (size : ℕ) (n : Node) (ht : IsKey t) (hn : IsKey (node
 -- ---- what is handed back
 
 module _ (l : NearestList) (n : Node) where
-  pub offer_refused : (why : Refusal) → checked l ≡ Refused why → not_offered l why ≡ offered l n
+  pub offer_refused : (why : Refusal) → checked l ≡ Err why → not_offered l why ≡ offered l n
   unfolding offered offered_after
-  offer_refused why e = sym (ap (λ (a : Answer). offered_after a l n) e)
+  offer_refused why e = sym (ap (λ (a : Result (Unit {0}) Refusal). offered_after a l n) e)
 
-  by_family : (b : Bool) → checked l ≡ Done → known_family n.family ≡ b → offered l n ≡ cond b (taken l n) (not_offered l UnknownFamily)
+  by_family : (b : Bool) → checked l ≡ Ok tt → known_family n.family ≡ b → offered l n ≡ cond b (taken l n) (not_offered l UnknownFamily)
   unfolding offered offered_after
-  by_family b e f = ap (λ (a : Answer). offered_after a l n) e ∙ ap (λ (x : Bool). cond x (taken l n) (not_offered l UnknownFamily)) f
+  by_family b e f = ap (λ (a : Result (Unit {0}) Refusal). offered_after a l n) e ∙ ap (λ (x : Bool). cond x (taken l n) (not_offered l UnknownFamily)) f
 
-  pub offer_unknown : checked l ≡ Done → known_family n.family ≡ false → not_offered l UnknownFamily ≡ offered l n
+  pub offer_unknown : checked l ≡ Ok tt → known_family n.family ≡ false → not_offered l UnknownFamily ≡ offered l n
   offer_unknown e f = sym (by_family false e f)
 
-  pub offer_taken : checked l ≡ Done → known_family n.family ≡ true → offered l n ≡ taken l n
+  pub offer_taken : checked l ≡ Ok tt → known_family n.family ≡ true → offered l n ≡ taken l n
   offer_taken e f = by_family true e f
 
   -- by its effect
@@ -102,7 +100,7 @@ module _ (l : NearestList) (n : Node) where
 
 -- what is known of an offer that is not refused, once the place of its key is found
 pub record AtPlace (l : NearestList) (n : Node) (p : ℕ) : Type 0 where
-  pub stands : checked l ≡ Done
+  pub stands : checked l ≡ Ok tt
   pub family : known_family n.family ≡ true
   pub slots : length l.nodes ≡ 16
   pub target_key : IsKey l.target.0
@@ -138,8 +136,8 @@ module _ (l : NearestList) (n : Node) (p : ℕ) (a : AtPlace l n p) where
       ∙ sym (offer_taken l n a.stands a.family ∙ taken_by l n w q)
 
   pub offer_replaced : p < l.count → same_key (node_key (get_or l.nodes p no_node)) (node_key n) ≡ true
-      → record { list = record { target = l.target; size = l.size; count = l.count; nodes = set l.nodes p n }; answer = offer.Kept } ≡ offered l n
-  unfolding kept offer_answer after_effect
+      → record { list = record { target = l.target; size = l.size; count = l.count; nodes = set l.nodes p n }; answer = Ok true } ≡ offered l n
+  unfolding kept after_effect
   offer_replaced h s =
       let k : p < length (held l) = let m = long in omega arith in
       let z : same_key (node_key (get_or (held l) p no_node)) (node_key n) ≡ true = rw (get_or-take l.count l.nodes p no_node h) s in
@@ -163,8 +161,8 @@ module _ (l : NearestList) (n : Node) (p : ℕ) (a : AtPlace l n p) where
             split false q = inl (let m = long in let k = ltb-false p l.count q in omega arith)
 
     pub offer_added : l.count < l.size → (ns : List Node) → ns ≡ take (l.count + 1) (insert_at p n l.nodes) ++ drop (l.count + 1) l.nodes
-        → record { list = record { target = l.target; size = l.size; count = l.count + 1; nodes = ns }; answer = offer.Kept } ≡ offered l n
-    unfolding kept offer_answer after_effect
+        → record { list = record { target = l.target; size = l.size; count = l.count + 1; nodes = ns }; answer = Ok true } ≡ offered l n
+    unfolding kept after_effect
     offer_added h ns e =
         let g = fits in
         let d = long in
@@ -175,24 +173,22 @@ module _ (l : NearestList) (n : Node) (p : ℕ) (a : AtPlace l n p) where
         (sym (length-take-le (l.count + 1) (insert_at p n l.nodes) (omega arith))) (omega arith) e
 
     pub offer_put_out : l.size ≤ l.count → p < l.count
-        → (ns : List Node) → ns ≡ take (l.count - 1 + 1) (insert_at p n l.nodes) ++ drop (l.count - 1 + 1) l.nodes
-        → record { list = record { target = l.target; size = l.size; count = l.count; nodes = ns }; answer = offer.Kept } ≡ offered l n
-    unfolding kept offer_answer after_effect
+        → (ns : List Node) → ns ≡ take l.count (insert_at p n l.nodes) ++ drop l.count l.nodes
+        → record { list = record { target = l.target; size = l.size; count = l.count; nodes = ns }; answer = Ok true } ≡ offered l n
+    unfolding kept after_effect
     offer_put_out full h ns e =
         let g = fits in
         let d = long in
         let m = length_in p n l.nodes in
         let q = a.place in
         let w = full_nearer t l.size n a.target_key a.new_key (held l) up a.held_keys none (omega arith) (omega arith) in
-        let back : l.count - 1 + 1 ≡ l.count = omega arith in
         shown (put_out (furthest (held l))) w.0 l.count ns (take l.count (insert_at p n l.nodes))
         (w.1 ∙ ap₂ (λ (x y : ℕ). take x (insert_at y n (held l))) d (sym q)
         ∙ ap (take l.count) (sym (take_more_in p l.count n l.nodes place_within g)) ∙ take-take l.count (suc l.count) (insert_at p n l.nodes) (omega arith))
-        (sym (length-take-le l.count (insert_at p n l.nodes) (omega arith))) (omega arith)
-        (e ∙ ap (λ (x : ℕ). take x (insert_at p n l.nodes) ++ drop x l.nodes) back)
+        (sym (length-take-le l.count (insert_at p n l.nodes) (omega arith))) (omega arith) e
 
-    pub offer_too_far : l.size ≤ l.count → l.count ≤ p → record { list = l; answer = offer.NotKept } ≡ offered l n
-    unfolding kept offer_answer after_effect
+    pub offer_too_far : l.size ≤ l.count → l.count ≤ p → record { list = l; answer = Ok false } ≡ offered l n
+    unfolding kept after_effect
     offer_too_far full h =
         let w = (whole l a.stands).some_room in
         let d = long in

@@ -3,9 +3,11 @@ use mathlib.Core.Path.{◌≡◌, ◌∙◌, refl, sym, ap, subst}
 use mathlib.Core.Bool.{Bool, true, false, ◌&&◌, cond}
 use mathlib.Core.Logic.{inl, inr, ⊎_elim}
 use mathlib.Core.List.{List, [], ◌∷◌}
-use Prim.Native.Nat.{ℕ, ◌<◌, ◌≤◌}
+use Prim.Native.Nat.{ℕ, zero, suc, ◌+◌, ◌<◌, ◌≤◌}
+use native.Mathlib.Numerals.{add-one}
+use native.Mathlib.Nat.{le_of_suc-le-suc, not-suc-le-zero}
 use native.Mathlib.Omega.{arith}
-use lib.ListN.{length, take}
+use lib.ListN.{length, get_or, take}
 use Rattle.key.specs.Keys.{IsKey, same_key, distance, nearer}
 use Rattle.key.proofs.Same.{same_refl, same_sound}
 use Rattle.key.proofs.Cancel.{differs_same, distance_cancels, nearer_lt, not_nearer_le, lt_nearer}
@@ -13,6 +15,7 @@ use Rattle.node.specs.declared.Node.{Node}
 use Rattle.nearest.specs.Lists.{node_key, rising, rising_after}
 use Rattle.nearest.specs.Effect.{replace, insert, without, last_key}
 use Rattle.nearest.specs.Sequence.{In, Keyed}
+use Rattle.nearest.proofs.Front.{no_node}
 use Rattle.nearest.proofs.Steps.{rising_none, rising_one, after_none, after_one, insert_none, insert_one, replace_none, replace_one, without_none, without_one}
 use Rattle.nearest.proofs.Members.{in_without, in_insert}
 
@@ -41,6 +44,38 @@ module _ (t : List ℕ) where
   pub up_rising : (ns : List Node) → Up ns → rising t ns ≡ true
   up_rising [] u = rising_none t
   up_rising (n ∷ ns) u = rising_one t n ns ∙ after_up n ns u.0 u.1
+
+  pairs_after : (n : Node) (ns : List Node)
+      → ((k : ℕ) → suc k < length (n ∷ ns) → nearer t (node_key (get_or (n ∷ ns) k no_node)) (node_key (get_or (n ∷ ns) (suc k) no_node)) ≡ true) → rising_after t n ns ≡ true
+  pairs_after n [] h = after_none t n
+  pairs_after n (m ∷ ns) h = after_one t n m ns true (h 0 (omega arith)) ∙ pairs_after m ns (λ k l. h (suc k) (omega arith))
+
+  pairs_rising : (ns : List Node) → ((k : ℕ) → suc k < length ns → nearer t (node_key (get_or ns k no_node)) (node_key (get_or ns (suc k) no_node)) ≡ true) → rising t ns ≡ true
+  pairs_rising [] h = rising_none t
+  pairs_rising (n ∷ ns) h = rising_one t n ns ∙ pairs_after n ns h
+
+  false_behind : (b c : Bool) → c ≡ false → (b && c) ≡ false
+  false_behind true c e = e
+  false_behind false c e = refl
+
+  broken_after : (n : Node) (ns : List Node) (k : ℕ) → suc k < length (n ∷ ns) → nearer t (node_key (get_or (n ∷ ns) k no_node)) (node_key (get_or (n ∷ ns) (suc k) no_node)) ≡ false
+      → rising_after t n ns ≡ false
+  broken_after n [] k h e = absurd (omega arith)
+  broken_after n (m ∷ ns) zero h e = after_one t n m ns false e
+  broken_after n (m ∷ ns) (suc k) h e =
+      after_one t n m ns (nearer t (node_key n) (node_key m)) refl
+      ∙ false_behind (nearer t (node_key n) (node_key m)) (rising_after t m ns) (broken_after m ns k (le_of_suc-le-suc h) e)
+
+  broken_rising : (ns : List Node) (k : ℕ) → suc k < length ns → nearer t (node_key (get_or ns k no_node)) (node_key (get_or ns (suc k) no_node)) ≡ false → rising t ns ≡ false
+  broken_rising [] k h e = absurd (not-suc-le-zero h)
+  broken_rising (n ∷ ns) k h e = rising_one t n ns ∙ broken_after n ns k h e
+
+  -- so a test of each two neighbours answers it
+  pub neighbours_decide : (b : Bool) (ns : List Node)
+      → (b ≡ true → (k : ℕ) → k + 1 < length ns → nearer t (node_key (get_or ns k no_node)) (node_key (get_or ns (k + 1) no_node)) ≡ true)
+      → (b ≡ false → (k : ℕ) × (k + 1 < length ns) × (nearer t (node_key (get_or ns k no_node)) (node_key (get_or ns (k + 1) no_node)) ≡ false)) → b ≡ rising t ns
+  neighbours_decide true ns every some = sym (pairs_rising ns (λ k h. rw add-one at (every refl k (omega arith))))
+  neighbours_decide false ns every some = let w = some refl in let h = w.1 in sym (broken_rising ns w.0 (omega arith) (rw add-one at w.2))
 
   up_after : (n : Node) (ns : List Node) → rising_after t n ns ≡ true → ((m : Node) → In m ns → far t n < far t m) × Up ns
   up_after n [] h = (λ m i. absurd i, tt)

@@ -1,10 +1,18 @@
 -- What each definition over a list of nodes says of one more node. Assumes nothing.
-use mathlib.Core.Path.{◌≡◌, refl, ap}
-use mathlib.Core.Bool.{Bool, ◌&&◌, ◌||◌, cond, true, false}
+use mathlib.Core.Path.{◌≡◌, ◌∙◌, refl, sym, ap, subst}
+use mathlib.Core.Bool.{Bool, ◌&&◌, ◌||◌, not, cond, true, false}
 use mathlib.Core.List.{List, [], ◌∷◌}
-use Prim.Native.Nat.{ℕ, suc}
+use Prim.Native.Nat.{ℕ, suc, ◌+◌, ◌<◌, ◌≤◌}
+use native.Mathlib.Omega.{arith}
+use lib.Dec.{ltb}
+use lib.ListN.{length}
+use borrow.Author.Tests.{ltb-true, ltb-false}
+use Rattle.std.specs.Prelude.{Option, Some, None, MatchOption, unwrap_or}
+use Rattle.std.specs.List as list
+use Rattle.std.specs.List.{prefix_len}
 use Rattle.key.specs.Keys.{same_key, nearer}
-use Rattle.lists.proofs.Found.{leading_none, leading_one, first_none, first_one}
+use Rattle.lists.specs.Find.{leading, first_of}
+use Rattle.lists.proofs.Found.{leading_none, leading_one, leading_le, first_none, first_one}
 use Rattle.node.specs.declared.Node.{Node}
 use Rattle.node.specs.Families.{known_family}
 use Rattle.nearest.specs.Lists.{node_key, all_known, rising, rising_after}
@@ -51,12 +59,54 @@ module _ (t : List ℕ) where
   unfolding insert
   insert_one n m ms b e = ap (λ (x : Bool). cond x (m ∷ insert t n ms) (n ∷ m ∷ ms)) e
 
+-- the first that passes a test, as std counts to it
+first_prefix : {A : Type 0} (t : A → Bool) (ms : List A) → prefix_len (λ m. not (t m)) ms ≡ first_of t ms
+first_prefix t [] = sym (first_none t)
+first_prefix t (m ∷ ms) = by (t m) refl (first_prefix t ms)
+  where
+    by : (b : Bool) → t m ≡ b → prefix_len (λ x. not (t x)) ms ≡ first_of t ms → prefix_len (λ x. not (t x)) (m ∷ ms) ≡ first_of t (m ∷ ms)
+    by true e ih = rw e (sym (first_one t m ms true e))
+    by false e ih =
+        let q : 1 + prefix_len (λ x. not (t x)) ms ≡ suc (prefix_len (λ x. not (t x)) ms) = omega arith in
+        rw e (q ∙ ap suc ih ∙ sym (first_one t m ms false e))
+
+passing_counts : {A : Type 0} (t : A → Bool) (ms : List A) → prefix_len (λ m. not (not (t m))) ms ≡ leading t ms
+passing_counts t [] = sym (leading_none t)
+passing_counts t (m ∷ ms) = by (t m) refl (passing_counts t ms)
+  where
+    by : (b : Bool) → t m ≡ b → prefix_len (λ x. not (not (t x))) ms ≡ leading t ms → prefix_len (λ x. not (not (t x))) (m ∷ ms) ≡ leading t (m ∷ ms)
+    by true e ih =
+        let q : 1 + prefix_len (λ x. not (not (t x))) ms ≡ suc (prefix_len (λ x. not (not (t x))) ms) = omega arith in
+        rw e (q ∙ ap suc ih ∙ sym (leading_one t m ms true e))
+    by false e ih = rw e (sym (leading_one t m ms false e))
+
+-- how many pass a test from the front on, by the first that does not
+pub leading_counts : {A : Type 0} (t : A → Bool) (ms : List A) → unwrap_or (list.position (λ m. not (t m)) ms) (length ms) ≡ leading t ms
+leading_counts t ms = ap (λ (p : ℕ). unwrap_or (cond (ltb p (length ms)) (Some p) None) (length ms)) (passing_counts t ms) ∙ by (ltb (leading t ms) (length ms)) refl
+  where
+    by : (b : Bool) → ltb (leading t ms) (length ms) ≡ b → unwrap_or {T = ℕ} (cond b (Some (leading t ms)) None) (length ms) ≡ leading t ms
+    by true h = refl
+    by false h = let l = leading_le t ms in let k = ltb-false (leading t ms) (length ms) h in omega arith
+
 module _ (k : List ℕ) where
   pub index_none : index_of k [] ≡ 0
   index_none = first_none (λ (m : Node). same_key (node_key m) k)
 
   pub index_one : (m : Node) (ms : List Node) (b : Bool) → same_key (node_key m) k ≡ b → index_of k (m ∷ ms) ≡ cond b 0 (suc (index_of k ms))
   index_one = first_one (λ (m : Node). same_key (node_key m) k)
+
+  -- where it stands, if anywhere
+  pub index_found : (ns : List Node) (r : Option ℕ) → r ≡ list.position (λ (m : Node). same_key (node_key m) k) ns
+      → MatchOption r (length ns ≤ index_of k ns) (λ i. (i ≡ index_of k ns) × (i < length ns))
+  index_found ns r e =
+      subst (λ (x : Option ℕ). MatchOption x (length ns ≤ index_of k ns) (λ i. (i ≡ index_of k ns) × (i < length ns)))
+      (sym (e ∙ ap (λ (x : ℕ). cond (ltb x (length ns)) (Some x) None) (first_prefix (λ (m : Node). same_key (node_key m) k) ns)))
+      (by (ltb (index_of k ns) (length ns)) refl)
+    where
+      by : (b : Bool) → ltb (index_of k ns) (length ns) ≡ b
+          → MatchOption {T = ℕ} (cond b (Some (index_of k ns)) None) (length ns ≤ index_of k ns) (λ i. (i ≡ index_of k ns) × (i < length ns))
+      by true h = (refl, ltb-true (index_of k ns) (length ns) h)
+      by false h = ltb-false (index_of k ns) (length ns) h
 
   pub holds_none : holds k [] ≡ false
   unfolding holds

@@ -1,12 +1,11 @@
 -- Document 01, "The nearest list", over whole sequences of offers: what a list must hold after them.
-use Rattle.std.specs.Prelude.{Bool, true, false, cond, List, [], ◌∷◌, ◌++◌, ◌⊎◌, ◌≡◌, ℕ, ◌-◌, ◌≤◌, length, replicate}
+use Rattle.std.specs.Prelude.{Bool, true, false, cond, List, [], ◌∷◌, ◌++◌, ◌⊎◌, ◌≡◌, ℕ, ◌-◌, ◌≤◌, length, replicate, Result, is_err}
+use Rattle.refusal.specs.declared.Refusal.{Refusal}
 use Rattle.key.specs.declared.Key.{Key}
 use Rattle.key.specs.Keys.{IsKey, same_key, nearer}
 use Rattle.node.specs.declared.Node.{Node}
 use Rattle.node.specs.Families.{known_family}
 use Rattle.nearest.specs.declared.NearestList.{NearestList}
-use Rattle.nearest.specs.declared.OfferAnswer.{OfferAnswer}
-use Rattle.nearest.specs.declared.OfferAnswer.TheVariants as offer
 use Rattle.nearest.specs.Lists.{largest_size, node_key, rising}
 use Rattle.node.specs.Values.{blank_node}
 use Rattle.nearest.specs.Effect.{holds}
@@ -18,10 +17,8 @@ offers l [] = l
 offers l (n ∷ ns) = offers (offered l n).list ns
 
 -- whether an answer is a refusal
-unfoldable pub refused_offer : OfferAnswer → Bool
-refused_offer offer.Kept = false
-refused_offer offer.NotKept = false
-refused_offer (offer.Refused why) = true
+abbrev pub refused_offer : Result Bool Refusal → Bool
+refused_offer answer = is_err answer
 
 -- those of them that were offered without refusal
 unfoldable pub accepted : NearestList → List Node → List Node

@@ -4,8 +4,9 @@
 // them for more, stay with the host.
 #![tactic(auto)]
 
-ghost use Rattle.std.specs.Prelude.{◌≡◌};
-ghost use Rattle.nearest.specs.Lists.{default_size, empty_of, size_right};
+ghost use Rattle.std.specs.Prelude.{◌≡◌, ◌≤◌};
+ghost use Rattle.nearest.specs.Lists.{largest_size, default_size, held, empty_of, size_right};
+ghost use Rattle.nearest.specs.Slots.{IsList};
 ghost use Rattle.nearest.specs.Calls.{begun, checked, offered, removed};
 
 mod slots;
@@ -14,7 +15,8 @@ use key::Key;
 use node::Node;
 use refusal::Refusal;
 
-// The first `count` slots hold nodes. What the others hold is never read; in a list made by `begin` and changed only here they are blank.
+// The first `count` slots hold nodes. What the others hold is never read; in a list made by `begin` and changed only here they are blank. A list
+// is a plain value that takes no memory elsewhere, so the count stands beside slots for the most nodes.
 #[derive(Clone, Copy)]
 pub struct NearestList {
     pub target: Key,
@@ -23,38 +25,11 @@ pub struct NearestList {
     pub nodes: [Node; 16],
 }
 
-// What `begin`, `check` and `remove` answer.
+// What a call hands back: the list, changed or as it stood, and its answer beside it.
 #[derive(Clone, Copy)]
-pub enum Answer {
-    Done,
-    Refused(Refusal),
-}
-
-// What `offer` answers: yes or no for kept, or why it was refused.
-#[derive(Clone, Copy)]
-pub enum OfferAnswer {
-    Kept,
-    NotKept,
-    Refused(Refusal),
-}
-
-// A variant cannot hold an array, so each call hands back the list and its answer side by side.
-#[derive(Clone, Copy)]
-pub struct Begun {
+pub struct Answered<T> {
     pub list: NearestList,
-    pub answer: Answer,
-}
-
-#[derive(Clone, Copy)]
-pub struct Offered {
-    pub list: NearestList,
-    pub answer: OfferAnswer,
-}
-
-#[derive(Clone, Copy)]
-pub struct Removed {
-    pub list: NearestList,
-    pub answer: Answer,
+    pub answer: Result<T, Refusal>,
 }
 
 impl NearestList {
@@ -80,140 +55,112 @@ impl NearestList {
     }
 
     // The empty list of a size; for a bad size 12, and the empty list of size 8.
-    pub fn begin(target: Key, size: usize) -> Begun
+    pub fn begin(target: Key, size: usize) -> Answered<()>
         ensures { result ≡ begun target size }
     {
         let mut list = NearestList::empty(target);
         if !NearestList::size_right(size) {
-            return Begun {
+            return Answered {
                 list,
-                answer: Answer::Refused(Refusal::ListSize),
+                answer: Err(Refusal::ListSize),
             };
         }
         list.size = size;
-        Begun {
+        Answered {
             list,
-            answer: Answer::Done,
+            answer: Ok(()),
         }
     }
 
     // Whether a list may be of this size: 1 to 16.
+    #[tactic(auto, unfolding(crate::specs::Lists::size_right))]
     pub fn size_right(size: usize) -> bool
         ensures { result ≡ size_right size }
     {
-        if size < NearestList::SMALLEST_SIZE {
-            return false;
-        }
-        size <= NearestList::LARGEST_SIZE
+        NearestList::SMALLEST_SIZE <= size && size <= NearestList::LARGEST_SIZE
     }
 
     // Whether the list keeps its own rules: 12, 14.
-    pub fn check(self) -> Answer
+    #[tactic(auto, using(crate::proofs::Judge::small_size))]
+    pub fn check(self) -> Result<(), Refusal>
         ensures { result ≡ checked self }
     {
-        let size = self.size;
-        if !NearestList::size_right(size) {
-            return Answer::Refused(Refusal::ListSize);
+        if !NearestList::size_right(self.size) {
+            return Err(Refusal::ListSize);
         }
-        let count = self.count;
-        if size < count {
-            return Answer::Refused(Refusal::ListNotWhole);
+        if self.size < self.count {
+            return Err(Refusal::ListNotWhole);
         }
-        let nodes = self.nodes;
-        if !slots::all_known(nodes, count) {
-            return Answer::Refused(Refusal::ListNotWhole);
+        if !slots::all_known(self.held()) || !slots::rising(self.target, self.held()) {
+            return Err(Refusal::ListNotWhole);
         }
-        let target = self.target;
-        if !slots::rising(target, nodes, count) {
-            return Answer::Refused(Refusal::ListNotWhole);
-        }
-        Answer::Done
+        Ok(())
     }
 
     // Offers a node: 12, 14, 15. A held key has its node replaced; else, with room, the node is put in; else, if nearer than the furthest, it
     // takes that one's room; else it is not kept.
-    pub fn offer(mut self, node: Node) -> Offered
+    pub fn offer(mut self, node: Node) -> Answered<bool>
         ensures { result ≡ offered self node }
     {
-        let standing = self.check();
-        if let Answer::Refused(why) = standing {
-            return Offered {
-                list: self,
-                answer: OfferAnswer::Refused(why),
-            };
-        }
-        if !node::family::known(node.family) {
-            return Offered {
-                list: self,
-                answer: OfferAnswer::Refused(Refusal::UnknownFamily),
-            };
-        }
-        let target = self.target;
-        let size = self.size;
-        let count = self.count;
-        let nodes = self.nodes;
-        let key = node.key;
-        let place = slots::place(target, nodes, count, key);
-        if place < count {
-            let held = nodes[place];
-            let held_key = held.key;
-            if held_key.equals(key) {
-                self.nodes[place] = node;
-                return Offered {
-                    list: self,
-                    answer: OfferAnswer::Kept,
-                };
-            }
-        }
-        if count < size {
-            let more = slots::open_at(nodes, place, count, node);
-            self.nodes = more;
-            self.count = count + 1;
-            return Offered {
-                list: self,
-                answer: OfferAnswer::Kept,
-            };
-        }
-        if place < count {
-            let others = slots::open_at(nodes, place, count - 1, node);
-            self.nodes = others;
-            return Offered {
-                list: self,
-                answer: OfferAnswer::Kept,
-            };
-        }
-        Offered {
-            list: self,
-            answer: OfferAnswer::NotKept,
-        }
+        let answer = self.keep(node);
+        Answered { list: self, answer }
     }
 
     // Takes out the node of a key: 12, 14, 13.
-    pub fn remove(mut self, key: Key) -> Removed
+    pub fn remove(mut self, key: Key) -> Answered<()>
         ensures { result ≡ removed self key }
     {
-        let standing = self.check();
-        if let Answer::Refused(why) = standing {
-            return Removed {
-                list: self,
-                answer: Answer::Refused(why),
-            };
+        let answer = self.take_out(key);
+        Answered { list: self, answer }
+    }
+
+    // The nodes that are held.
+    fn held(&self) -> &[Node]
+        requires { self.now.count ≤ largest_size }
+        ensures { result.now ≡ held self.now }
+    {
+        &self.nodes[..self.count]
+    }
+
+    // The offer, on a list that stays where it is. A list that is lent does not tell how long its keys are, so the caller, who holds it by value, does.
+    #[tactic(auto, using(crate::proofs::Judge::few_held, crate::proofs::Judge::size_within))]
+    fn keep(&mut self, node: Node) -> Result<bool, Refusal>
+        requires { IsList self.old }
+        ensures { offered self.old node ≡ record { list = self.new; answer = result } }
+    {
+        self.check()?;
+        if !node::family::known(node.family) {
+            return Err(Refusal::UnknownFamily);
         }
         let count = self.count;
-        let nodes = self.nodes;
-        let index = slots::find(nodes, count, key);
-        if count <= index {
-            return Removed {
-                list: self,
-                answer: Answer::Refused(Refusal::KeyNotHeld),
-            };
+        let place = slots::place(self.target, self.held(), node.key);
+        if place < count && self.nodes[place].key.equals(node.key) {
+            self.nodes[place] = node;
+            return Ok(true);
         }
-        let fewer = slots::close_at(nodes, index, count - 1);
-        self.nodes = fewer;
+        if count < self.size {
+            self.count = count + 1;
+            slots::open_at(&mut self.nodes[..=count], place, node);
+            return Ok(true);
+        }
+        if place < count {
+            slots::open_at(&mut self.nodes[..count], place, node);
+            return Ok(true);
+        }
+        Ok(false)
+    }
+
+    // The removal, on a list that stays where it is.
+    #[tactic(auto, using(crate::proofs::Judge::few_held))]
+    fn take_out(&mut self, key: Key) -> Result<(), Refusal>
+        requires { IsList self.old }
+        ensures { removed self.old key ≡ record { list = self.new; answer = result } }
+    {
+        self.check()?;
+        let count = self.count;
+        let index = slots::find(self.held(), key).ok_or(Refusal::KeyNotHeld)?;
+        slots::close_at(&mut self.nodes[..count], index);
         self.count = count - 1;
-        Removed {
-            list: self,
-            answer: Answer::Done,
-        }
+        Ok(())
     }
 }

@@ -14,7 +14,7 @@ use Rattle.node.specs.Families.{known_family}
 use Rattle.node.specs.Values.{blank_node}
 use Rattle.nearest.specs.Lists.{held, holding, empty_of, size_right, all_known, rising_after, rising, keeps_rules}
 use Rattle.nearest.specs.Effect.{holds, replace, insert, without, last_key, furthest, effect, after_effect, kept}
-use Rattle.nearest.specs.Calls.{begun, checked, offer_answer, taken, offered_after, offered}
+use Rattle.nearest.specs.Calls.{begun, checked, taken, offered_after, offered}
 use Rattle.nearest.specs.Sequence.{offers}
 use Rattle.nearest.proofs.Examples.{key_ending, node_ending}
 use Rattle.nearest_first.specs.NearestFirst.{nearest_of}
@@ -51,5 +51,5 @@ unfolding key_ending node_ending insert xor_bytes distance nearer number_of
 kept_of_five = refl
 
 pub offered_five : held (offers (begun (key_ending 8) 4).list five) ≡ four
-unfolding key_ending node_ending offers begun checked offer_answer taken offered_after offered blank_node holding empty_of size_right all_known rising_after rising keeps_rules holds replace insert without last_key furthest effect after_effect kept same_key xor_bytes distance nearer number_of known_family
+unfolding key_ending node_ending offers begun checked taken offered_after offered blank_node holding empty_of size_right all_known rising_after rising keeps_rules holds replace insert without last_key furthest effect after_effect kept same_key xor_bytes distance nearer number_of known_family
 offered_five = refl

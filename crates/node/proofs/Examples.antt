@@ -4,7 +4,7 @@ use mathlib.Core.List.{List, [], ◌∷◌, ◌++◌}
 use Prim.Native.Nat.{ℕ}
 use lib.ListN.{length, replicate}
 use Rattle.wire.specs.Numbers.{number_of, bytes_of}
-use Rattle.node.specs.Families.{known_family, address_length, packed_length}
+use Rattle.node.specs.Families.{known_family, address_length}
 use Rattle.node.specs.Nodes.{NodeInfo, node, check, packed_node, node_of, read_node}
 
 -- "KA is 32 bytes 11"
@@ -18,7 +18,7 @@ abbrev pub p12_node : NodeInfo
 p12_node = record { family = 2; address = 127 ∷ 0 ∷ 0 ∷ 1 ∷ []; port = 33445; key = key_a }
 
 pub p12_read : read_node p12_bytes ≡ node p12_node
-unfolding read_node check known_family packed_length address_length node_of number_of
+unfolding read_node check known_family address_length node_of number_of
 p12_read = refl
 
 pub p12_packed : packed_node p12_node ≡ p12_bytes

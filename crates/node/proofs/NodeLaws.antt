@@ -2,13 +2,15 @@
 use mathlib.Core.Path.{◌≡◌, ◌∙◌, refl, sym, ap, ap₂}
 use mathlib.Core.Bool.{Bool, true, false}
 use mathlib.Core.List.{List, [], ◌∷◌, ◌++◌, append_assoc}
-use Prim.Native.Nat.{ℕ, zero, suc, ◌+◌, ◌-◌, ◌<◌, ◌≤◌, ◌^◌}
+use Prim.Native.Nat.{ℕ, suc, ◌+◌, ◌*◌, ◌-◌, ◌<◌, ◌≤◌}
 use native.Mathlib.Omega.{arith}
 use lib.Dec.{leb}
-use lib.ListN.{length, take, drop, replicate, length-append, length-drop, take-append-drop}
+use lib.ListN.{length, get_or, take, drop, replicate, length-append, length-drop, take-append-drop}
 use lib.Seq.{length-take-le, take_all, take_at, drop_at, take-add, drop-drop}
 use borrow.Author.Tests.{le-leb, lt-leb, leb-true, leb-false}
+use Rattle.std.proofs.lemmas.Grind.{common_steps}
 use Rattle.wire.specs.Numbers.{Bytes, number_of, bytes_of}
+use Rattle.wire.proofs.TwoBytes.{number_two}
 use Rattle.wire.proofs.Numbers.{bytes_take, bytes_drop, bytes_of_number, length_bytes_of, number_bytes_of, number_lt}
 use Rattle.key.specs.declared.Key.{Key}
 use Rattle.key.specs.Keys.{key_of}
@@ -18,14 +20,13 @@ use Rattle.node.specs.declared.Node.{Node}
 use Rattle.node.specs.Families.{known_family, address_length, packed_length}
 use Rattle.node.specs.Nodes.{NodeInfo, node, refused, check, packed_node, node_of, read_node, FitsNode}
 use Rattle.node.specs.Values.{info_of, value_of}
-use Rattle.node.proofs.FamilyLaws.{packed_length_lem, address_fits}
+use Rattle.node.proofs.FamilyLaws.{address_fits}
 
 -- ---- how long a packed node is
 
 pub length_packed : (n : NodeInfo) → length n.address ≡ address_length n.family → length n.key ≡ 32 → length (packed_node n) ≡ packed_length n.family
 unfolding packed_node
 length_packed n a k =
-    let p = packed_length_lem n.family in
     let x = length-append n.address (bytes_of 2 n.port ++ n.key) in
     let y = length-append (bytes_of 2 n.port) n.key in
     let z = length_bytes_of 2 n.port in
@@ -73,19 +74,17 @@ front (family ∷ rest) = at_family (known_family family) refl
 module _ (family : ℕ) (rest : List ℕ) (h : packed_length family ≤ length (family ∷ rest)) where
   pub read_address_long : length (node_of family rest).address ≡ address_length family
   unfolding node_of
-  read_address_long = length-take-le (address_length family) rest (let p = packed_length_lem family in omega arith)
+  read_address_long = length-take-le (address_length family) rest (omega arith)
 
   pub read_key_long : length (node_of family rest).key ≡ 32
   unfolding node_of
   read_key_long =
-      let p = packed_length_lem family in
       let x = length-drop (address_length family) rest in
       let y = length-drop 2 (drop (address_length family) rest) in
       length-take-le 32 (drop 2 (drop (address_length family) rest)) (omega arith)
 
   port_long : length (take 2 (drop (address_length family) rest)) ≡ 2
   port_long =
-      let p = packed_length_lem family in
       let x = length-drop (address_length family) rest in
       length-take-le 2 (drop (address_length family) rest) (omega arith)
 
@@ -117,7 +116,7 @@ module _ (family : ℕ) (rest : List ℕ) (h : packed_length family ≤ length (
       let f : take a rest ++ (bytes_of 2 (number_of (take 2 (drop a rest))) ++ take 32 (drop 2 (drop a rest))) ≡ take (a + 34) rest =
       ap (λ (l : List ℕ). take a rest ++ (l ++ take 32 (drop 2 (drop a rest)))) e ∙ ap (λ (l : List ℕ). take a rest ++ l) (sym (take-add 2 32 (drop a rest)))
       ∙ sym (take-add a 34 rest) in
-      let g : packed_length family ≡ suc (a + 34) = let p = packed_length_lem family in omega arith in
+      let g : packed_length family ≡ suc (a + 34) = omega arith in
       ap₂ (λ (l : List ℕ) (k : ℕ). (family ∷ l) ++ drop k (family ∷ rest)) f g ∙ ap (λ (l : List ℕ). family ∷ l) (take-append-drop (a + 34) rest)
 
 -- ---- a node that was packed
@@ -170,31 +169,16 @@ unfolding info_of
 length_value n a k =
     length_packed (info_of n) (length-take-le (address_length n.family) n.address (let h = address_fits n.family in omega arith)) k
 
--- zeros less those in front
-pub drop_zeros : (n k : ℕ) → drop {A = ℕ} k (replicate n 0) ≡ replicate (n - k) 0
-drop_zeros n zero = ap (λ (m : ℕ). replicate {A = ℕ} m 0) (let e : n ≡ n - 0 = omega arith in e)
-drop_zeros zero (suc k) = ap (λ (m : ℕ). replicate {A = ℕ} m 0) (let e : 0 ≡ 0 - suc k = omega arith in e)
-drop_zeros (suc n) (suc k) = drop_zeros n k ∙ ap (λ (m : ℕ). replicate {A = ℕ} m 0) (let e : n - k ≡ suc n - suc k = omega arith in e)
-
 -- ---- where the parts of a packed node stand, as parts of the lent bytes
 
 module _ (packed : List ℕ) (a : ℕ) (h : 35 + a ≤ length packed) where
-  pub address_part : take (1 + a - 1) (drop 1 packed) ≡ take a (drop 1 packed)
-  address_part = ap (λ (k : ℕ). take k (drop 1 packed)) (let e : 1 + a - 1 ≡ a = omega arith in e)
-
-  port_two : length (take 2 (drop a (drop 1 packed))) ≡ 2
-  port_two =
-      let x = length-drop a (drop 1 packed) in
-      let y = length-drop 1 packed in
-      length-take-le 2 (drop a (drop 1 packed)) (omega arith)
-
-  pub port_part : take 8 (take (1 + a + 2 - (1 + a)) (drop (1 + a) packed)) ≡ take 2 (drop a (drop 1 packed))
-  port_part =
-      ap₂ (λ (k : ℕ) (l : List ℕ). take 8 (take k l)) (let e : 1 + a + 2 - (1 + a) ≡ 2 = omega arith in e) (sym (drop-drop a 1 packed))
-      ∙ take_all 8 (take 2 (drop a (drop 1 packed))) (let e = port_two in omega arith)
-
-  pub port_small : Bytes packed → number_of (take 2 (drop a (drop 1 packed))) < 2 ^ 16
-  port_small b = rw port_two at (number_lt (take 2 (drop a (drop 1 packed))) (bytes_take 2 (drop a (drop 1 packed)) (bytes_drop a (drop 1 packed) (bytes_drop 1 packed b))))
+  pub port_read : get_or packed (1 + a) 0 * 256 + get_or packed (1 + a + 1) 0 ≡ number_of (take 2 (drop a (drop 1 packed)))
+  port_read =
+      let l = drop a (drop 1 packed) in
+      let n = number_two l (let x = length-drop a (drop 1 packed) in let y = length-drop 1 packed in omega arith) in
+      let e : get_or l 0 0 ≡ get_or packed (1 + a) 0 = grind (arith, common_steps) in
+      let f : get_or l 1 0 ≡ get_or packed (1 + a + 1) 0 = grind (arith, common_steps) in
+      ap₂ (λ (i j : ℕ). i * 256 + j) (sym e) (sym f) ∙ sym n
 
   pub key_part : key_of (take (length packed - (1 + a + 2)) (drop (1 + a + 2) packed)) ≡ take 32 (drop 2 (drop a (drop 1 packed)))
   key_part =
@@ -209,3 +193,19 @@ pub same_value : (f : ℕ) (a b : List ℕ) (p q : ℕ) (k : Key) (l : List ℕ)
 same_value f a b p q k l x y z =
     ap₂ {C = Node} (λ (s : List ℕ) (t : ℕ). record { family = f; address = s; port = t; key = k }) x y
     ∙ ap {B = Node} (λ (s : List ℕ). record { family = f; address = b; port = q; key = record { 0 = s } }) z
+
+-- the value of the parts that stand in packed bytes
+pub value_unpacked : (f a : ℕ) (packed address : List ℕ) (port : ℕ) (key : Key) → get_or packed 0 0 ≡ f → a ≡ address_length f → 35 + a ≤ length packed
+    → address ≡ take (address_length f) (drop 1 packed) ++ replicate (16 - address_length f) 0
+    → port ≡ get_or packed (1 + a) 0 * 256 + get_or packed (1 + a + 1) 0
+    → key.0 ≡ key_of (take (length packed - (1 + a + 2)) (drop (1 + a + 2) packed))
+    → ◌≡◌ {A = Node} (record { family = get_or packed 0 0; address = address; port = port; key = key }) (value_of (node_of f (drop 1 packed)))
+unfolding node_of value_of
+value_unpacked f a packed address port key named long h x y z =
+    let rest = drop 1 packed in
+    let l = length-take-le (address_length f) rest (let d = length-drop 1 packed in omega arith) in
+    ap (λ (n : ℕ). record { family = n; address = address; port = port; key = key }) named
+    ∙ same_value f _ _ _ _ key _
+    (x ∙ ap (λ (n : ℕ). take (address_length f) rest ++ replicate (16 - n) 0) (sym l))
+    (y ∙ port_read packed a h ∙ ap (λ (n : ℕ). number_of (take 2 (drop n rest))) long)
+    (z ∙ key_part packed a h ∙ ap (λ (n : ℕ). take 32 (drop 2 (drop n rest))) long)

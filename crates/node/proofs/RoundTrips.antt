@@ -18,17 +18,14 @@ use lib.Seq.{length-take-le, take_all, take_at, take-append_seam}
 use borrow.Author.Tests.{le-leb}
 use Rattle.wire.specs.Numbers as wire
 use Rattle.wire.proofs.Numbers.{bytes_take, bytes_drop}
+use Rattle.std.specs.Prelude.{Result, Ok, Err}
+use Rattle.refusal.specs.declared.Refusal.{Refusal}
 use Rattle.refusal.specs.declared.Refusal.TheVariants.{UnknownFamily, OutputTooShort}
 use Rattle.node.specs.declared.Node.{Node}
-use Rattle.node.specs.declared.reader.Found.{Found}
-use Rattle.node.specs.declared.reader.Found.TheVariants as found
-use Rattle.node.specs.declared.reader.NodeRead.{NodeRead}
-use Rattle.node.specs.declared.writer.Written.{Written}
-use Rattle.node.specs.declared.writer.Written.TheVariants.{Bytes, Refused}
 use Rattle.node.specs.Families.{known_family, address_length, packed_length}
 use Rattle.node.specs.Nodes.{NodeInfo, node, packed_node, node_of, read_node, FitsNode, Taken}
 use Rattle.node.specs.Values.{info_of, value_of, settled, IsNode}
-use Rattle.node.specs.Reads.{Reads, found_of, read_of, shown_read}
+use Rattle.node.specs.Reads.{Reads, found_of, shown_read}
 use Rattle.node.specs.Written.{written_answer, written_output, Writes, WritesNode}
 use Rattle.node.proofs.FamilyLaws.{address_fits}
 use Rattle.node.proofs.NodeLaws.{Front, nothing, unknown, cut, whole, front, read_unknown, read_cut, read_whole, read_address_long, read_fits, length_read, packed_read, read_packed, same_info, same_value}
@@ -44,7 +41,7 @@ whole_taken family rest k h b = record {
 
 nothing_read : (n : NodeInfo) → read_node [] ≡ node n → ⊥
 unfolding read_node
-nothing_read n e = let z : ◌≡◌ {A = ℕ} 0 1 = cc in omega arith
+nothing_read n e = cc
 
 -- a node that is read is of a known family, with as many address bytes as that has
 pub read_known : (bytes : List ℕ) (n : NodeInfo) → read_node bytes ≡ node n → (known_family n.family ≡ true) × (length n.address ≡ address_length n.family)
@@ -53,8 +50,8 @@ read_known bytes n e = go bytes (front bytes) e
   where
     go : (bytes : List ℕ) → Front bytes → read_node bytes ≡ node n → (known_family n.family ≡ true) × (length n.address ≡ address_length n.family)
     go [] nothing e = absurd (nothing_read n e)
-    go (family ∷ rest) (unknown k) e = let z : ◌≡◌ {A = ℕ} 0 1 = cc (read_unknown family rest k) in absurd (omega arith)
-    go (family ∷ rest) (cut k h) e = let z : ◌≡◌ {A = ℕ} 0 1 = cc (read_cut family rest k h) in absurd (omega arith)
+    go (family ∷ rest) (unknown k) e = cc (read_unknown family rest k)
+    go (family ∷ rest) (cut k h) e = cc (read_cut family rest k h)
     go (family ∷ rest) (whole k h) e =
         let q : node_of family rest ≡ n = cc (read_whole family rest k h) in
         subst (λ (x : NodeInfo). (known_family x.family ≡ true) × (length x.address ≡ address_length x.family)) q (k, read_address_long family rest h)
@@ -64,57 +61,56 @@ read_exactly bytes n b e = go bytes (front bytes) b e
   where
     go : (bytes : List ℕ) → Front bytes → wire.Bytes bytes → read_node bytes ≡ node n → Taken bytes n
     go [] nothing b e = absurd (nothing_read n e)
-    go (family ∷ rest) (unknown k) b e = let z : ◌≡◌ {A = ℕ} 0 1 = cc (read_unknown family rest k) in absurd (omega arith)
-    go (family ∷ rest) (cut k h) b e = let z : ◌≡◌ {A = ℕ} 0 1 = cc (read_cut family rest k h) in absurd (omega arith)
+    go (family ∷ rest) (unknown k) b e = cc (read_unknown family rest k)
+    go (family ∷ rest) (cut k h) b e = cc (read_cut family rest k h)
     go (family ∷ rest) (whole k h) b e =
         let q : node_of family rest ≡ n = cc (read_whole family rest k h) in
         subst (Taken (family ∷ rest)) q (whole_taken family rest k h b)
 
 -- an answer that found a node: which it is, and where the next starts
-module _ (bytes : List ℕ) (at next : ℕ) (read : NodeRead) (is : Reads bytes at read) (f : read.found ≡ found.Node next) where
-  found_node : read_node (drop at bytes) ≡ node (info_of read.node)
-  unfolding read_of found_of
-  found_node = sym is.means ∙ ap (λ (s : Found). found_of s read.node) f
+module _ (bytes : List ℕ) (at : ℕ) (n : Node) (next : ℕ) (is : Reads bytes at (Ok (n, next))) where
+  found_node : read_node (drop at bytes) ≡ node (info_of n)
+  unfolding found_of
+  found_node = sym is.means
 
-  found_next : next ≡ at + length (packed_node (info_of read.node))
+  exact : ◌≡◌ {A = Node × ℕ} (n, next) (value_of (info_of n), at + length (packed_node (info_of n)))
   unfolding shown_read
-  found_next =
-      let e : read.found ≡ found.Node (at + length (packed_node (info_of read.node))) =
-      ap (λ (r : NodeRead). r.found) (is.exact ∙ ap (shown_read at) found_node) in
-      cc
+  exact = let e = is.exact ∙ ap (shown_read at) found_node in cc
 
-  pub found_taken : wire.Bytes bytes → Taken (drop at bytes) (info_of read.node)
-  found_taken b = read_exactly (drop at bytes) (info_of read.node) (bytes_drop at bytes b) found_node
+  found_next : next ≡ at + length (packed_node (info_of n))
+  found_next = ap (λ (p : Node × ℕ). p.1) exact
+
+  pub found_taken : wire.Bytes bytes → Taken (drop at bytes) (info_of n)
+  found_taken b = read_exactly (drop at bytes) (info_of n) (bytes_drop at bytes b) found_node
 
   -- what it shows is the value of what was read
-  found_value : read.node ≡ value_of (info_of read.node)
-  unfolding shown_read
-  found_value = ap (λ (r : NodeRead). r.node) (is.exact ∙ ap (shown_read at) found_node)
+  found_value : n ≡ value_of (info_of n)
+  found_value = ap (λ (p : Node × ℕ). p.0) exact
 
 -- ---- what is written
 
-module _ (n : NodeInfo) (out left : List ℕ) (wrote : Written) (is : Writes n out wrote left) where
+module _ (n : NodeInfo) (out left : List ℕ) (wrote : Result ℕ Refusal) (is : Writes n out wrote left) where
   pub record Put (size : ℕ) : Type 0 where
     pub known : known_family n.family ≡ true
     pub count : size ≡ length (packed_node n)
     pub bytes : left ≡ packed_node n ++ drop size out
 
   -- a byte count says that the node was put into the output
-  pub count_put : (size : ℕ) → wrote ≡ Bytes size → Put size
+  pub count_put : (size : ℕ) → wrote ≡ Ok size → Put size
   unfolding written_answer written_output
   count_put size e = go (known_family n.family) refl (leb (length (packed_node n)) (length out)) refl
     where
       go : (t : Bool) → known_family n.family ≡ t → (u : Bool) → leb (length (packed_node n)) (length out) ≡ u → Put size
       go true k true l =
-          let a : wrote ≡ Bytes (length (packed_node n)) = is.answers ∙ simp (k, l) in
+          let a : wrote ≡ Ok (length (packed_node n)) = is.answers ∙ simp (k, l) in
           let s : size ≡ length (packed_node n) = cc in
           record { known = k; count = s; bytes = is.leaves ∙ simp (k, l) (ap (λ (m : ℕ). packed_node n ++ drop m out) (sym s)) }
-      go true k false l = let a : wrote ≡ Refused OutputTooShort = is.answers ∙ simp (k, l) in let z : ◌≡◌ {A = ℕ} 0 1 = cc in absurd (omega arith)
-      go false k u l = let a : wrote ≡ Refused UnknownFamily = is.answers ∙ simp k in let z : ◌≡◌ {A = ℕ} 0 1 = cc in absurd (omega arith)
+      go true k false l = let a : wrote ≡ Err OutputTooShort = is.answers ∙ simp (k, l) in cc
+      go false k u l = let a : wrote ≡ Err UnknownFamily = is.answers ∙ simp k in cc
 
   -- a node of a known family is put into an output that has room
   pub put_count : known_family n.family ≡ true → length (packed_node n) ≤ length out
-      → (wrote ≡ Bytes (length (packed_node n))) × (left ≡ packed_node n ++ drop (length (packed_node n)) out)
+      → (wrote ≡ Ok (length (packed_node n))) × (left ≡ packed_node n ++ drop (length (packed_node n)) out)
   unfolding written_answer written_output
   put_count k h = let l = le-leb (length (packed_node n)) (length out) h in (is.answers ∙ simp (k, l), is.leaves ∙ simp (k, l))
 
@@ -152,11 +148,10 @@ shown_settled n long =
     (ap₂ (λ (l : List ℕ) (k : ℕ). l ++ replicate (16 - k) 0)
     (take_at n.address (replicate (16 - length n.address) 0) (address_length n.family) long) (sym long)) refl refl
 
-pub read_settled : (bytes : List ℕ) (at next : ℕ) (read : NodeRead) → wire.Bytes bytes → Reads bytes at read → read.found ≡ found.Node next
-    → settled read.node ≡ read.node
-read_settled bytes at next read b is f =
-    let v = found_value bytes at next read is f in
-    ap settled v ∙ shown_settled (info_of read.node) (found_taken bytes at next read is f b).fits.long ∙ sym v
+pub read_settled : (bytes : List ℕ) (at : ℕ) (n : Node) (next : ℕ) → wire.Bytes bytes → Reads bytes at (Ok (n, next)) → settled n ≡ n
+read_settled bytes at n next b is =
+    let v = found_value bytes at n next is in
+    ap settled v ∙ shown_settled (info_of n) (found_taken bytes at n next is b).fits.long ∙ sym v
 
 -- ---- the round trips
 
@@ -171,23 +166,23 @@ value_fits n is k = record {
   key = is.key;
 }
 
-pub read_of_write : (n : Node) (out left : List ℕ) (size : ℕ) (wrote : Written) (read : NodeRead) → WritesNode n out left wrote → wrote ≡ Bytes size
-    → Reads left 0 read → read ≡ record { found = found.Node size; node = settled n }
+pub read_of_write : (n : Node) (out left : List ℕ) (size : ℕ) (read : Result (Node × ℕ) Refusal) → WritesNode n out left (Ok size) → Reads left 0 read
+    → read ≡ Ok (settled n, size)
 unfolding shown_read info_of
-read_of_write n out left size wrote read writes e reads =
+read_of_write n out left size read writes reads =
     let is = writes.fits in
-    let p = count_put (info_of n) out left wrote writes.writes size e in
+    let p = count_put (info_of n) out left (Ok size) writes.writes size refl in
     let r : read_node (drop 0 left) ≡ node (info_of n) = ap read_node p.bytes ∙ read_packed (info_of n) (value_fits n is p.known) (drop size out) in
     let q : 0 + length (packed_node (info_of n)) ≡ size = let c = p.count in omega arith in
-    reads.exact ∙ ap (shown_read 0) r ∙ ap₂ {C = NodeRead} (λ (k : ℕ) (v : Node). record { found = found.Node k; node = v }) q (value_settled n is.long)
+    reads.exact ∙ ap (shown_read 0) r ∙ ap₂ (λ (k : ℕ) (v : Node). Ok (v, k)) q (value_settled n is.long)
 
-pub write_of_read : (bytes : List ℕ) (at next : ℕ) (read : NodeRead) (out left : List ℕ) (wrote : Written) → wire.Bytes bytes → Reads bytes at read
-    → read.found ≡ found.Node next → Writes (info_of read.node) out wrote left → next - at ≤ length out
-    → (wrote ≡ Bytes (next - at)) × (left ≡ take (next - at) (drop at bytes) ++ drop (next - at) out)
-write_of_read bytes at next read out left wrote b is f writes h =
-    let n = info_of read.node in
-    let t = found_taken bytes at next read is f b in
-    let q : length (packed_node n) ≡ next - at = let e = found_next bytes at next read is f in omega arith in
+pub write_of_read : (bytes : List ℕ) (at : ℕ) (n : Node) (next : ℕ) (out left : List ℕ) (wrote : Result ℕ Refusal) → wire.Bytes bytes → Reads bytes at (Ok (n, next))
+    → Writes (info_of n) out wrote left → next - at ≤ length out
+    → (wrote ≡ Ok (next - at)) × (left ≡ take (next - at) (drop at bytes) ++ drop (next - at) out)
+write_of_read bytes at value next out left wrote b is writes h =
+    let n = info_of value in
+    let t = found_taken bytes at value next is b in
+    let q : length (packed_node n) ≡ next - at = let e = found_next bytes at value next is in omega arith in
     let p = put_count n out left wrote writes t.fits.known (omega arith) in
     let c : packed_node n ≡ take (length (packed_node n)) (drop at bytes) = sym (ap (take (length (packed_node n))) t.front ∙ take-append_seam (packed_node n) _) in
-    (p.0 ∙ ap Bytes q, p.1 ∙ ap (λ (l : List ℕ). l ++ drop (length (packed_node n)) out) c ∙ ap (λ (k : ℕ). take k (drop at bytes) ++ drop k out) q)
+    (p.0 ∙ ap Ok q, p.1 ∙ ap (λ (l : List ℕ). l ++ drop (length (packed_node n)) out) c ∙ ap (λ (k : ℕ). take k (drop at bytes) ++ drop k out) q)

@@ -1,6 +1,6 @@
 -- Laws of the walker's step: which case holds where, that its answer stands for it, and that a step which shows no node leaves the walker as it
 -- was (`no_node_stays`). Assumes nothing.
-use mathlib.Core.Path.{◌≡◌, ◌∙◌, refl, sym, ap, ap₂}
+use mathlib.Core.Path.{◌≡◌, ◌∙◌, refl, sym, ap}
 use mathlib.Core.Bool.{Bool, true, false}
 use mathlib.Core.List.{List, [], ◌∷◌}
 use Prim.Native.Nat.{ℕ, ◌+◌, ◌<◌, ◌≤◌}
@@ -8,18 +8,16 @@ use native.Mathlib.Omega.{arith}
 use lib.Dec.{eqb, leb, ltb}
 use lib.ListN.{length, drop}
 use borrow.Author.Tests.{ltb-true, ltb-false, eqb-true, eqb-false, leb-true, leb-false, lt-ltb, le-ltb, eq-eqb, ne_eqb, le-leb, lt-leb}
+use Rattle.std.specs.Prelude.{Option, Some, None, Result, Ok, Err}
 use Rattle.refusal.specs.declared.Refusal.{Refusal}
 use Rattle.refusal.specs.declared.Refusal.TheVariants.{NodeCutShort, BytesAfterNodes}
 use Rattle.node.specs.declared.Node.{Node}
-use Rattle.node.specs.declared.reader.Found.TheVariants as found
-use Rattle.node.specs.declared.reader.NodeRead.{NodeRead}
-use Rattle.node.specs.declared.walk.Shown.TheVariants as shown
-use Rattle.node.specs.declared.walk.Stepped.{Stepped}
+use Rattle.node.specs.declared.walk.Next.{Next}
 use Rattle.node.specs.Families.{address_length}
 use Rattle.node.specs.Nodes.{NodeInfo, Read, node, refused, packed_node, node_of, read_node}
-use Rattle.node.specs.Values.{blank_node}
+use Rattle.node.specs.Values.{value_of}
 use Rattle.node.specs.Reads.{Reads, shown_read}
-use Rattle.node.specs.Steps.{Showing, shows, ends, refuses, showing_read, step_of, place_after, count_after, showing_of, shown_by, node_by, shown_step, Steps}
+use Rattle.node.specs.Steps.{Showing, shows, ends, refuses, showing_read, step_of, place_after, count_after, showing_of, shown_step, place_answered, count_answered, Steps}
 use Rattle.node.proofs.NodeLaws.{Front, nothing, unknown, cut, whole, front, read_unknown, read_cut, read_whole, read_address_long, info_of_value}
 
 -- ---- the cases
@@ -43,109 +41,105 @@ module _ (list : List ℕ) (place count : ℕ) where
 
 -- ---- the answer stands for the step
 
-shown_means : (n : NodeInfo) → length n.address ≡ address_length n.family → showing_of (shown_by (shows n)) (node_by (shows n)) ≡ shows n
-unfolding showing_of shown_by node_by
-shown_means n long = ap shows (info_of_value n long)
+abbrev pub Answer : Type 0
+Answer = Result (Option Next) Refusal
+
+shown_means : (place count : ℕ) (n : NodeInfo) → length n.address ≡ address_length n.family → showing_of (shown_step place count (shows n)) ≡ shows n
+unfolding showing_of shown_step
+shown_means place count n long = ap shows (info_of_value n long)
 
 -- where the answer is exact it stands for the step, by what is known of the step
-exact_steps : (list : List ℕ) (place count : ℕ) (answer : Stepped) (step : Showing) → step_of list place count ≡ step
-    → showing_of (shown_by step) (node_by step) ≡ step → answer ≡ shown_step place count step → Steps list place count answer
-unfolding shown_step
+exact_steps : (list : List ℕ) (place count : ℕ) (answer : Answer) (step : Showing) → step_of list place count ≡ step
+    → showing_of (shown_step place count step) ≡ step → answer ≡ shown_step place count step → Steps list place count answer
 exact_steps list place count answer step s m e = record {
-  means = ap (λ (a : Stepped). showing_of a.shown a.node) e ∙ m ∙ sym s;
+  means = ap showing_of e ∙ m ∙ sym s;
   exact = e ∙ sym (ap (shown_step place count) s);
 }
 
--- a step that shows no node
-still_steps : (list : List ℕ) (place count : ℕ) (answer : Stepped) (why : Refusal) → step_of list place count ≡ refuses why
-    → answer ≡ record { shown = shown.Refused why; node = blank_node; place = place; count = count } → Steps list place count answer
-unfolding shown_step showing_of shown_by node_by place_after count_after
+-- a step that is refused
+still_steps : (list : List ℕ) (place count : ℕ) (answer : Answer) (why : Refusal) → step_of list place count ≡ refuses why → answer ≡ Err why → Steps list place count answer
+unfolding shown_step showing_of
 still_steps list place count answer why s e = exact_steps list place count answer (refuses why) s refl e
 
-module _ (list : List ℕ) (place count : ℕ) (answer : Stepped) where
-  pub steps_past : length list < place → answer ≡ record { shown = shown.Refused NodeCutShort; node = blank_node; place = place; count = count }
-      → Steps list place count answer
+module _ (list : List ℕ) (place count : ℕ) (answer : Answer) where
+  pub steps_past : length list < place → answer ≡ Err NodeCutShort → Steps list place count answer
   steps_past h e = still_steps list place count answer NodeCutShort (step_past list place count h) e
 
-  pub steps_end : place ≡ length list → answer ≡ record { shown = shown.End; node = blank_node; place = place; count = count } → Steps list place count answer
-  unfolding shown_step showing_of shown_by node_by place_after count_after
+  pub steps_end : place ≡ length list → answer ≡ Ok None → Steps list place count answer
+  unfolding shown_step showing_of
   steps_end h e = exact_steps list place count answer ends (step_end list place count h) refl e
 
-  pub steps_full : place < length list → 4 ≤ count
-      → answer ≡ record { shown = shown.Refused BytesAfterNodes; node = blank_node; place = place; count = count } → Steps list place count answer
+  pub steps_full : place < length list → 4 ≤ count → answer ≡ Err BytesAfterNodes → Steps list place count answer
   steps_full h k e = still_steps list place count answer BytesAfterNodes (step_full list place count h k) e
 
--- the end and a refusal leave the walker as it was
-stays : (place count : ℕ) (step : Showing) → (shown_by step ≡ shown.Node → ⊥) → (place_after step place ≡ place) × (count_after step count ≡ count)
-unfolding shown_by place_after count_after
-stays place count (shows n) h = absurd (h refl)
-stays place count ends h = (refl, refl)
-stays place count (refuses why) h = (refl, refl)
+stepped : (place count : ℕ) (step : Showing)
+    → (place_answered place (shown_step place count step) ≡ place_after step place) × (count_answered count (shown_step place count step) ≡ count_after step count)
+unfolding shown_step place_answered count_answered place_after count_after
+stepped place count (shows n) = (refl, refl)
+stepped place count ends = (refl, refl)
+stepped place count (refuses why) = (refl, refl)
 
-pub no_node_stays : (list : List ℕ) (place count : ℕ) (answer : Stepped) → Steps list place count answer → (answer.shown ≡ shown.Node → ⊥)
-    → (answer.place ≡ place) × (answer.count ≡ count)
-unfolding shown_step
-no_node_stays list place count answer is h =
-    let e = is.exact in
-    let s = stays place count (step_of list place count) (λ n. h (ap (λ (a : Stepped). a.shown) e ∙ n)) in
-    (ap (λ (a : Stepped). a.place) e ∙ s.0, ap (λ (a : Stepped). a.count) e ∙ s.1)
+-- the end and a refusal leave the walker as it was
+pub no_node_stays : (list : List ℕ) (place count : ℕ) (answer : Answer) → Steps list place count answer → ((next : Next) → answer ≡ Ok (Some next) → ⊥)
+    → (place_answered place answer ≡ place) × (count_answered count answer ≡ count)
+unfolding place_answered count_answered
+no_node_stays list place count (Ok (Some next)) is h = absurd (h next refl)
+no_node_stays list place count (Ok None) is h = (refl, refl)
+no_node_stays list place count (Err why) is h = (refl, refl)
+
+-- after any answer the walker stands where the step of the lent list puts it, and has shown as many
+pub answered_after : (list : List ℕ) (place count : ℕ) (answer : Answer) → Steps list place count answer
+    → (place_answered place answer ≡ place_after (step_of list place count) place) × (count_answered count answer ≡ count_after (step_of list place count) count)
+answered_after list place count answer is =
+    let e = stepped place count (step_of list place count) in
+    (ap (place_answered place) is.exact ∙ e.0, ap (count_answered count) is.exact ∙ e.1)
 
 -- ---- by the reader's answer
 
-read_means : (bytes : List ℕ) → Front bytes → showing_of (shown_by (showing_read (read_node bytes))) (node_by (showing_read (read_node bytes))) ≡ showing_read (read_node bytes)
-unfolding showing_of shown_by node_by showing_read read_node node_of
-read_means [] nothing = refl
-read_means (family ∷ rest) (unknown e) = let r = read_unknown family rest e in rw r
-read_means (family ∷ rest) (cut e h) = let r = read_cut family rest e h in rw r
-read_means (family ∷ rest) (whole e h) = let r = read_whole family rest e h in rw r (shown_means (node_of family rest) (read_address_long family rest h))
+read_means : (place count : ℕ) (bytes : List ℕ) → Front bytes → showing_of (shown_step place count (showing_read (read_node bytes))) ≡ showing_read (read_node bytes)
+unfolding showing_of shown_step showing_read read_node node_of
+read_means place count [] nothing = refl
+read_means place count (family ∷ rest) (unknown e) = let r = read_unknown family rest e in rw r
+read_means place count (family ∷ rest) (cut e h) = let r = read_cut family rest e h in rw r
+read_means place count (family ∷ rest) (whole e h) =
+    let r = read_whole family rest e h in rw r (shown_means place count (node_of family rest) (read_address_long family rest h))
 
 -- the reader found a node: its answer, moved on
-shows_exact : (place count next : ℕ) (read : Read) (answer : NodeRead) → answer ≡ shown_read place read → answer.found ≡ found.Node next
-    → ◌≡◌ {A = Stepped} (record { shown = shown.Node; node = answer.node; place = next; count = count + 1 }) (shown_step place count (showing_read read))
-unfolding shown_read shown_step shown_by node_by place_after count_after showing_read
-shows_exact place count next (node n) answer e f =
-    let g : found.Node (place + length (packed_node n)) ≡ found.Node next = sym (ap (λ (a : NodeRead). a.found) e) ∙ f in
-    let p : next ≡ place + length (packed_node n) = cc in
-    ap₂ {C = Stepped} (λ (m : Node) (k : ℕ). record { shown = shown.Node; node = m; place = k; count = count + 1 }) (ap (λ (a : NodeRead). a.node) e) p
-shows_exact place count next (refused why) answer e f =
-    let g : found.Refused why ≡ found.Node next = sym (ap (λ (a : NodeRead). a.found) e) ∙ f in
-    let z : ◌≡◌ {A = ℕ} 0 1 = cc in
-    absurd (omega arith)
+shows_exact : (place count next : ℕ) (n : Node) (read : Read) → Ok (n, next) ≡ shown_read place read
+    → Ok (Some (record { node = n; place = next; count = count + 1 })) ≡ shown_step place count (showing_read read)
+unfolding shown_read shown_step place_after count_after showing_read
+shows_exact place count next n (node info) e =
+    let found : ◌≡◌ {A = Node × ℕ} (n, next) (value_of info, place + length (packed_node info)) = cc in
+    ap {B = Answer} (λ (f : Node × ℕ). Ok (Some (record { node = f.0; place = f.1; count = count + 1 }))) found
+shows_exact place count next n (refused why) e = cc
 
 -- the reader refused
-refuses_exact : (place count : ℕ) (why : Refusal) (read : Read) (answer : NodeRead) → answer ≡ shown_read place read → answer.found ≡ found.Refused why
-    → ◌≡◌ {A = Stepped} (record { shown = shown.Refused why; node = blank_node; place = place; count = count }) (shown_step place count (showing_read read))
-unfolding shown_read shown_step shown_by node_by place_after count_after showing_read
-refuses_exact place count why (node n) answer e f =
-    let g : found.Node (place + length (packed_node n)) ≡ found.Refused why = sym (ap (λ (a : NodeRead). a.found) e) ∙ f in
-    let z : ◌≡◌ {A = ℕ} 0 1 = cc in
-    absurd (omega arith)
-refuses_exact place count why (refused other) answer e f =
-    let g : found.Refused other ≡ found.Refused why = sym (ap (λ (a : NodeRead). a.found) e) ∙ f in
-    let p : why ≡ other = cc in
-    ap {B = Stepped} (λ (w : Refusal). record { shown = shown.Refused w; node = blank_node; place = place; count = count }) p
+refuses_exact : (place count : ℕ) (why : Refusal) (read : Read) → Err why ≡ shown_read place read → Err why ≡ shown_step place count (showing_read read)
+unfolding shown_read shown_step showing_read
+refuses_exact place count why (node n) e = cc
+refuses_exact place count why (refused other) e = cc
 
-module _ (list : List ℕ) (place count : ℕ) (h : place < length list) (k : count < 4) (read : NodeRead) (reads : Reads list place read) where
-  read_steps : (answer : Stepped) → answer ≡ shown_step place count (showing_read (read_node (drop place list))) → Steps list place count answer
+module _ (list : List ℕ) (place count : ℕ) (h : place < length list) (k : count < 4) where
+  read_steps : (answer : Answer) → answer ≡ shown_step place count (showing_read (read_node (drop place list))) → Steps list place count answer
   read_steps answer e =
-      exact_steps list place count answer (showing_read (read_node (drop place list))) (step_read list place count h k) (read_means (drop place list) (front (drop place list))) e
+      exact_steps list place count answer (showing_read (read_node (drop place list))) (step_read list place count h k)
+      (read_means place count (drop place list) (front (drop place list))) e
 
-  pub steps_node : (next : ℕ) → read.found ≡ found.Node next → Steps list place count (record { shown = shown.Node; node = read.node; place = next; count = count + 1 })
-  steps_node next f = read_steps _ (shows_exact place count next (read_node (drop place list)) read reads.exact f)
+  pub steps_node : (n : Node) (next : ℕ) → Reads list place (Ok (n, next)) → Steps list place count (Ok (Some (record { node = n; place = next; count = count + 1 })))
+  steps_node n next reads = read_steps _ (shows_exact place count next n (read_node (drop place list)) reads.exact)
 
-  pub steps_refused : (why : Refusal) (answer : Stepped) → read.found ≡ found.Refused why
-      → answer ≡ record { shown = shown.Refused why; node = blank_node; place = place; count = count } → Steps list place count answer
-  steps_refused why answer f e = read_steps answer (e ∙ refuses_exact place count why (read_node (drop place list)) read reads.exact f)
+  pub steps_refused : (why : Refusal) → Reads list place (Err why) → Steps list place count (Err why)
+  steps_refused why reads = read_steps _ (refuses_exact place count why (read_node (drop place list)) reads.exact)
 
 -- ---- at every place and count
 
-means_as : (list : List ℕ) (place count : ℕ) (step : Showing) → step_of list place count ≡ step → showing_of (shown_by step) (node_by step) ≡ step
+means_as : (list : List ℕ) (place count : ℕ) (step : Showing) → step_of list place count ≡ step → showing_of (shown_step place count step) ≡ step
     → Steps list place count (shown_step place count (step_of list place count))
 means_as list place count step s m = exact_steps list place count _ step s m (ap (shown_step place count) s)
 
 -- the answer that the definition gives meets the contract
 pub exact_answer : (list : List ℕ) (place count : ℕ) → Steps list place count (shown_step place count (step_of list place count))
-unfolding showing_of shown_by node_by
+unfolding showing_of shown_step
 exact_answer list place count = go (ltb (length list) place) refl (eqb place (length list)) refl (leb 4 count) refl
   where
     go : (past : Bool) → ltb (length list) place ≡ past → (end : Bool) → eqb place (length list) ≡ end → (full : Bool) → leb 4 count ≡ full
@@ -159,4 +153,4 @@ exact_answer list place count = go (ltb (length list) place) refl (eqb place (le
         inside : place < length list → (full : Bool) → leb 4 count ≡ full → Steps list place count (shown_step place count (step_of list place count))
         inside h true f = means_as list place count (refuses BytesAfterNodes) (step_full list place count h (leb-true 4 count f)) refl
         inside h false f =
-            means_as list place count _ (step_read list place count h (leb-false 4 count f)) (read_means (drop place list) (front (drop place list)))
+            means_as list place count _ (step_read list place count h (leb-false 4 count f)) (read_means place count (drop place list) (front (drop place list)))

@@ -20,13 +20,12 @@ use lib.Seq.{drop-drop, drop-append_seam}
 use borrow.Author.Tests.{leb-true, leb-false}
 use Rattle.wire.specs.Numbers.{Bytes}
 use Rattle.wire.proofs.Numbers.{bytes_drop}
-use Rattle.node.specs.declared.walk.Shown.{Shown}
-use Rattle.node.specs.declared.walk.Shown.TheVariants as shown
-use Rattle.node.specs.declared.walk.Stepped.{Stepped}
+use Rattle.std.specs.Prelude.{Some, Ok}
+use Rattle.node.specs.declared.walk.Next.{Next}
 use Rattle.node.specs.Families.{packed_length}
 use Rattle.node.specs.Nodes.{NodeInfo, packed_node, node_of, read_node, FitsNode}
 use Rattle.node.specs.Values.{info_of, value_of}
-use Rattle.node.specs.Steps.{Showing, shows, ends, refuses, showing_read, step_of, place_after, count_after, showing_of, shown_by, node_by, shown_step, Steps}
+use Rattle.node.specs.Steps.{Showing, shows, ends, refuses, showing_read, step_of, place_after, count_after, showing_of, shown_step, Steps}
 use Rattle.node.specs.Walks.{Ending, ended, stopped, unfinished, Walk, walk_on, walk_from, packed_nodes, AllFit, Stops, at_end, four_shown, unknown, cut_short, Walked, Calls, says_end, is_refused, shows_node}
 use Rattle.node.proofs.NodeLaws as nodes
 use Rattle.node.proofs.StepLaws.{step_end, step_full, step_read, exact_answer}
@@ -190,9 +189,9 @@ whole_shown steps ns h fit few =
 -- and where the end is said, the list is the packed bytes of the nodes shown, 0 to 4 of them
 none_left : (shown : ℕ) (rest : List ℕ) (ending : Ending) → Stops shown rest ending → ending ≡ ended → rest ≡ []
 none_left shown [] _ at_end e = refl
-none_left shown (byte ∷ rest) _ (four_shown k) e = let z : ◌≡◌ {A = ℕ} 0 1 = cc in absurd (omega arith)
-none_left shown (byte ∷ rest) _ (unknown k f) e = let z : ◌≡◌ {A = ℕ} 0 1 = cc in absurd (omega arith)
-none_left shown (byte ∷ rest) _ (cut_short k f l) e = let z : ◌≡◌ {A = ℕ} 0 1 = cc in absurd (omega arith)
+none_left shown (byte ∷ rest) _ (four_shown k) e = cc
+none_left shown (byte ∷ rest) _ (unknown k f) e = cc
+none_left shown (byte ∷ rest) _ (cut_short k f l) e = cc
 
 pub shown_whole : (steps : ℕ) (list : List ℕ) (ns : List NodeInfo) → 5 ≤ steps → Bytes list → walk_from steps list 0 0 ≡ record { nodes = ns; ending = ended }
     → (list ≡ packed_nodes ns) × (length ns ≤ 4) × AllFit ns
@@ -205,31 +204,23 @@ shown_whole steps list ns h b e =
 
 -- ---- the same of calls
 
-module _ (list : List ℕ) (place count : ℕ) (answer : Stepped) (is : Steps list place count answer) where
-  shown_step_lem : (s : Shown) → answer.shown ≡ s → step_of list place count ≡ showing_of s answer.node
-  shown_step_lem s e = sym is.means ∙ ap (λ (t : Shown). showing_of t answer.node) e
-
-  next_place : answer.place ≡ place_after (step_of list place count) place
-  unfolding shown_step
-  next_place = ap (λ (a : Stepped). a.place) is.exact
-
-  next_count : answer.count ≡ count_after (step_of list place count) count
-  unfolding shown_step
-  next_count = ap (λ (a : Stepped). a.count) is.exact
+-- what is handed on is the walker after the step
+next_is : (list : List ℕ) (place count : ℕ) (next : Next) → Ok (Some next) ≡ shown_step place count (shows (info_of next.node))
+    → (place_after (shows (info_of next.node)) place ≡ next.place) × (count_after (shows (info_of next.node)) count ≡ next.count)
+unfolding shown_step
+next_is list place count next e = (cc, cc)
 
 calls_are : (steps : ℕ) (list : List ℕ) (place count : ℕ) (w : Walk) → Calls list place count w → length w.nodes < steps → walk_from steps list place count ≡ w
 unfolding walk_on showing_of
 calls_are zero list place count w calls h = absurd (omega arith)
-calls_are (suc steps) list place count _ (says_end {answer = answer} is e) h = by_step steps list place count ends (shown_step_lem list place count answer is shown.End e)
-calls_are (suc steps) list place count _ (is_refused {answer = answer} {why = why} is e) h =
-    by_step steps list place count (refuses why) (shown_step_lem list place count answer is (shown.Refused why) e)
-calls_are (suc steps) list place count _ (shows_node {answer = answer} {after = after} is e calls) h =
-    let s = shown_step_lem list place count answer is shown.Node e in
-    let n = shows (info_of answer.node) in
-    let p : place_after n place ≡ answer.place = sym (next_place list place count answer is ∙ ap (λ (c : Showing). place_after c place) s) in
-    let q : count_after n count ≡ answer.count = sym (next_count list place count answer is ∙ ap (λ (c : Showing). count_after c count) s) in
-    by_step steps list place count n s ∙ ap₂ (λ (i j : ℕ). walk_on n (walk_from steps list i j)) p q
-    ∙ ap (λ (v : Walk). walk_on n v) (calls_are steps list answer.place answer.count after calls (omega arith))
+calls_are (suc steps) list place count _ (says_end is e) h = by_step steps list place count ends (sym is.means ∙ ap showing_of e)
+calls_are (suc steps) list place count _ (is_refused {why = why} is e) h = by_step steps list place count (refuses why) (sym is.means ∙ ap showing_of e)
+calls_are (suc steps) list place count _ (shows_node {next = next} {after = after} is e calls) h =
+    let s = sym is.means ∙ ap showing_of e in
+    let n = shows (info_of next.node) in
+    let p = next_is list place count next (sym e ∙ is.exact ∙ ap (shown_step place count) s) in
+    by_step steps list place count n s ∙ ap₂ (λ (i j : ℕ). walk_on n (walk_from steps list i j)) p.0 p.1
+    ∙ ap (λ (v : Walk). walk_on n v) (calls_are steps list next.place next.count after calls (omega arith))
 
 pub calls_walk : (list : List ℕ) (w : Walk) → Bytes list → Calls list 0 0 w → Walked list w
 calls_walk list w b calls =
@@ -240,9 +231,9 @@ calls_walk list w b calls =
 
 -- one call, and then the calls after it
 called : (list : List ℕ) (place count : ℕ) (step : Showing) (after : Walk) → Steps list place count (shown_step place count step)
-    → showing_of (shown_by step) (node_by step) ≡ step → ((walk_on step after).ending ≡ unfinished → ⊥)
+    → showing_of (shown_step place count step) ≡ step → ((walk_on step after).ending ≡ unfinished → ⊥)
     → ((after.ending ≡ unfinished → ⊥) → Calls list (place_after step place) (count_after step count) after) → Calls list place count (walk_on step after)
-unfolding walk_on showing_of shown_by node_by shown_step
+unfolding walk_on showing_of shown_step
 called list place count (shows n) after is m h calls =
     let e : info_of (value_of n) ≡ n = cc in
     subst (λ (k : NodeInfo). Calls list place count (record { nodes = k ∷ after.nodes; ending = after.ending })) e (shows_node is refl (calls h))
@@ -250,7 +241,7 @@ called list place count ends after is m h calls = says_end is refl
 called list place count (refuses why) after is m h calls = is_refused is refl
 
 reach : (steps : ℕ) (list : List ℕ) (place count : ℕ) → ((walk_from steps list place count).ending ≡ unfinished → ⊥) → Calls list place count (walk_from steps list place count)
-unfolding walk_from shown_step
+unfolding walk_from
 reach zero list place count h = absurd (h refl)
 reach (suc steps) list place count h =
     let s = step_of list place count in
@@ -258,10 +249,10 @@ reach (suc steps) list place count h =
     called list place count s (walk_from steps list (place_after s place) (count_after s count)) is is.means h (reach steps list (place_after s place) (count_after s count))
 
 finished : (shown : ℕ) (rest : List ℕ) (ending : Ending) → Stops shown rest ending → ending ≡ unfinished → ⊥
-finished shown [] _ at_end e = let z : ◌≡◌ {A = ℕ} 0 1 = cc in omega arith
-finished shown (byte ∷ rest) _ (four_shown k) e = let z : ◌≡◌ {A = ℕ} 0 1 = cc in omega arith
-finished shown (byte ∷ rest) _ (unknown k f) e = let z : ◌≡◌ {A = ℕ} 0 1 = cc in omega arith
-finished shown (byte ∷ rest) _ (cut_short k f l) e = let z : ◌≡◌ {A = ℕ} 0 1 = cc in omega arith
+finished shown [] _ at_end e = cc
+finished shown (byte ∷ rest) _ (four_shown k) e = cc
+finished shown (byte ∷ rest) _ (unknown k f) e = cc
+finished shown (byte ∷ rest) _ (cut_short k f l) e = cc
 
 -- at most five calls walk any list
 pub calls_end : (list : List ℕ) → Bytes list → Calls list 0 0 (walk_from 5 list 0 0)

@@ -4,7 +4,7 @@ use mathlib.Core.Bool.{true, false}
 use mathlib.Core.List.{List, [], ◌∷◌, ◌++◌, append_assoc, append-nil}
 use Prim.Native.Nat.{ℕ, ◌+◌, ◌-◌, ◌<◌, ◌≤◌}
 use native.Mathlib.Omega.{arith}
-use lib.ListN.{length, take, drop, set, length-append, drop_of_length-le}
+use lib.ListN.{length, take, drop, set, length-set, length-append, length-drop, drop_of_length-le}
 use lib.Seq.{length-take-le}
 use borrow.Author.Tests.{le-leb, lt-leb}
 use Rattle.wire.specs.Numbers.{bytes_of}
@@ -12,11 +12,57 @@ use Rattle.wire.proofs.Numbers.{length_bytes_of}
 use Rattle.wire.proofs.Copy.{written_first, written_part, length_lent, length_written, copy_whole}
 use Rattle.key.specs.Keys.{with_key}
 use Rattle.key.proofs.Lent.{with_key_whole}
+use borrow.Rule.Slice.PartMut.{put_mid}
+use Rattle.std.proofs.lemmas.Slice.{take-put_mid}
+use Rattle.std.specs.Prelude.{Ok, Err}
 use Rattle.refusal.specs.declared.Refusal.TheVariants.{UnknownFamily, OutputTooShort}
-use Rattle.node.specs.declared.writer.Written.TheVariants.{Bytes, Refused}
 use Rattle.node.specs.Families.{known_family, packed_length}
 use Rattle.node.specs.Nodes.{NodeInfo, packed_node}
 use Rattle.node.specs.Written.{written_answer, written_output, Writes}
+
+-- ---- a byte and three parts written one behind the other fill an output
+
+written_front : (out : List ℕ) (f : ℕ) → 0 < length out → take 1 (set out 0 f) ≡ f ∷ []
+written_front [] f h = absurd (omega arith)
+written_front (x ∷ out) f h = refl
+
+length_put : (at k : ℕ) (out part : List ℕ) → at + k ≤ length out → length part ≡ k → length (put_mid at k out part) ≡ length out
+length_put at k out part h e =
+    let x = length-append (take at out) (part ++ drop k (drop at out)) in
+    let y = length-append part (drop k (drop at out)) in
+    let z = length-take-le at out (omega arith) in
+    let v = length-drop at out in
+    let w = length-drop k (drop at out) in
+    omega arith
+
+module _ (out address : List ℕ) (family a : ℕ) (room : length out ≡ 35 + a) (x : length address ≡ a) where
+  abbrev after_address : List ℕ
+  after_address = put_mid 1 (1 + a - 1) (set out 0 family) address
+
+  pub address_kept : length after_address ≡ length out
+  address_kept = length_put 1 (1 + a - 1) (set out 0 family) address (omega (arith, length-set {A = ℕ})) (omega arith) ∙ length-set out 0 family
+
+  address_front : take (1 + a) after_address ≡ (family ∷ []) ++ address
+  address_front =
+      take-put_mid 1 (1 + a - 1) (set out 0 family) address (1 + a) (omega arith) (omega (arith, length-set {A = ℕ}))
+      ∙ ap (λ (l : List ℕ). l ++ address) (written_front out family (omega arith))
+
+  module _ (port : List ℕ) (y : length port ≡ 2) where
+    abbrev after_port : List ℕ
+    after_port = put_mid (1 + a) (1 + a + 2 - (1 + a)) after_address port
+
+    pub port_kept : length after_port ≡ length out
+    port_kept = length_put (1 + a) (1 + a + 2 - (1 + a)) after_address port (let e = address_kept in omega arith) (omega arith) ∙ address_kept
+
+    pub filled : (key : List ℕ) → length key ≡ 32 → put_mid (1 + a + 2) (length after_port - (1 + a + 2)) after_port key ≡ family ∷ (address ++ (port ++ key))
+    filled key z =
+        let front : take (1 + a + 2) after_port ≡ ((family ∷ []) ++ address) ++ port =
+        take-put_mid (1 + a) (1 + a + 2 - (1 + a)) after_address port (1 + a + 2) (omega arith) (let e = address_kept in omega arith)
+        ∙ ap (λ (l : List ℕ). l ++ port) address_front in
+        let none : drop (length after_port - (1 + a + 2)) (drop (1 + a + 2) after_port) ≡ [] =
+        drop_of_length-le (drop (1 + a + 2) after_port) (omega (arith, length-drop (1 + a + 2) after_port)) in
+        ap₂ (λ (l m : List ℕ). l ++ (key ++ m)) front none ∙ ap (λ (l : List ℕ). (((family ∷ []) ++ address) ++ port) ++ l) (append-nil key)
+        ∙ append_assoc (family ∷ address) port key
 
 -- ---- parts put into an output, one behind the other
 
@@ -110,24 +156,24 @@ module _ (out address key : List ℕ) (family a port : ℕ) (fitting : Fitting o
 -- ---- the answer
 
 module _ (n : NodeInfo) (out : List ℕ) where
-  pub writes_unknown : known_family n.family ≡ false → Writes n out (Refused UnknownFamily) out
+  pub writes_unknown : known_family n.family ≡ false → Writes n out (Err UnknownFamily) out
   unfolding written_answer written_output
   writes_unknown k = record { answers = simp k; leaves = simp k }
 
   module _ (k : known_family n.family ≡ true) (long : length (packed_node n) ≡ packed_length n.family) where
-    pub writes_short : length out < packed_length n.family → Writes n out (Refused OutputTooShort) out
+    pub writes_short : length out < packed_length n.family → Writes n out (Err OutputTooShort) out
     unfolding written_answer written_output
     writes_short h =
         let q = lt-leb (length (packed_node n)) (length out) (omega arith) in
         record { answers = simp (k, q); leaves = simp (k, q) }
 
     pub writes_node : (size : ℕ) (left : List ℕ) → size ≡ packed_length n.family → size ≤ length out → left ≡ packed_node n ++ drop size out
-        → Writes n out (Bytes size) left
+        → Writes n out (Ok size) left
     unfolding written_answer written_output
     writes_node size left s h e =
         let q = le-leb (length (packed_node n)) (length out) (omega arith) in
         let z : size ≡ length (packed_node n) = s ∙ sym long in
         record {
-          answers = ap Bytes z ∙ simp (k, q);
+          answers = ap Ok z ∙ simp (k, q);
           leaves = e ∙ ap (λ (m : ℕ). packed_node n ++ drop m out) z ∙ simp (k, q);
         }

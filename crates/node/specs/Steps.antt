@@ -1,14 +1,11 @@
 -- One step of the walker. Document 01, "Nodes": "a walker that shows the next node of a lent list and says where the following one starts. It
 -- keeps the list, its place and the count shown."
-use Rattle.std.specs.Prelude.{cond, List, ◌≡◌, ℕ, ◌+◌, eqb, leb, ltb, length, drop}
+use Rattle.std.specs.Prelude.{cond, List, ◌≡◌, ℕ, ◌+◌, eqb, leb, ltb, length, drop, Option, Some, None, Result, Ok, Err}
 use Rattle.refusal.specs.declared.Refusal.{Refusal}
 use Rattle.refusal.specs.declared.Refusal.TheVariants.{NodeCutShort, BytesAfterNodes}
-use Rattle.node.specs.declared.Node.{Node}
-use Rattle.node.specs.declared.walk.Shown.{Shown}
-use Rattle.node.specs.declared.walk.Shown.TheVariants as shown
-use Rattle.node.specs.declared.walk.Stepped.{Stepped}
+use Rattle.node.specs.declared.walk.Next.{Next}
 use Rattle.node.specs.Nodes as nodes
-use Rattle.node.specs.Values.{info_of, value_of, blank_node}
+use Rattle.node.specs.Values.{info_of, value_of}
 
 -- what a step does: it shows a node, or says that the list ends, or is refused
 pub data Showing : Type 0 where
@@ -42,32 +39,30 @@ count_after (shows n) count = count + 1
 count_after ends count = count
 count_after (refuses why) count = count
 
--- for each case of the answer as code, what it stands for, with the node beside it
-unfoldable pub showing_of : Shown → Node → Showing
-showing_of shown.Node n = shows (info_of n)
-showing_of shown.End n = ends
-showing_of (shown.Refused why) n = refuses why
+-- for each case of the answer as code, what it stands for
+unfoldable pub showing_of : Result (Option Next) Refusal → Showing
+showing_of (Ok (Some next)) = shows (info_of next.node)
+showing_of (Ok None) = ends
+showing_of (Err why) = refuses why
 
--- and the answer as code: its case, the node beside it (the blank node where none is shown), and the walker after the step
-unfoldable pub shown_by : Showing → Shown
-shown_by (shows n) = shown.Node
-shown_by ends = shown.End
-shown_by (refuses why) = shown.Refused why
+-- and the answer as code: the node shown with the walker after the step, or neither
+unfoldable pub shown_step : ℕ → ℕ → Showing → Result (Option Next) Refusal
+shown_step place count (shows n) = Ok (Some (record { node = value_of n; place = place_after (shows n) place; count = count_after (shows n) count }))
+shown_step place count ends = Ok None
+shown_step place count (refuses why) = Err why
 
-unfoldable pub node_by : Showing → Node
-node_by (shows n) = value_of n
-node_by ends = blank_node
-node_by (refuses why) = blank_node
+-- where the walker stands after an answer, and how many nodes it has shown: as they come with the node that is shown, and as before where none is
+unfoldable pub place_answered : ℕ → Result (Option Next) Refusal → ℕ
+place_answered place (Ok (Some next)) = next.place
+place_answered place (Ok None) = place
+place_answered place (Err why) = place
 
-unfoldable pub shown_step : ℕ → ℕ → Showing → Stepped
-shown_step place count step = record {
-  shown = shown_by step;
-  node = node_by step;
-  place = place_after step place;
-  count = count_after step count;
-}
+unfoldable pub count_answered : ℕ → Result (Option Next) Refusal → ℕ
+count_answered count (Ok (Some next)) = next.count
+count_answered count (Ok None) = count
+count_answered count (Err why) = count
 
 -- the step's answer: it stands for what document 01 has shown there, and it is just the one above
-pub record Steps (list : List ℕ) (place count : ℕ) (answer : Stepped) : Type 0 where
-  pub means : showing_of answer.shown answer.node ≡ step_of list place count
+pub record Steps (list : List ℕ) (place count : ℕ) (answer : Result (Option Next) Refusal) : Type 0 where
+  pub means : showing_of answer ≡ step_of list place count
   pub exact : answer ≡ shown_step place count (step_of list place count)

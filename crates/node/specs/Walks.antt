@@ -1,9 +1,8 @@
 -- A whole list walked. Document 01, "Nodes": "A node list is 0 to 4 packed nodes with no byte over."
-use Rattle.std.specs.Prelude.{true, false, List, [], ◌∷◌, ◌++◌, ◌≡◌, ℕ, zero, suc, ◌<◌, ◌≤◌, length}
+use Rattle.std.specs.Prelude.{true, false, List, [], ◌∷◌, ◌++◌, ◌≡◌, ℕ, zero, suc, ◌<◌, ◌≤◌, length, Option, Some, None, Result, Ok, Err}
 use Rattle.refusal.specs.declared.Refusal.{Refusal}
 use Rattle.refusal.specs.declared.Refusal.TheVariants.{UnknownFamily, NodeCutShort, BytesAfterNodes}
-use Rattle.node.specs.declared.walk.Shown.TheVariants as shown
-use Rattle.node.specs.declared.walk.Stepped.{Stepped}
+use Rattle.node.specs.declared.walk.Next.{Next}
 use Rattle.node.specs.Families.{known_family, packed_length}
 use Rattle.node.specs.Nodes.{NodeInfo, packed_node, FitsNode}
 use Rattle.node.specs.Values.{info_of}
@@ -60,9 +59,9 @@ pub record Walked (list : List ℕ) (w : Walk) : Type 0 where
 
 -- a walk by calls of the step: each is handed the place and the count that the one before it handed back
 pub data Calls (list : List ℕ) : ℕ → ℕ → Walk → Type 0 where
-  says_end : {place count : ℕ} {answer : Stepped} → Steps list place count answer → answer.shown ≡ shown.End
+  says_end : {place count : ℕ} {answer : Result (Option Next) Refusal} → Steps list place count answer → answer ≡ Ok None
       → Calls list place count (record { nodes = []; ending = ended })
-  is_refused : {place count : ℕ} {answer : Stepped} {why : Refusal} → Steps list place count answer → answer.shown ≡ shown.Refused why
+  is_refused : {place count : ℕ} {answer : Result (Option Next) Refusal} {why : Refusal} → Steps list place count answer → answer ≡ Err why
       → Calls list place count (record { nodes = []; ending = stopped why })
-  shows_node : {place count : ℕ} {answer : Stepped} {after : Walk} → Steps list place count answer → answer.shown ≡ shown.Node
-      → Calls list answer.place answer.count after → Calls list place count (record { nodes = info_of answer.node ∷ after.nodes; ending = after.ending })
+  shows_node : {place count : ℕ} {answer : Result (Option Next) Refusal} {next : Next} {after : Walk} → Steps list place count answer → answer ≡ Ok (Some next)
+      → Calls list next.place next.count after → Calls list place count (record { nodes = info_of next.node ∷ after.nodes; ending = after.ending })

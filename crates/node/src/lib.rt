@@ -17,7 +17,7 @@ use key::Key;
 
 // A node by value. The family is the byte as given, so that a node of unknown family can be made, and is refused where the rules say so.
 // An IPv4 address stands in the first 4 address bytes.
-#[derive(Clone, Copy)]
+#[derive(Clone, Copy, PartialEq, Eq, Debug)]
 pub struct Node {
     pub family: u8,
     pub address: [u8; 16],
@@ -26,7 +26,7 @@ pub struct Node {
 }
 
 impl Node {
-    // The node of zeros, whose family is unknown. It stands where there is no node to show.
+    // The node of zeros, whose family is unknown. It fills a place that holds no node yet.
     pub fn blank() -> Node
         ensures { result ≡ blank_node }
     {

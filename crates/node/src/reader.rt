@@ -1,90 +1,63 @@
 // One packed node, read at a place of lent bytes.
-ghost use Rattle.std.specs.Prelude.{◌≡◌, ◌++◌, ◌-◌, ◌^◌, ◌≤◌, ◌<◌, length, get_or, drop, replicate};
-ghost use Rattle.node.specs.Families.{packed_length};
+ghost use Rattle.std.specs.Prelude.{◌≡◌, ◌+◌, ◌≤◌, ◌++◌, ◌-◌, length, get_or, take, drop, replicate};
+ghost use Rattle.node.specs.Families.{family_byte, address_length, packed_length};
 ghost use Rattle.node.specs.Nodes.{node_of};
-ghost use Rattle.node.specs.Values.{value_of, blank_node};
+ghost use Rattle.node.specs.Values.{value_of};
 ghost use Rattle.node.specs.Reads.{Reads};
 
-use crate::{Node, family};
+use crate::Node;
+use crate::family::{FAMILY_BYTES, Family, IPV4_BYTES, IPV6_BYTES, PORT_BYTES};
 use key::Key;
 use refusal::Refusal;
 
-// What stands at a place. An enum holds no array, so the node itself is beside it.
-#[derive(Clone, Copy)]
-pub enum Found {
-    // The next node starts, or the bytes end, at `next`.
-    Node { next: usize },
-    Refused(Refusal),
-}
-
-// What was found, and the node; the blank node where there is none.
-#[derive(Clone, Copy)]
-pub struct NodeRead {
-    pub found: Found,
-    pub node: Node,
-}
-
-// Reads the node that starts at a place; bytes may come after it. Refusals 15, 16, in this order; 16 where no byte is left.
-pub fn read(bytes: &[u8], at: usize) -> NodeRead
+// Reads the node that starts at a place, and says where the next node starts, or the bytes end; bytes may come after it. Refusals 15, 16, in this
+// order; 16 where no byte is left.
+pub fn read(bytes: &[u8], at: usize) -> Result<(Node, usize), Refusal>
     ensures { Reads bytes.now at result }
 {
-    if bytes.len() <= at {
-        return refused(Refusal::NodeCutShort);
-    }
-    let family = bytes[at];
-    if !family::known(family) {
-        return refused(Refusal::UnknownFamily);
-    }
-    let size = family::packed_length(family);
+    let byte = *bytes.get(at).ok_or(Refusal::NodeCutShort)?;
+    let family = Family::try_from(byte)?;
+    let size = family.packed_length();
     if bytes.len() - at < size {
-        return refused(Refusal::NodeCutShort);
+        return Err(Refusal::NodeCutShort);
     }
-    NodeRead {
-        found: Found::Node { next: at + size },
-        node: unpacked(&bytes[at..]),
-    }
+    Ok((unpacked(family, &bytes[at..]), at + size))
 }
 
-// A refusal, beside the blank node.
-fn refused(why: Refusal) -> NodeRead
-    ensures { result ≡ record { found = Found.Refused why; node = blank_node } }
+// The node of this family whose packed bytes stand at the front of these.
+fn unpacked(family: Family, packed: &[u8]) -> Node
+    requires named { get_or packed.now 0 0 ≡ family_byte family }
+    requires whole { packed_length (family_byte family) ≤ length packed.now }
+    ensures { result ≡ value_of (node_of (family_byte family) (drop 1 packed.now)) }
 {
-    NodeRead {
-        found: Found::Refused(why),
-        node: Node::blank(),
-    }
-}
-
-// The node whose packed bytes stand at the front of these.
-fn unpacked(packed: &[u8]) -> Node
-    requires { packed_length (get_or packed.now 0 0) ≤ length packed.now }
-    ensures { result ≡ value_of (node_of (get_or packed.now 0 0) (drop 1 packed.now)) }
-{
-    let family = packed[0];
-    let port = family::FAMILY_BYTES + family::address_length(family);
-    let key = port + family::PORT_BYTES;
+    let port = FAMILY_BYTES + family.address_length();
+    let key = port + PORT_BYTES;
     Node {
-        family,
-        address: padded(&packed[family::FAMILY_BYTES..port]),
-        port: narrow(wire::read_number(&packed[port..key])),
+        family: packed[0],
+        address: address(family, packed),
+        port: u16::from_be_bytes([packed[port], packed[port + 1]]),
         key: Key::read(&packed[key..]),
     }
 }
 
-// Address bytes, and 0 for those that the family does not use.
-fn padded(bytes: &[u8]) -> [u8; 16]
-    requires { length bytes.now ≤ 16 }
-    ensures { result ≡ bytes.now ++ replicate (16 - length bytes.now) 0 }
+// The address bytes behind the family, by how many it has: of each a copy of a length that the compiler knows.
+fn address(family: Family, packed: &[u8]) -> [u8; 16]
+    requires { 17 ≤ length packed.now }
+    ensures { result ≡ take (address_length (family_byte family)) (drop 1 packed.now) ++ replicate (16 - address_length (family_byte family)) 0 }
 {
-    let mut address = [0u8; 16];
-    address[..bytes.len()].copy_from_slice(bytes);
-    address
+    match family {
+        Family::UdpIpv4 | Family::TcpIpv4 => padded::<IPV4_BYTES>(packed),
+        Family::UdpIpv6 | Family::TcpIpv6 => padded::<IPV6_BYTES>(packed),
+    }
 }
 
-// The number of two bytes, as a port.
-fn narrow(number: u64) -> u16
-    requires { number < 2 ^ 16 }
-    ensures { result ≡ number }
+// So many address bytes, and 0 for those that the family does not use.
+fn padded<const N: usize>(packed: &[u8]) -> [u8; 16]
+    requires used { N ≤ 16 }
+    requires there { 1 + N ≤ length packed.now }
+    ensures { result ≡ take N (drop 1 packed.now) ++ replicate (16 - N) 0 }
 {
-    number as u16
+    let mut address = [0; 16];
+    address[..N].copy_from_slice(&packed[FAMILY_BYTES..FAMILY_BYTES + N]);
+    address
 }

@@ -8,8 +8,7 @@ use lib.Seq.{drop-drop}
 use Rattle.refusal.specs.declared.Refusal.{Refusal}
 use Rattle.packet.specs.declared.client.RelayPacket.{RelayPacket}
 use Rattle.packet.specs.declared.client.RelayPacket.TheVariants.{RoutingResponse, ConnectNotification, DisconnectNotification, Ping, Pong, OobReceived, Data}
-use Rattle.packet.specs.declared.client.ClientRead.{ClientRead}
-use Rattle.packet.specs.declared.client.ClientRead.TheVariants.{Packet, Refused}
+use Rattle.std.specs.Prelude.{Result, Ok, Err}
 use Rattle.packet_laws.specs.Read.{packet, refused}
 use Rattle.packet_laws.specs.Table.{kind_of, body_of, client_takes}
 use Rattle.packet_laws.specs.FromRelay.{FromRelay, routing_response, oob_received, routed_data, from_relay, client_read}
@@ -82,17 +81,17 @@ client_shown_means bytes = go (client_checks bytes)
     go (turned why e) = refused_means bytes why e
 
 -- an answer with the right places stands for the packet read
-pub client_reads : (bytes : List ℕ) (answer : ClientRead) → answer ≡ shown_client_read (client_read bytes) → ClientReads bytes answer
+pub client_reads : (bytes : List ℕ) (answer : Result RelayPacket Refusal) → answer ≡ shown_client_read (client_read bytes) → ClientReads bytes answer
 client_reads bytes answer e = record { means = ap (client_read_of bytes) e ∙ client_shown_means bytes; exact = e }
 
-pub client_reads_refused : (bytes : List ℕ) (why : Refusal) → client_read bytes ≡ refused why → ClientReads bytes (Refused why)
+pub client_reads_refused : (bytes : List ℕ) (why : Refusal) → client_read bytes ≡ refused why → ClientReads bytes (Err why)
 unfolding shown_client_read
-client_reads_refused bytes why e = client_reads bytes (Refused why) (sym (ap shown_client_read e))
+client_reads_refused bytes why e = client_reads bytes (Err why) (sym (ap shown_client_read e))
 
 pub client_reads_packet : (bytes : List ℕ) (shown : RelayPacket) → ClientPasses bytes → shown ≡ shown_relay (from_relay (kind_of bytes) (body_of bytes))
-    → ClientReads bytes (Packet shown)
+    → ClientReads bytes (Ok shown)
 unfolding shown_client_read
-client_reads_packet bytes shown passed e = client_reads bytes (Packet shown) (ap Packet e ∙ sym (ap shown_client_read (client_takes_lem bytes passed)))
+client_reads_packet bytes shown passed e = client_reads bytes (Ok shown) (ap Ok e ∙ sym (ap shown_client_read (client_takes_lem bytes passed)))
 
 -- ---- what was read, by what the reader showed of it: the packet, its key, its payload, and that the payload stands where it is shown
 
@@ -106,7 +105,7 @@ part_payload bytes (Pong n) = no_part_lem bytes
 part_payload bytes (OobReceived key part) = refl
 part_payload bytes (Data number part) = refl
 
-module _ (bytes : List ℕ) (shown : RelayPacket) (shows : Packet shown ≡ shown_client_read (client_read bytes)) where
+module _ (bytes : List ℕ) (shown : RelayPacket) (shows : Ok shown ≡ shown_client_read (client_read bytes)) where
   pub client_shown : client_read bytes ≡ packet (relay_packet_of bytes shown)
   unfolding client_read_of
   client_shown = sym (ap (client_read_of bytes) shows ∙ client_shown_means bytes)

@@ -8,8 +8,7 @@ use lib.Seq.{drop-drop}
 use Rattle.refusal.specs.declared.Refusal.{Refusal}
 use Rattle.packet.specs.declared.relay.ClientPacket.{ClientPacket}
 use Rattle.packet.specs.declared.relay.ClientPacket.TheVariants.{RoutingRequest, DropRoute, Ping, Pong, OobSend, Data}
-use Rattle.packet.specs.declared.relay.RelayRead.{RelayRead}
-use Rattle.packet.specs.declared.relay.RelayRead.TheVariants.{Packet, Refused}
+use Rattle.std.specs.Prelude.{Result, Ok, Err}
 use Rattle.packet_laws.specs.Read.{packet, refused}
 use Rattle.packet_laws.specs.Table.{kind_of, body_of, relay_takes}
 use Rattle.packet_laws.specs.FromClient.{FromClient, routing_request, oob_send, routed_data, from_client, relay_read, payload_from_client, relay_payload, key_from_client, relay_key}
@@ -80,26 +79,26 @@ relay_shown_means bytes = go (checks relay_takes bytes (packet (from_client (kin
     go (fail why e) = refused_means bytes why e
 
 -- an answer with the right places stands for the packet read
-pub relay_reads : (bytes : List ℕ) (answer : RelayRead) → answer ≡ shown_relay_read (relay_read bytes) → RelayReads bytes answer
+pub relay_reads : (bytes : List ℕ) (answer : Result ClientPacket Refusal) → answer ≡ shown_relay_read (relay_read bytes) → RelayReads bytes answer
 relay_reads bytes answer e = record { means = ap (relay_read_of bytes) e ∙ relay_shown_means bytes; exact = e }
 
-pub relay_reads_refused : (bytes : List ℕ) (why : Refusal) → relay_read bytes ≡ refused why → RelayReads bytes (Refused why)
+pub relay_reads_refused : (bytes : List ℕ) (why : Refusal) → relay_read bytes ≡ refused why → RelayReads bytes (Err why)
 unfolding shown_relay_read
-relay_reads_refused bytes why e = relay_reads bytes (Refused why) (sym (ap shown_relay_read e))
+relay_reads_refused bytes why e = relay_reads bytes (Err why) (sym (ap shown_relay_read e))
 
 -- the refusal taken out of a read that is one is its own
-pub refusal_own : (why : Refusal) → relay_refusal (Refused why) ≡ why
+pub refusal_own : (why : Refusal) → relay_refusal (Err why) ≡ why
 unfolding relay_refusal
 refusal_own why = refl
 
 -- a read that is a refusal is the one that is taken out of it
-pub refusal_taken : (read : RelayRead) (why taken : Refusal) → read ≡ Refused why → taken ≡ relay_refusal read → read ≡ Refused taken
-refusal_taken read why taken e t = e ∙ ap Refused (sym (t ∙ ap relay_refusal e ∙ refusal_own why))
+pub refusal_taken : (read : Result ClientPacket Refusal) (why taken : Refusal) → read ≡ Err why → taken ≡ relay_refusal read → read ≡ Err taken
+refusal_taken read why taken e t = e ∙ ap Err (sym (t ∙ ap relay_refusal e ∙ refusal_own why))
 
 pub relay_reads_packet : (bytes : List ℕ) (shown : ClientPacket) → Passes relay_takes bytes → shown ≡ shown_client (from_client (kind_of bytes) (body_of bytes))
-    → RelayReads bytes (Packet shown)
+    → RelayReads bytes (Ok shown)
 unfolding shown_relay_read
-relay_reads_packet bytes shown taken e = relay_reads bytes (Packet shown) (ap Packet e ∙ sym (ap shown_relay_read (relay_takes_lem bytes taken)))
+relay_reads_packet bytes shown taken e = relay_reads bytes (Ok shown) (ap Ok e ∙ sym (ap shown_relay_read (relay_takes_lem bytes taken)))
 
 -- ---- what was read, by what the reader showed of it: the packet, its key, its payload, and that the payload stands where it is shown
 
@@ -112,7 +111,7 @@ part_payload bytes (Pong n) = no_part_lem bytes
 part_payload bytes (OobSend key part) = refl
 part_payload bytes (Data number part) = refl
 
-module _ (bytes : List ℕ) (shown : ClientPacket) (shows : Packet shown ≡ shown_relay_read (relay_read bytes)) where
+module _ (bytes : List ℕ) (shown : ClientPacket) (shows : Ok shown ≡ shown_relay_read (relay_read bytes)) where
   pub relay_shown : relay_read bytes ≡ packet (client_packet_of bytes shown)
   unfolding relay_read_of
   relay_shown = sym (ap (relay_read_of bytes) shows ∙ relay_shown_means bytes)

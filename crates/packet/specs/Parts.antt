@@ -12,6 +12,10 @@ part_of bytes part =
 unfoldable pub start_of : List ℕ → Part → ℕ
 start_of bytes part = cond (leb part.start (length bytes)) (cond (leb part.length (length bytes - part.start)) part.start 0) 0
 
+-- all bytes from a place on, as a part
+abbrev pub part_behind : List ℕ → ℕ → Part
+part_behind bytes at = record { start = at; length = length (drop at bytes) }
+
 -- the part where there is no payload: no bytes, at the front
 abbrev pub no_part : Part
 no_part = record { start = 0; length = 0 }

@@ -28,37 +28,19 @@ pub enum RelayPacket {
     Data(ConnectionNumber, Part),
 }
 
-#[derive(Clone, Copy)]
-pub enum ClientRead {
-    Packet(RelayPacket),
-    Refused(Refusal),
-}
-
 // Reads a packet from the relay. Refusals 4, 5, 6, 7, 8, in this order.
-pub fn read(packet: &[u8]) -> ClientRead
+pub fn read(packet: &[u8]) -> Result<RelayPacket, Refusal>
     ensures { ClientReads packet.now result }
 {
-    let size = packet.len();
-    if !kind::size_right(size) {
-        return ClientRead::Refused(Refusal::PacketSize);
-    }
-    let kind = packet[0];
-    if !kind::client_takes(kind) {
-        return ClientRead::Refused(Refusal::UnexpectedKind);
-    }
-    if !kind::length_right(kind, size) {
-        return ClientRead::Refused(Refusal::WrongLength);
-    }
-    if !kind::ping_right(kind, &packet[1..]) {
-        return ClientRead::Refused(Refusal::ZeroPing);
-    }
+    let kind = kind::checked(packet, kind::client_takes)?;
     if !kind::number_right(kind, packet[1]) {
-        return ClientRead::Refused(Refusal::NoSuchRoute);
+        return Err(Refusal::NoSuchRoute);
     }
-    ClientRead::Packet(shown(kind, packet))
+    Ok(shown(kind, packet))
 }
 
-// Where the parts of a packet of the right length stand.
+// Where the parts of a packet of the right length stand. Each end has its own kinds, so this, `payload` and `key` match on its own enum.
+#[tactic(auto, unfolding(crate::specs::ClientReads::shown_relay, packet_laws::specs::FromRelay::from_relay, packet_laws::specs::Table::length_right))]
 fn shown(kind: u8, packet: &[u8]) -> RelayPacket
     requires { length_right kind (length packet.now) ≡ true }
     ensures { result ≡ shown_relay (from_relay kind (drop 1 packet.now)) }
@@ -74,39 +56,34 @@ fn shown(kind: u8, packet: &[u8]) -> RelayPacket
         kind::PONG => RelayPacket::Pong(wire::read_number(&packet[1..])),
         kind::OOB_RECEIVED => RelayPacket::OobReceived {
             key: 1,
-            payload: Part {
-                start: kind::KIND_AND_KEY,
-                length: packet.len() - kind::KIND_AND_KEY,
-            },
+            payload: parts::behind(packet, kind::KIND_AND_KEY),
         },
-        _ => RelayPacket::Data(
-            ConnectionNumber(kind),
-            Part {
-                start: 1,
-                length: packet.len() - 1,
-            },
-        ),
+        _ => RelayPacket::Data(ConnectionNumber(kind), parts::behind(packet, 1)),
     }
 }
 
 // The payload of a data packet or an out-of-band packet, as a part of the lent packet; the empty part at its front where there is none.
+#[tactic(auto, unfolding(crate::specs::ClientReads::relay_part, crate::specs::Parts::part_of, crate::specs::Parts::start_of))]
 pub fn payload(packet: &[u8], shown: RelayPacket) -> &[u8]
     ensures { PartAt packet.entry (relay_part shown) result }
 {
     match shown {
-        RelayPacket::OobReceived { key: _, payload } => parts::bytes_at(packet, payload),
-        RelayPacket::Data(_, payload) => parts::bytes_at(packet, payload),
+        RelayPacket::OobReceived { payload, .. } | RelayPacket::Data(_, payload) => {
+            parts::bytes_at(packet, payload)
+        }
         _ => &packet[..0],
     }
 }
 
 // The key of a routing response or an out-of-band packet, by value; the key of zeros where there is none.
+#[tactic(auto, unfolding(crate::specs::ClientReads::relay_packet_of, packet_laws::specs::FromRelay::key_from_relay))]
 pub fn key(packet: &[u8], shown: RelayPacket) -> Key
     ensures { result.0 ≡ key_from_relay (relay_packet_of packet.now shown) }
 {
     match shown {
-        RelayPacket::RoutingResponse { number: _, key } => parts::key_at(packet, key),
-        RelayPacket::OobReceived { key, payload: _ } => parts::key_at(packet, key),
-        _ => Key([0u8; 32]),
+        RelayPacket::RoutingResponse { key, .. } | RelayPacket::OobReceived { key, .. } => {
+            parts::key_at(packet, key)
+        }
+        _ => Key([0; Key::BYTES]),
     }
 }

@@ -10,13 +10,22 @@ pub mod kind;
 mod parts;
 pub mod relay;
 
+use std::fmt;
+
 // A connection number: a client's own word for one of its routes. Document 01 calls it a route number; it has nothing to do with a seat.
-#[derive(Clone, Copy)]
+#[derive(Clone, Copy, PartialEq, Eq, Debug)]
 pub struct ConnectionNumber(pub u8);
 
 impl ConnectionNumber {
     // The lowest that a route has, and so the lowest kind of a data packet.
     pub const FIRST: u8 = 16;
+}
+
+impl fmt::Display for ConnectionNumber {
+    fn fmt<W: fmt::Write>(&self, f: &mut fmt::Formatter<W>) -> fmt::Result {
+        let number = self.0;
+        write!(f, "number {number}")
+    }
 }
 
 // Where a payload stands in a packet.

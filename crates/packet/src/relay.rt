@@ -20,46 +20,24 @@ pub enum ClientPacket {
     Data(ConnectionNumber, Part),
 }
 
-#[derive(Clone, Copy)]
-pub enum RelayRead {
-    Packet(ClientPacket),
-    Refused(Refusal),
-}
-
-impl RelayRead {
-    // The refusal in a read that is one: the `else` of a `let` binds no name, and takes it from here. Of a packet, which has none, it answers 5.
-    pub fn refusal(self) -> Refusal
-        ensures { result ≡ relay_refusal self }
-    {
-        match self {
-            RelayRead::Refused(why) => why,
-            RelayRead::Packet(_) => Refusal::UnexpectedKind,
-        }
-    }
+// The refusal in a read that is one: the `else` of a `let` binds no name, and takes it from here. Of a packet, which has none, it answers 5.
+#[tactic(auto, unfolding(crate::specs::RelayReads::relay_refusal))]
+pub fn refusal(read: Result<ClientPacket, Refusal>) -> Refusal
+    ensures { result ≡ relay_refusal read }
+{
+    read.err().unwrap_or(Refusal::UnexpectedKind)
 }
 
 // Reads a packet from a client. Refusals 4, 5, 6, 7, in this order.
-pub fn read(packet: &[u8]) -> RelayRead
+pub fn read(packet: &[u8]) -> Result<ClientPacket, Refusal>
     ensures { RelayReads packet.now result }
 {
-    let size = packet.len();
-    if !kind::size_right(size) {
-        return RelayRead::Refused(Refusal::PacketSize);
-    }
-    let kind = packet[0];
-    if !kind::relay_takes(kind) {
-        return RelayRead::Refused(Refusal::UnexpectedKind);
-    }
-    if !kind::length_right(kind, size) {
-        return RelayRead::Refused(Refusal::WrongLength);
-    }
-    if !kind::ping_right(kind, &packet[1..]) {
-        return RelayRead::Refused(Refusal::ZeroPing);
-    }
-    RelayRead::Packet(shown(kind, packet))
+    let kind = kind::checked(packet, kind::relay_takes)?;
+    Ok(shown(kind, packet))
 }
 
-// Where the parts of a packet of the right length stand.
+// Where the parts of a packet of the right length stand. Each end has its own kinds, so this, `payload` and `key` match on its own enum.
+#[tactic(auto, unfolding(crate::specs::RelayReads::shown_client, packet_laws::specs::FromClient::from_client, packet_laws::specs::Table::length_right))]
 fn shown(kind: u8, packet: &[u8]) -> ClientPacket
     requires { length_right kind (length packet.now) ≡ true }
     ensures { result ≡ shown_client (from_client kind (drop 1 packet.now)) }
@@ -71,39 +49,34 @@ fn shown(kind: u8, packet: &[u8]) -> ClientPacket
         kind::PONG => ClientPacket::Pong(wire::read_number(&packet[1..])),
         kind::OOB_SEND => ClientPacket::OobSend {
             key: 1,
-            payload: Part {
-                start: kind::KIND_AND_KEY,
-                length: packet.len() - kind::KIND_AND_KEY,
-            },
+            payload: parts::behind(packet, kind::KIND_AND_KEY),
         },
-        _ => ClientPacket::Data(
-            ConnectionNumber(kind),
-            Part {
-                start: 1,
-                length: packet.len() - 1,
-            },
-        ),
+        _ => ClientPacket::Data(ConnectionNumber(kind), parts::behind(packet, 1)),
     }
 }
 
 // The payload of a data packet or an out-of-band send, as a part of the lent packet; the empty part at its front where there is none.
+#[tactic(auto, unfolding(crate::specs::RelayReads::client_part, crate::specs::Parts::part_of, crate::specs::Parts::start_of))]
 pub fn payload(packet: &[u8], shown: ClientPacket) -> &[u8]
     ensures { PartAt packet.entry (client_part shown) result }
 {
     match shown {
-        ClientPacket::OobSend { key: _, payload } => parts::bytes_at(packet, payload),
-        ClientPacket::Data(_, payload) => parts::bytes_at(packet, payload),
+        ClientPacket::OobSend { payload, .. } | ClientPacket::Data(_, payload) => {
+            parts::bytes_at(packet, payload)
+        }
         _ => &packet[..0],
     }
 }
 
 // The key of a routing request or an out-of-band send, by value; the key of zeros where there is none.
+#[tactic(auto, unfolding(crate::specs::RelayReads::client_packet_of, packet_laws::specs::FromClient::key_from_client))]
 pub fn key(packet: &[u8], shown: ClientPacket) -> Key
     ensures { result.0 ≡ key_from_client (client_packet_of packet.now shown) }
 {
     match shown {
-        ClientPacket::RoutingRequest { key } => parts::key_at(packet, key),
-        ClientPacket::OobSend { key, payload: _ } => parts::key_at(packet, key),
-        _ => Key([0u8; 32]),
+        ClientPacket::RoutingRequest { key } | ClientPacket::OobSend { key, .. } => {
+            parts::key_at(packet, key)
+        }
+        _ => Key([0; Key::BYTES]),
     }
 }

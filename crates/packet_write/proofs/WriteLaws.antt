@@ -3,37 +3,39 @@ use mathlib.Core.Path.{◌≡◌, ◌∙◌, refl, sym, ap, ap₂}
 use mathlib.Core.List.{List, [], ◌∷◌, ◌++◌}
 use Prim.Native.Nat.{ℕ, ◌+◌, ◌<◌, ◌≤◌}
 use native.Mathlib.Omega.{arith}
-use mathlib.Core.Bool.{Bool, true, false, cond}
-use lib.Dec.{leb}
+use mathlib.Core.Bool.{Bool, true, false, cond, not}
+use lib.Dec.{leb, eqb}
+use Rattle.std.proofs.lemmas.Bool.Decides.{nat_tests}
 use lib.Seq.{take-append_seam}
-use lib.ListN.{length, take, drop, set, length-set}
+use lib.ListN.{length, take, drop, set}
 use borrow.Author.Tests.{le-leb, lt-leb}
-use Rattle.wire.proofs.Copy.{written_first, written_part, length_lent, length_written}
-use Rattle.key.specs.Keys.{with_key}
-use Rattle.key.proofs.Lent.{with_key_whole}
+use Rattle.std.specs.Prelude.{Result, Ok, Err}
+use Rattle.std.specs.Int.{to_be_bytes}
+use Rattle.std.proofs.Math.Nat.{div-div-eq-div-mul}
+use mir.Syntax.{w64}
+use Rattle.wire.specs.Numbers.{bytes_of}
+use Rattle.wire.proofs.Copy.{written_first, written_part}
 use Rattle.refusal.specs.declared.Refusal.{Refusal}
 use Rattle.refusal.specs.declared.Refusal.TheVariants.{OutputTooShort}
-use Rattle.packet_write.specs.declared.Written.{Written}
-use Rattle.packet_write.specs.declared.Written.TheVariants.{Bytes, Refused}
-use Rattle.packet_laws.specs.Read.{Read, packet, refused}
-use Rattle.packet_write.specs.Written.{Writes, Puts, written_answer, written_output}
+use Rattle.packet_laws.specs.Read.{Read, packet, refused, check}
+use Rattle.packet_write.specs.Written.{Writes, Puts, PutsJudged, written_answer, written_output}
 
-pub puts_short : (bytes out : List ℕ) → length out < length bytes → Puts bytes out (Refused OutputTooShort) out
+pub puts_short : (bytes out : List ℕ) → length out < length bytes → Puts bytes out (Err OutputTooShort) out
 unfolding written_answer written_output
 puts_short bytes out h = record { answers = simp (lt-leb (length bytes) (length out) h); leaves = simp (lt-leb (length bytes) (length out) h) }
 
-pub puts_written : (bytes out left : List ℕ) (n : ℕ) → length bytes ≡ n → n ≤ length out → left ≡ bytes ++ drop n out → Puts bytes out (Bytes n) left
+pub puts_written : (bytes out left : List ℕ) (n : ℕ) → length bytes ≡ n → n ≤ length out → left ≡ bytes ++ drop n out → Puts bytes out (Ok n) left
 unfolding written_answer written_output
 puts_written bytes out left n e h l =
     let k : length bytes ≤ length out = omega arith in
     record {
-      answers = simp (le-leb (length bytes) (length out) k) (ap Bytes (sym e));
+      answers = simp (le-leb (length bytes) (length out) k) (ap Ok (sym e));
       leaves = l ∙ ap (λ (m : ℕ). bytes ++ drop m out) (sym e) ∙ simp (le-leb (length bytes) (length out) k);
     }
 
 module _ {A : Type 0} (judged : Read A) (bytes out : List ℕ) where
   -- a packet that the reader takes is put into the output
-  pub accepted_writes : (p : A) (answer : Written) (left : List ℕ) → judged ≡ packet p → Puts bytes out answer left → Writes judged bytes out answer left
+  pub accepted_writes : (p : A) (answer : Result ℕ Refusal) (left : List ℕ) → judged ≡ packet p → Puts bytes out answer left → Writes judged bytes out answer left
   unfolding written_answer written_output
   accepted_writes p answer left e puts = record {
     answers = puts.answers ∙ sym (ap (λ (j : Read A). written_answer j bytes out) e);
@@ -41,7 +43,7 @@ module _ {A : Type 0} (judged : Read A) (bytes out : List ℕ) where
   }
 
   -- one that it refuses leaves the output
-  pub refused_writes : (why : Refusal) → judged ≡ refused why → Writes judged bytes out (Refused why) out
+  pub refused_writes : (why : Refusal) → judged ≡ refused why → Writes judged bytes out (Err why) out
   unfolding written_answer written_output
   refused_writes why e = record {
     answers = sym (ap (λ (j : Read A). written_answer j bytes out) e);
@@ -54,44 +56,57 @@ pub record Put {A : Type 0} (judged : Read A) (bytes left : List ℕ) (n : ℕ) 
   pub taken : judged ≡ packet found
   pub front : take n left ≡ bytes
 
-counted : {A : Type 0} (p : A) (t : Bool) (bytes out left : List ℕ) (n : ℕ) → Bytes n ≡ cond t (Bytes (length bytes)) (Refused OutputTooShort)
+counted : {A : Type 0} (p : A) (t : Bool) (bytes out left : List ℕ) (n : ℕ) → Ok n ≡ cond t (Ok (length bytes)) (Err OutputTooShort)
     → left ≡ cond t (bytes ++ drop (length bytes) out) out → Put (packet p) bytes left n
 counted p true bytes out left n e l =
     let q : n ≡ length bytes = cc in
     record { found = p; taken = refl; front = ap₂ (λ (m : ℕ) (o : List ℕ). take m o) q l ∙ take-append_seam bytes (drop (length bytes) out) }
 counted p false bytes out left n e l = let z : ◌≡◌ {A = ℕ} 0 1 = cc in absurd (omega arith)
 
-pub writes_put : {A : Type 0} (judged : Read A) (bytes out left : List ℕ) (n : ℕ) → Writes judged bytes out (Bytes n) left → Put judged bytes left n
+pub writes_put : {A : Type 0} (judged : Read A) (bytes out left : List ℕ) (n : ℕ) → Writes judged bytes out (Ok n) left → Put judged bytes left n
 unfolding written_answer written_output
 writes_put (packet p) bytes out left n w = counted p (leb (length bytes) (length out)) bytes out left n w.answers w.leaves
 writes_put (refused why) bytes out left n w = let f = w.answers in let z : ◌≡◌ {A = ℕ} 0 1 = cc in absurd (omega arith)
 
--- ---- pieces of a packet, put one after the other into an output
+-- ---- what a writer does once its packet is judged
 
--- an output whose first byte is set, and whose next 32 come back from a call that writes a key
-abbrev pub with_kind_and_key : List ℕ → ℕ → List ℕ → List ℕ
-with_kind_and_key out k new = take 1 (set out 0 k) ++ (new ++ drop 32 (drop 1 (set out 0 k)))
+module _ {A : Type 0} (judged : Read A) (bytes out : List ℕ) (answer : Result ℕ Refusal) (left : List ℕ) where
+  -- a judgement that begins with a check: what the check refuses is refused, and what it lets through is judged by what comes after it
+  pub checked_writes : (right : Bool) (why : Refusal) (after : Read (Unit {0})) → (right ≡ false → judged ≡ refused why)
+      → (right ≡ true → PutsJudged after bytes out answer left → Writes judged bytes out answer left)
+      → PutsJudged (check right why after) bytes out answer left → Writes judged bytes out answer left
+  unfolding check written_answer written_output
+  checked_writes true why after turned passes w = passes refl w
+  checked_writes false why after turned passes w = rw (turned refl) (record { answers = w.answers; leaves = w.leaves })
 
-module _ (out new key : List ℕ) (k : ℕ) (room : 33 ≤ length out) (e : new ≡ with_key key (take 32 (drop 1 (set out 0 k)))) where
-  pub written_key : with_kind_and_key out k new ≡ (k ∷ key) ++ drop 33 out
-  written_key =
-      let m : new ≡ key = e ∙ with_key_whole key _ (length_lent (set out 0 k) 1 32 (simp length-set room)) in
-      ap₂ (λ (x l : List ℕ). take 1 l ++ (x ++ drop 32 (drop 1 l))) m (written_first out k (omega arith)) ∙ written_part (k ∷ []) key out 1 32 refl
+-- bytes that a check lets through
+pub check_passes : (bytes out : List ℕ) (right : Bool) (why : Refusal) (after : Read (Unit {0})) (answer : Result ℕ Refusal) (left : List ℕ)
+    → right ≡ true → PutsJudged after bytes out answer left → PutsJudged (check right why after) bytes out answer left
+unfolding check
+check_passes bytes out right why after answer left e w = rw e w
 
-  pub length_written_key : length key ≡ 32 → length (with_kind_and_key out k new) ≡ length out
-  length_written_key h = ap length written_key ∙ length_written (k ∷ key) out 33 (omega arith) room
+-- ---- a ping number, and its eight bytes
 
-  -- and then bytes are copied behind
-  pub written_key_and_bytes : (copied bytes : List ℕ) (m : ℕ) → length key ≡ 32 → m ≡ length bytes → 33 + length bytes ≤ length out
-      → copied ≡ bytes
-      → take 33 (with_kind_and_key out k new) ++ (copied ++ drop m (drop 33 (with_kind_and_key out k new))) ≡ (k ∷ (key ++ bytes)) ++ drop (33 + length bytes) out
-  written_key_and_bytes copied bytes m h q all f =
-      ap₂ (λ (x l : List ℕ). take 33 l ++ (x ++ drop m (drop 33 l))) f written_key ∙ written_part (k ∷ key) bytes out 33 m (omega arith)
-      ∙ ap (λ (n : ℕ). (k ∷ (key ++ bytes)) ++ drop (33 + n) out) q
+pub zero : (n : ℕ) → not (eqb n 0) ≡ false → n ≡ 0
+zero n e = grind (arith, nat_tests)
 
--- a first byte, and then bytes copied behind
-pub written_byte_and_bytes : (out copied bytes : List ℕ) (k m : ℕ) → m ≡ length bytes → 1 + length bytes ≤ length out → copied ≡ bytes
-    → take 1 (set out 0 k) ++ (copied ++ drop m (drop 1 (set out 0 k))) ≡ (k ∷ bytes) ++ drop (1 + length bytes) out
-written_byte_and_bytes out copied bytes k m q all f =
-    ap₂ (λ (x l : List ℕ). take 1 l ++ (x ++ drop m (drop 1 l))) f (written_first out k (omega arith)) ∙ written_part (k ∷ []) bytes out 1 m refl
-    ∙ ap (λ (n : ℕ). (k ∷ bytes) ++ drop (1 + n) out) q
+pub other : (n : ℕ) → not (eqb n 0) ≡ true → n ≡ 0 → ⊥
+other n e z = grind (arith, nat_tests)
+
+pub be_bytes : (n : ℕ) → to_be_bytes w64 n ≡ bytes_of 8 n
+unfolding bytes_of
+be_bytes n = simp div-div-eq-div-mul
+
+-- ---- pieces of a packet, put one after the other into an output: a byte, and two runs of bytes
+
+pub written_pieces : (out head rest : List ℕ) (k m n : ℕ) → 0 < length out → m ≡ length head → n ≡ length rest
+    → take (1 + length head) (take 1 (set out 0 k) ++ (head ++ drop m (drop 1 (set out 0 k)))) ++ (rest ++ drop n (drop (1 + length head) (take 1 (set out 0 k) ++ (head ++ drop m (drop 1 (set out 0 k))))))
+    ≡ (k ∷ (head ++ rest)) ++ drop (1 + length head + length rest) out
+written_pieces out head rest k m n room e f =
+    let first : take 1 (set out 0 k) ++ (head ++ drop m (drop 1 (set out 0 k))) ≡ (k ∷ head) ++ drop (1 + m) out =
+    ap (λ (l : List ℕ). take 1 l ++ (head ++ drop m (drop 1 l))) (written_first out k room) ∙ written_part (k ∷ []) head out 1 m refl in
+    let second : take 1 (set out 0 k) ++ (head ++ drop m (drop 1 (set out 0 k))) ≡ (k ∷ head) ++ drop (1 + length head) out =
+    first ∙ ap (λ (j : ℕ). (k ∷ head) ++ drop (1 + j) out) e in
+    ap (λ (l : List ℕ). take (1 + length head) l ++ (rest ++ drop n (drop (1 + length head) l))) second
+    ∙ written_part (k ∷ head) rest out (1 + length head) n (omega arith)
+    ∙ ap (λ (j : ℕ). (k ∷ (head ++ rest)) ++ drop (1 + length head + j) out) f

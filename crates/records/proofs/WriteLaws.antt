@@ -6,7 +6,7 @@ use Prim.Native.Nat.{ℕ, ◌+◌, ◌-◌, ◌≤◌, ◌<◌}
 use native.Mathlib.Omega.{arith}
 use borrow.Author.Tests.{leb-true, leb-false, le-leb, lt-leb}
 use lib.Dec.{leb}
-use lib.ListN.{length, take, drop, length-drop, take-append-drop, drop_of_length-le}
+use lib.ListN.{length, take, drop, set, length-drop, take-append-drop, drop_of_length-le}
 use lib.Seq.{take_all}
 use Rattle.wire.specs.Numbers.{bytes_of}
 use Rattle.wire.proofs.Numbers.{length_bytes_of}
@@ -17,15 +17,27 @@ use Rattle.packet_laws.specs.Read.{Read, packet, refused}
 use Rattle.packet_laws.specs.FromRelay.{FromRelay, routing_response, connect_notice, disconnect_notice, ping, pong, oob_received, routed_data, relay_bytes}
 use Rattle.packet_write.specs.Written.{Writes, RelayWrites, written_answer, written_output}
 use Rattle.packet_laws.specs.Judged.{relay_judged}
-use Rattle.packet_write.specs.declared.Written.{Written}
-use Rattle.packet_write.specs.declared.Written.TheVariants.{Bytes, Refused}
+use Rattle.std.specs.Prelude.{Result, Ok, Err, min}
+use Rattle.std.proofs.lemmas.Bool.Decides.{nat_tests}
 use Rattle.rules.specs.Call.{Sent}
 use Rattle.rules.specs.Outcome.{to, record_bytes}
 use Rattle.rules.proofs.SentLaws.{count_record, count_one}
-use Rattle.records.specs.Output.{appended, Appends, fitting, fitting_record, WritesRecord, behind_head, next_after, headed}
-use Rattle.records.proofs.AppendLaws.{appended_before, part_back, sent_one, appends_none}
+use Rattle.records.specs.Output.{appended, Appends, fitting, fitting_record, WritesRecord}
+use Rattle.records.proofs.AppendLaws.{head_written, appended_before, part_back, sent_one, appends_none}
 
--- ---- the packet's place
+-- ---- the packet's place: behind the head, or at the end of the output where no head fits, so that the packet does not fit either
+
+unfoldable pub behind_head : ℕ → ℕ → ℕ
+behind_head bytes at = cond (leb (at + 3) bytes) (at + 3) bytes
+
+-- where the next record goes, once the packet's writer has answered, and what the output is then
+unfoldable pub next_after : Result ℕ Refusal → ℕ → ℕ
+next_after (Ok size) at = at + 3 + size
+next_after (Err why) at = at
+
+unfoldable pub headed : Result ℕ Refusal → ℕ → ℕ → List ℕ → List ℕ
+headed (Ok size) seat at out = appended out at (seat ∷ bytes_of 2 size)
+headed (Err why) seat at out = out
 
 module _ (n at : ℕ) where
   pub behind_fits : at + 3 ≤ n → behind_head n at ≡ at + 3
@@ -35,6 +47,11 @@ module _ (n at : ℕ) where
   pub behind_not : n < at + 3 → behind_head n at ≡ n
   unfolding behind_head
   behind_not h = simp (lt-leb (at + 3) n h)
+
+  -- as the code finds it, where no sum overflows
+  pub behind_min : (start : ℕ) → (start ≡ min (at + 3) n) → start ≡ behind_head n at
+  unfolding behind_head
+  behind_min start e = grind (arith, nat_tests)
 
   -- one of the two
   module _ (start : ℕ) (place : start ≡ behind_head n at) where
@@ -63,15 +80,23 @@ module _ (n at : ℕ) where
 
 -- ---- the head
 
-pub head_refused : (answer : Written) (seat at : ℕ) (out : List ℕ) (why : Refusal) → answer ≡ Refused why
+pub head_refused : (answer : Result ℕ Refusal) (seat at : ℕ) (out : List ℕ) (why : Refusal) → answer ≡ Err why
     → (at ≡ next_after answer at) × (out ≡ headed answer seat at out)
 unfolding next_after headed
 head_refused answer seat at out why e = rw e (refl, refl)
 
-pub head_done : (answer : Written) (seat at size : ℕ) (out left : List ℕ) → answer ≡ Bytes size → left ≡ appended out at (seat ∷ bytes_of 2 size)
+pub head_done : (answer : Result ℕ Refusal) (seat at size : ℕ) (out left : List ℕ) → answer ≡ Ok size → left ≡ appended out at (seat ∷ bytes_of 2 size)
     → (at + 3 + size ≡ next_after answer at) × (left ≡ headed answer seat at out)
 unfolding next_after headed
 head_done answer seat at size out left e f = rw e (refl, f)
+
+-- as it is written, between the first `at` bytes and the packet's start
+pub head_put : (answer : Result ℕ Refusal) (seat at start size : ℕ) (out new : List ℕ) → answer ≡ Ok size → start ≡ at + 3 → at + 3 + size ≤ length out
+    → new ≡ bytes_of (length (take (start - (at + 1)) (drop (at + 1) (set out at seat)))) size
+    → (start + size ≡ next_after answer at) × (take (at + 1) (set out at seat) ++ (new ++ drop (start - (at + 1)) (drop (at + 1) (set out at seat))) ≡ headed answer seat at out)
+head_put answer seat at start size out new e s h w =
+    let v : new ≡ bytes_of (length (take (at + 3 - (at + 1)) (drop (at + 1) (set out at seat)))) size = rw s at w in
+    rw s (head_done answer seat at size out _ e (head_written out new at seat size (omega arith) v))
 
 -- ---- what is appended
 
@@ -121,24 +146,24 @@ module _ (s : Sent) (some : 1 ≤ length s.bytes) (at start : ℕ) (out : List �
   lent_long : length lent ≡ length out - start
   lent_long = length_lent out start (length out - start) (let l = behind_le (length out) at start place in omega arith)
 
-  module _ (answer : Written) (new : List ℕ) (next : ℕ) (left : List ℕ) (e : next ≡ next_after answer at)
+  module _ (answer : Result ℕ Refusal) (new : List ℕ) (next : ℕ) (left : List ℕ) (e : next ≡ next_after answer at)
       (f : left ≡ headed answer s.seat at (back new)) where
-    nothing : (why : Refusal) → answer ≡ Refused why → new ≡ lent → Appends [] out at next left
+    nothing : (why : Refusal) → answer ≡ Err why → new ≡ lent → Appends [] out at next left
     unfolding next_after headed
     nothing why a n =
-        let m : next ≡ at = e ∙ ap (λ (w : Written). next_after w at) a in
-        let o : left ≡ out = f ∙ ap₂ (λ (w : Written) (x : List ℕ). headed w s.seat at (back x)) a n ∙ part_unchanged out start (length out - start) in
+        let m : next ≡ at = e ∙ ap (λ (w : Result ℕ Refusal). next_after w at) a in
+        let o : left ≡ out = f ∙ ap₂ (λ (w : Result ℕ Refusal) (x : List ℕ). headed w s.seat at (back x)) a n ∙ part_unchanged out start (length out - start) in
         rw (m, o) (appends_none out at)
 
-    one : length s.bytes ≤ length lent → answer ≡ Bytes (length s.bytes) → new ≡ s.bytes ++ drop (length s.bytes) lent
+    one : length s.bytes ≤ length lent → answer ≡ Ok (length s.bytes) → new ≡ s.bytes ++ drop (length s.bytes) lent
         → Appends (s ∷ []) out at next left
     unfolding next_after headed
     one h a n =
         let r = room_behind (length out) at start place (length s.bytes) some (let l = lent_long in omega arith) in
         let head = s.seat ∷ bytes_of 2 (length s.bytes) in
-        let m : next ≡ at + 3 + length s.bytes = e ∙ ap (λ (w : Written). next_after w at) a in
+        let m : next ≡ at + 3 + length s.bytes = e ∙ ap (λ (w : Result ℕ Refusal). next_after w at) a in
         let o : left ≡ appended (appended out (at + 3) s.bytes) at head =
-        f ∙ ap₂ (λ (w : Written) (x : List ℕ). headed w s.seat at (back x)) a n
+        f ∙ ap₂ (λ (w : Result ℕ Refusal) (x : List ℕ). headed w s.seat at (back x)) a n
         ∙ ap (λ (x : List ℕ). appended x at head) (part_written out s.bytes start ∙ ap (λ (k : ℕ). appended out k s.bytes) r.0) in
         rw (m, o) (one_record s at out (let q = r.1 in omega arith))
 
@@ -149,12 +174,12 @@ module _ (s : Sent) (some : 1 ≤ length s.bytes) (at start : ℕ) (out : List �
         let l = leb-true (length s.bytes) (length lent) t in
         let r = room_behind (length out) at start place (length s.bytes) some (let q = lent_long in omega arith) in
         rw (does_fit p s at out r.1)
-        (one l (w.answers ∙ ap (λ (b : Bool). cond b (Bytes (length s.bytes)) (Refused OutputTooShort)) t)
+        (one l (w.answers ∙ ap (λ (b : Bool). cond b (Ok (length s.bytes)) (Err OutputTooShort)) t)
         (w.leaves ∙ ap (λ (b : Bool). cond b (s.bytes ++ drop (length s.bytes) lent) lent) t))
     taken p false t w =
         let l = leb-false (length s.bytes) (length lent) t in
         rw (does_not_fit p s at out (no_room (length out) at start place (length s.bytes) (let q = lent_long in omega arith)))
-        (nothing OutputTooShort (w.answers ∙ ap (λ (b : Bool). cond b (Bytes (length s.bytes)) (Refused OutputTooShort)) t)
+        (nothing OutputTooShort (w.answers ∙ ap (λ (b : Bool). cond b (Ok (length s.bytes)) (Err OutputTooShort)) t)
         (w.leaves ∙ ap (λ (b : Bool). cond b (s.bytes ++ drop (length s.bytes) lent) lent) t))
 
     finished : {A : Type 0} (judged : Read A) → Writes judged s.bytes lent answer new → Appends (fitting judged s at out) out at next left
@@ -163,6 +188,16 @@ module _ (s : Sent) (some : 1 ≤ length s.bytes) (at start : ℕ) (out : List �
     finished (packet p) w = taken p (leb (length s.bytes) (length lent)) refl w
 
 -- ---- of one packet of the relay's
+
+-- bytes that were written are all that were to be, and fit
+written_fits : {A : Type 0} (judged : Read A) (bytes out left : List ℕ) (size : ℕ) → Writes judged bytes out (Ok size) left → (length bytes ≡ size) × (size ≤ length out)
+unfolding written_answer
+written_fits (refused why) bytes out left size w = let f : Ok size ≡ Err why = w.answers in cc
+written_fits (packet p) bytes out left size w = go (leb (length bytes) (length out)) refl w.answers
+  where
+    go : (b : Bool) → leb (length bytes) (length out) ≡ b → Ok size ≡ cond b (Ok (length bytes)) (Err OutputTooShort) → (length bytes ≡ size) × (size ≤ length out)
+    go true t e = let q : size ≡ length bytes = cc in let l = leb-true (length bytes) (length out) t in (omega arith, omega arith)
+    go false t e = cc
 
 -- every packet has a byte
 some_byte : (p : FromRelay) → 1 ≤ length (relay_bytes p)
@@ -175,37 +210,16 @@ some_byte (pong n) = omega arith
 some_byte (oob_received key bytes) = omega arith
 some_byte (routed_data number bytes) = omega arith
 
-module _ (p : FromRelay) (seat at start : ℕ) (out new : List ℕ) (answer : Written) (place : start ≡ behind_head (length out) at)
+module _ (p : FromRelay) (seat at start : ℕ) (out new : List ℕ) (answer : Result ℕ Refusal) (place : start ≡ behind_head (length out) at)
     (w : RelayWrites p (take (length out - start) (drop start out)) new answer) where
-  -- the head has room behind the first `at` bytes where a packet was written
-  head_room : {A : Type 0} (judged : Read A) (b : Bool) → leb (length (relay_bytes p)) (length (take (length out - start) (drop start out))) ≡ b
-      → answer ≡ written_answer judged (relay_bytes p) (take (length out - start) (drop start out))
-      → (size : ℕ) → answer ≡ Bytes size → at + 3 + size ≤ length out
-  unfolding written_answer
-  head_room (refused why) b t a size e = absurd (other (sym a ∙ e))
-    where
-      other : Refused why ≡ Bytes size → ⊥
-      other z = let y : ◌≡◌ {A = ℕ} 0 1 = cc z in omega arith
-  head_room (packet q) true t a size e =
-      let l = leb-true (length (relay_bytes p)) (length (take (length out - start) (drop start out))) t in
-      let k = length_lent out start (length out - start) (let q = behind_le (length out) at start place in omega arith) in
-      let r = room_behind (length out) at start place (length (relay_bytes p)) (some_byte p) (omega arith) in
-      let z : length (relay_bytes p) ≡ size = same (sym (a ∙ ap (λ (b : Bool). cond b (Bytes (length (relay_bytes p))) (Refused OutputTooShort)) t) ∙ e) in
-      let m = r.1 in
-      omega arith
-    where
-      same : Bytes (length (relay_bytes p)) ≡ Bytes size → length (relay_bytes p) ≡ size
-      same z = cc
-  head_room (packet q) false t a size e = absurd (other (sym (a ∙ ap (λ (b : Bool). cond b (Bytes (length (relay_bytes p))) (Refused OutputTooShort)) t) ∙ e))
-    where
-      other : Refused OutputTooShort ≡ Bytes size → ⊥
-      other z = let y : ◌≡◌ {A = ℕ} 0 1 = cc z in omega arith
-
-  -- in the output as it is then, which is as long
-  pub head_asked : (n : ℕ) → n ≡ length out → (size : ℕ) → answer ≡ Bytes size → at + 3 + size ≤ n
-  head_asked n l size e =
-      let h = head_room (relay_judged p) (leb (length (relay_bytes p)) (length (take (length out - start) (drop start out)))) refl w.writes.answers size e in
-      omega arith
+  -- where the packet was written, it has a byte and fits where it was put, so that the head has room behind the first `at` bytes
+  pub head_room : (size : ℕ) → answer ≡ Ok size → (start ≡ at + 3) × (at + 3 + size ≤ length out)
+  head_room size e =
+      let lent = take (length out - start) (drop start out) in
+      let l : length lent ≡ length out - start = length_lent out start (length out - start) (let q = behind_le (length out) at start place in omega arith) in
+      let f = written_fits (relay_judged p) (relay_bytes p) lent new size (rw e at w.writes) in
+      let s = some_byte p in
+      room_behind (length out) at start place size (omega arith) (omega arith)
 
   pub record_written : (next : ℕ) (left : List ℕ)
       → (next ≡ next_after answer at) × (left ≡ headed answer seat at (take start out ++ (new ++ drop (length out - start) (drop start out))))

@@ -1,15 +1,15 @@
 -- What a run of stored calls writes for a call before its records, by the call's answer.
-use Rattle.std.specs.Prelude.{cond, List, ◌∷◌, ◌++◌, ◌≡◌, ℕ, ◌+◌, leb, length, drop}
+use Rattle.std.specs.Prelude.{cond, List, ◌∷◌, ◌++◌, ◌≡◌, ℕ, ◌+◌, leb, length, drop, Result, Ok, Err}
 use Rattle.refusal.specs.Numbers.{refusal_number}
 use Rattle.wire.specs.Numbers.{bytes_of}
 use Rattle.rules.specs.Call as rules
-use Rattle.records.specs.declared.Answer.{Answer}
-use Rattle.records.specs.declared.Answer.TheVariants as answer
+use Rattle.refusal.specs.declared.Refusal.{Refusal}
+use Rattle.records.specs.declared.Accepted.{Accepted}
 
 -- an answer of the code, as the rules have it
-unfoldable pub answer_of : Answer → rules.Answer
-answer_of (answer.Accepted seat bytes) = rules.accepted seat.0 bytes
-answer_of (answer.Refused why) = rules.refused why
+unfoldable pub answer_of : Result Accepted Refusal → rules.Answer
+answer_of (Ok accepted) = rules.accepted accepted.seat.0 accepted.bytes
+answer_of (Err why) = rules.refused why
 
 -- "An accepted call answers how many bytes it wrote", "A refusal answers its number with 0 bytes written"
 unfoldable pub written : rules.Answer → ℕ

@@ -1,13 +1,14 @@
 -- Records in the lent output. Document 01, "The room": "What is sent is a run of records in the lent output: seat (1 byte), length (2), the packet.
 -- An accepted call answers how many bytes it wrote; bytes after these keep their old contents." The bytes of records are those of `record_bytes` and
 -- `sent_bytes` of `rules`.
-use Rattle.std.specs.Prelude.{cond, List, [], ◌∷◌, ◌++◌, ◌≡◌, ℕ, ◌+◌, ◌≤◌, leb, length, take, drop}
-use Rattle.wire.specs.Numbers.{bytes_of}
+use Rattle.std.specs.Prelude.{cond, List, [], ◌∷◌, ◌++◌, ◌≡◌, ℕ, ◌+◌, ◌≤◌, leb, length, take, drop, Result}
 use Rattle.packet_laws.specs.Read.{Read, packet, refused}
 use Rattle.packet_laws.specs.FromRelay.{FromRelay, FitsRelay}
 use Rattle.packet_laws.specs.Judged.{relay_judged}
-use Rattle.packet_write.specs.declared.Written.{Written}
-use Rattle.packet_write.specs.declared.Written.TheVariants.{Bytes, Refused}
+use Rattle.std.specs.Borrow.{MutBor}
+use Rattle.std.specs.Fn.{Once, FnOnceReturnsAtMut}
+use Rattle.packet_write.specs.Written.{RelayWrites}
+use Rattle.refusal.specs.declared.Refusal.{Refusal}
 use Rattle.rules.specs.Call.{Sent}
 use Rattle.rules.specs.Outcome.{to, record_bytes, sent_bytes}
 
@@ -39,17 +40,8 @@ pub data Answers : ℕ → Type 0 where
   none : Answers 0
   given : (number : ℕ) → 16 ≤ number → Answers number
 
--- ---- for the private functions: the packet's place, and the head once the packet's writer has answered
+-- ---- for the private function that each writer calls
 
-unfoldable pub behind_head : ℕ → ℕ → ℕ
-behind_head bytes at = cond (leb (at + 3) bytes) (at + 3) bytes
-
--- where the next record goes
-unfoldable pub next_after : Written → ℕ → ℕ
-next_after (Bytes size) at = at + 3 + size
-next_after (Refused why) at = at
-
--- what the output is then
-unfoldable pub headed : Written → ℕ → ℕ → List ℕ → List ℕ
-headed (Bytes size) seat at out = appended out at (seat ∷ bytes_of 2 size)
-headed (Refused why) seat at out = out
+-- a function that writes a packet into what it is lent, as the relay's writer of that packet does
+pub record WritesPacket {F : Type 0} (g : Once F (MutBor (List ℕ) × Unit {0}) (Result ℕ Refusal × (MutBor (List ℕ) × Unit {0}))) (write : F) (p : FromRelay) : Type 0 where
+  pub writes : (lent left : List ℕ) (answer : Result ℕ Refusal) → FnOnceReturnsAtMut g write lent answer left → RelayWrites p lent left answer

@@ -3,7 +3,7 @@ ghost use Rattle.std.specs.Prelude.{◌∷◌};
 ghost use Rattle.wire.specs.Numbers.{bytes_of};
 ghost use Rattle.records.specs.Entry.{answer_of, WritesHead, WritesEntry};
 
-use crate::Answer;
+use crate::{Accepted, Answer};
 use seat::Seat;
 
 pub const HEAD: usize = 4;
@@ -12,10 +12,7 @@ pub const HEAD: usize = 4;
 fn head(out: &mut [u8], refusal: u8, seat: Seat, size: usize) -> usize
     ensures { WritesHead (refusal ∷ seat.0 ∷ bytes_of 2 size) size out.old result out.new }
 {
-    if out.len() < HEAD {
-        return 0;
-    }
-    if out.len() - HEAD < size {
+    if out.len() < HEAD || out.len() - HEAD < size {
         return 0;
     }
     out[0] = refusal;
@@ -25,11 +22,13 @@ fn head(out: &mut [u8], refusal: u8, seat: Seat, size: usize) -> usize
 }
 
 // The head for an answer. Answers how many bytes it and the records behind it are; where these do not fit, nothing changes and the answer is 0.
+// It is a count in each case, which a run of calls adds up, and so no `Option`.
+#[tactic(auto, unfolding(crate::specs::Entry::answer_of, crate::specs::Entry::entry_head, crate::specs::Entry::written))]
 pub fn write(answer: Answer, out: &mut [u8]) -> usize
     ensures { WritesEntry (answer_of answer) out.old result out.new }
 {
     match answer {
-        Answer::Accepted(seat, bytes) => head(out, 0, seat, bytes),
-        Answer::Refused(why) => head(out, why.number(), Seat(0), 0),
+        Ok(Accepted { seat, bytes }) => head(out, 0, seat, bytes),
+        Err(why) => head(out, why.number(), Seat(0), 0),
     }
 }

@@ -1,5 +1,5 @@
 -- What out-of-band sends and data leave, case by case.
-use mathlib.Core.Path.{◌≡◌, subst}
+use mathlib.Core.Path.{◌≡◌}
 use mathlib.Core.List.{List, [], ◌∷◌}
 use Prim.Native.Nat.{ℕ, ◌-◌, ◌≤◌}
 use native.Mathlib.Omega.{arith}
@@ -9,13 +9,8 @@ use Rattle.packet_laws.specs.FromRelay as relay
 use Rattle.rules.specs.Room.{Key, free, wants, Room, none, at, find, seat_of, route_at, Peer, alone, joined, first_number, number_of_place, Held}
 use Rattle.rules.specs.Call.{Answer, accepted, refused}
 use Rattle.rules.specs.Outcome.{act, oob_to, data_at, carry_to, peer, to}
-use Rattle.packet.specs.declared.ConnectionNumber as numbers
-use Rattle.seat.specs.declared.Seat as seats
-use Rattle.room.specs.declared.peer.Peer as code
-use Rattle.relay.specs.Steps.{Carries}
 use Rattle.records.specs.Output.{Appends}
 use Rattle.relay_laws.specs.Calls.{Leaves}
-use Rattle.room.specs.Numbers.{peer_of, PeerRight}
 use Rattle.relay_laws.proofs.OutcomeLeaves.{leaves_refused, leaves_none, leaves_sent}
 
 module _ (s n : ℕ) (room : Room) (seat : ℕ) (held : Held) (b out : List ℕ) where
@@ -49,14 +44,3 @@ module _ (s n : ℕ) (b out : List ℕ) (seat : ℕ) (bytes : List ℕ) where
   carry_joined other number h r left w =
       let e : number_of_place (number - first_number) ≡ number = omega arith in
       rw e (leaves_sent s n b out seat (to other (relay.routed_data number bytes) ∷ []) r left w)
-
--- by the peer that the code found
-module _ (p : code.Peer) (out : List ℕ) (seat : ℕ) (bytes : List ℕ) where
-  pub carried_alone : p ≡ code.TheVariants.Alone → Carries (carry_to (peer_of p) seat bytes) out (refused NotConnected) out
-  unfolding peer_of
-  carried_alone e s n b = rw e (carry_alone s n b out seat bytes)
-
-  pub carried_joined : (other : seats.Seat) (number : numbers.ConnectionNumber) → p ≡ code.TheVariants.Joined other number → PeerRight p → (r : ℕ) (left : List ℕ) →
-      Appends (to other.0 (relay.routed_data number.0 bytes) ∷ []) out 0 r left → Carries (carry_to (peer_of p) seat bytes) out (accepted seat r) left
-  unfolding peer_of PeerRight
-  carried_joined other number e h r left w s n b = rw e (carry_joined s n b out seat bytes other.0 number.0 (subst PeerRight e h) r left w)

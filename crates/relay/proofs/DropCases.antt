@@ -17,7 +17,8 @@ use Rattle.room_laws.specs.Layout.{routes_table}
 use Rattle.room_laws.specs.View.{view_room, view_routes, seat_held}
 use Rattle.room_laws.specs.Whole.{room_whole}
 use Rattle.room_laws.specs.Store.{store, store_all}
-use Rattle.room.specs.declared.lookup.Wanted.{Wanted}
+use Rattle.std.proofs.Common.{Option, Some, None}
+use Rattle.key.specs.declared.Key as keys
 use Rattle.room.specs.Numbers.{route_numbered, wanted_of, freed_number}
 use Rattle.records.specs.Output.{Appends}
 use Rattle.relay_laws.specs.Calls.{Leaves}
@@ -58,27 +59,27 @@ module _ (s n : ℕ) (room : Room) (b out : List ℕ) (i : ℕ) (held : Held) (n
 -- ---- on bytes
 
 module _ (s n : ℕ) (b : List ℕ) (whole : room_whole s n b ≡ true) (i : ℕ) (key : Key) (sits : Sits s n b i key) (number : ℕ)
-    (w : Wanted) (answer : w ≡ wanted_of (route_numbered s n b i number)) where
-  pub drop_none : w.held ≡ false → (out : List ℕ)
+    (w : Option keys.Key) (answer : w ≡ wanted_of (route_numbered s n b i number)) where
+  pub drop_none : w ≡ None → (out : List ℕ)
       → Leaves s n (act (drop_route number) (view_room s n b) i (seat_held s n b i key)) b out (refused NoSuchRoute) b out
   drop_none h out =
       drops_none s n (view_room s n b) b out i (seat_held s n b i key) number
-      (sym (sits_numbered s n b whole i key sits number) ∙ wanted_free (route_numbered s n b i number) w answer h)
+      (sym (sits_numbered s n b whole i key sits number) ∙ wanted_free (route_numbered s n b i number) (sym answer ∙ h))
 
-  names : w.held ≡ true → route_at (view_routes n (routes_table s n b i)) number ≡ wants w.key.0
-  names h = sym (sits_numbered s n b whole i key sits number) ∙ wanted_wants (route_numbered s n b i number) w answer h
+  names : (k : keys.Key) → w ≡ Some k → route_at (view_routes n (routes_table s n b i)) number ≡ wants k.0
+  names k h = sym (sits_numbered s n b whole i key sits number) ∙ wanted_wants (route_numbered s n b i number) k (sym answer ∙ h)
 
-  pub drop_high : w.held ≡ true → 16 ≤ number
-  drop_high h = high_number (view_routes n (routes_table s n b i)) number w.key.0 (names h)
+  pub drop_high : (k : keys.Key) → w ≡ Some k → 16 ≤ number
+  drop_high k h = high_number (view_routes n (routes_table s n b i)) number k.0 (names k h)
 
-  pub drop_route_lem : w.held ≡ true → (out : List ℕ) (bytes : ℕ) (b' out' : List ℕ)
+  pub drop_route_lem : (k : keys.Key) → w ≡ Some k → (out : List ℕ) (bytes : ℕ) (b' out' : List ℕ)
       → Appends (tell_peer (view_room s n b) i key (get_or (view_routes n (routes_table s n b i)) (number - 16) free)) out 0 bytes out'
       → b' ≡ freed_number s n b i number
       → Leaves s n (act (drop_route number) (view_room s n b) i (seat_held s n b i key)) b out (accepted i bytes) b' out'
-  drop_route_lem h out bytes b' out' a f =
+  drop_route_lem k h out bytes b' out' a f =
       let routes : List Route = view_routes n (routes_table s n b i) in
-      let at : get_or routes (number - 16) free ≡ wants w.key.0 = sym (route_of_number routes number (drop_high h)) ∙ names h in
-      let told = tells_peer (view_room s n b) i key (get_or routes (number - 16) free) w.key.0 at in
-      drops s n (view_room s n b) b out i (seat_held s n b i key) number w.key.0 (names h) bytes b' out'
-      (appends_as (to_peer disconnect_notice (peer (view_room s n b) i key w.key.0)) (tell_peer (view_room s n b) i key (get_or routes (number - 16) free)) out 0 bytes out' (sym told) a)
-      (f ∙ freed s n b i number (drop_high h))
+      let at : get_or routes (number - 16) free ≡ wants k.0 = sym (route_of_number routes number (drop_high k h)) ∙ names k h in
+      let told = tells_peer (view_room s n b) i key (get_or routes (number - 16) free) k.0 at in
+      drops s n (view_room s n b) b out i (seat_held s n b i key) number k.0 (names k h) bytes b' out'
+      (appends_as (to_peer disconnect_notice (peer (view_room s n b) i key k.0)) (tell_peer (view_room s n b) i key (get_or routes (number - 16) free)) out 0 bytes out' (sym told) a)
+      (f ∙ freed s n b i number (drop_high k h))

@@ -10,7 +10,8 @@ use lib.Seq.{take-suc, take_all}
 use borrow.Author.Tests.{lt-ltb}
 use Rattle.refusal.specs.declared.Refusal.TheVariants.{NotSeated}
 use Rattle.packet_laws.specs.FromRelay.{disconnect_notice}
-use Rattle.packet.specs.declared.ConnectionNumber.{ConnectionNumber}
+use Rattle.std.proofs.Common.{Option, Some, None}
+use Rattle.key.specs.declared.Key as keys
 use Rattle.table_laws.specs.Table.{key_of_place}
 use Rattle.table_laws.proofs.KeyOrder.{both}
 use Rattle.table_laws.proofs.TableLaws.{key_record}
@@ -19,8 +20,6 @@ use Rattle.rules.specs.Call.{Sent, leave, accepted, refused}
 use Rattle.rules.specs.Outcome.{peer, to, to_peer, tell_peer, tell_peers, sent_bytes, outcome, leave_from, accept, refuse, seat_emptied}
 use Rattle.rules.proofs.SentLaws.{count_append}
 use Rattle.rules.proofs.WithinOutput.{tell_within, leave_within}
-use Rattle.seat.specs.declared.Seat as seats
-use Rattle.room.specs.declared.lookup.Wanted.{Wanted}
 use Rattle.room_laws.specs.Layout.{key_bytes, seat_bytes, seat_table, seat_start, routes_table}
 use Rattle.room_laws.specs.View.{view_room, view_routes, seat_held}
 use Rattle.room_laws.specs.Whole.{room_whole}
@@ -53,50 +52,50 @@ module _ (room : Room) (seat : ℕ) (key : Key) (route : Route) where
     unfolding tell_peer
     tells_peer = rw names
 
-    tells_alone : (r : code.Peer) → r ≡ peer_found (peer room seat key wanted) → r ≡ code.TheVariants.Alone → tell_peer room seat key route ≡ []
+    tells_alone : (r : Option code.Peer) → r ≡ peer_found (peer room seat key wanted) → r ≡ None → tell_peer room seat key route ≡ []
     unfolding to_peer
     tells_alone r f e = tells_peer ∙ ap (to_peer disconnect_notice) (found_alone (peer room seat key wanted) r f e)
 
-    tells_joined : (r : code.Peer) → r ≡ peer_found (peer room seat key wanted) → (other : seats.Seat) (theirs : ConnectionNumber) → r ≡ code.TheVariants.Joined other theirs
-        → tell_peer room seat key route ≡ to other.0 (disconnect_notice theirs.0) ∷ []
+    tells_joined : (r : Option code.Peer) → r ≡ peer_found (peer room seat key wanted) → (other : code.Peer) → r ≡ Some other
+        → tell_peer room seat key route ≡ to other.seat.0 (disconnect_notice other.number.0) ∷ []
     unfolding to_peer
-    tells_joined r f other theirs e =
-        let j = found_joined (peer room seat key wanted) r f other theirs e in
-        let n : number_of_place (theirs.0 - first_number) ≡ theirs.0 = let l = j.1 in omega arith in
-        tells_peer ∙ ap (to_peer disconnect_notice) j.0 ∙ ap (λ (x : ℕ). to other.0 (disconnect_notice x) ∷ []) n
+    tells_joined r f other e =
+        let j = found_joined (peer room seat key wanted) r f other e in
+        let n : number_of_place (other.number.0 - first_number) ≡ other.number.0 = let l = j.1 in omega arith in
+        tells_peer ∙ ap (to_peer disconnect_notice) j.0 ∙ ap (λ (x : ℕ). to other.seat.0 (disconnect_notice x) ∷ []) n
 
 pub appends_as : (l m : List Sent) (out : List ℕ) (at next : ℕ) (left : List ℕ) → l ≡ m → Appends m out at next left → Appends l out at next left
 appends_as l m out at next left e a = subst (λ (x : List Sent). Appends x out at next left) (sym e) a
 
 -- one number: it names nothing, a key whose client is not connected, or that of a connected peer
 module _ (s n : ℕ) (b : List ℕ) (whole : room_whole s n b ≡ true) (i : ℕ) (key : Key) (sits : Sits s n b i key) (number : ℕ) (high : 16 ≤ number)
-    (w : Wanted) (answer : w ≡ wanted_of (route_numbered s n b i number)) (out : List ℕ) (at : ℕ) where
+    (w : Option keys.Key) (answer : w ≡ wanted_of (route_numbered s n b i number)) (out : List ℕ) (at : ℕ) where
   abbrev told : Route
   told = get_or (view_routes n (routes_table s n b i)) (number - 16) free
 
   numbered : route_numbered s n b i number ≡ told
   numbered = sits_numbered s n b whole i key sits number ∙ route_of_number (view_routes n (routes_table s n b i)) number high
 
-  names : w.held ≡ true → told ≡ wants w.key.0
-  names h = sym numbered ∙ wanted_wants (route_numbered s n b i number) w answer h
+  names : (k : keys.Key) → w ≡ Some k → told ≡ wants k.0
+  names k h = sym numbered ∙ wanted_wants (route_numbered s n b i number) k (sym answer ∙ h)
 
-  pub tell_none : w.held ≡ false
+  pub tell_none : w ≡ None
       → Appends (tell_peer (view_room s n b) i key (get_or (view_routes n (routes_table s n b i)) (number - 16) free)) out at at out
   tell_none h =
-      appends_as _ [] out at at out (tells_free (view_room s n b) i key told (sym numbered ∙ wanted_free (route_numbered s n b i number) w answer h))
+      appends_as _ [] out at at out (tells_free (view_room s n b) i key told (sym numbered ∙ wanted_free (route_numbered s n b i number) (sym answer ∙ h)))
       (appends_none out at)
 
-  pub tell_alone : w.held ≡ true → (r : code.Peer) → r ≡ peer_found (peer (view_room s n b) i key w.key.0) → r ≡ code.TheVariants.Alone
+  pub tell_alone : (k : keys.Key) → w ≡ Some k → (r : Option code.Peer) → r ≡ peer_found (peer (view_room s n b) i key k.0) → r ≡ None
       → Appends (tell_peer (view_room s n b) i key (get_or (view_routes n (routes_table s n b i)) (number - 16) free)) out at at out
-  tell_alone h r f e = appends_as _ [] out at at out (tells_alone (view_room s n b) i key told w.key.0 (names h) r f e) (appends_none out at)
+  tell_alone k h r f e = appends_as _ [] out at at out (tells_alone (view_room s n b) i key told k.0 (names k h) r f e) (appends_none out at)
 
-  pub tell_joined : w.held ≡ true → (r : code.Peer) → r ≡ peer_found (peer (view_room s n b) i key w.key.0)
-      → (other : seats.Seat) (theirs : ConnectionNumber) → r ≡ code.TheVariants.Joined other theirs
-      → (next : ℕ) (left : List ℕ) → Appends (to other.0 (disconnect_notice theirs.0) ∷ []) out at next left
+  pub tell_joined : (k : keys.Key) → w ≡ Some k → (r : Option code.Peer) → r ≡ peer_found (peer (view_room s n b) i key k.0)
+      → (other : code.Peer) → r ≡ Some other
+      → (next : ℕ) (left : List ℕ) → Appends (to other.seat.0 (disconnect_notice other.number.0) ∷ []) out at next left
       → Appends (tell_peer (view_room s n b) i key (get_or (view_routes n (routes_table s n b i)) (number - 16) free)) out at next left
-  tell_joined h r f other theirs e next left a =
-      appends_as _ (to other.0 (disconnect_notice theirs.0) ∷ []) out at next left
-      (tells_joined (view_room s n b) i key told w.key.0 (names h) r f other theirs e) a
+  tell_joined k h r f other e next left a =
+      appends_as _ (to other.seat.0 (disconnect_notice other.number.0) ∷ []) out at next left
+      (tells_joined (view_room s n b) i key told k.0 (names k h) r f other e) a
 
 -- ---- every peer told
 

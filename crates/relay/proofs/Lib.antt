@@ -1,4 +1,5 @@
 -- The laws that the functions rest on.
+pub mod ReadyCases
 pub mod ArriveCases
 pub mod SeatedClient
 pub mod CarryCases

@@ -4,6 +4,7 @@ use mathlib.Core.Bool.{Bool, true, false, not}
 use mathlib.Core.List.{List}
 use Prim.Native.Nat.{ℕ}
 use lib.ListN.{drop}
+use Rattle.std.proofs.Common.{Err}
 use Rattle.key.specs.Keys.{key_of}
 use Rattle.refusal.specs.declared.Refusal.{Refusal}
 use Rattle.refusal.specs.declared.Refusal.TheVariants.{NotSeated}
@@ -11,7 +12,6 @@ use Rattle.packet.specs.declared.ConnectionNumber.{ConnectionNumber}
 use Rattle.packet.specs.declared.Part.{Part}
 use Rattle.packet.specs.declared.relay.ClientPacket.{ClientPacket}
 use Rattle.packet.specs.declared.relay.ClientPacket.TheVariants as shown
-use Rattle.packet.specs.declared.relay.RelayRead.TheVariants as answer
 use Rattle.packet_laws.specs.Read.{Read, packet, refused}
 use Rattle.packet_laws.specs.FromClient.{FromClient, routing_request, oob_send, routed_data, relay_read, key_from_client}
 use Rattle.packet.specs.RelayReads.{shown_relay_read, client_packet_of, client_part}
@@ -54,11 +54,11 @@ module _ (bytes : List ℕ) (p : ClientPacket) (shows : Shows bytes p) where
   unfolding client_packet_of
   shows_data number part payload e f = shows_as (shown.Data number part) e ∙ ap (λ (z : List ℕ). packet (routed_data number.0 z)) (sym f)
 
-pub shows_refused : (read : Read FromClient) (why : Refusal) → answer.Refused why ≡ shown_relay_read read → read ≡ refused why
+pub shows_refused : (read : Read FromClient) (why : Refusal) → Err why ≡ shown_relay_read read → read ≡ refused why
 unfolding shown_relay_read
 shows_refused read why e = go read e
   where
-    go : (r : Read FromClient) → answer.Refused why ≡ shown_relay_read r → r ≡ refused why
+    go : (r : Read FromClient) → Err why ≡ shown_relay_read r → r ≡ refused why
     go (packet p) e = cc
     go (refused w) e = let q : why ≡ w = cc in ap refused (sym q)
 

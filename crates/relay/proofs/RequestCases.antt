@@ -14,9 +14,7 @@ use Rattle.packet.specs.declared.ConnectionNumber.{ConnectionNumber}
 use Rattle.rules.specs.Room.{first_number, number_of_place, Key, Seat, Found, none, at, find, route_to, is_free, routes_of}
 use Rattle.rules.specs.Call.{Answer, accepted}
 use Rattle.rules.specs.Outcome.{Outcome, act, accept, answer_only, request_at, tell_both, to, peer, route_given}
-use Rattle.seat.specs.declared.Seat as seats
-use Rattle.room.specs.declared.lookup.FoundNumber.{FoundNumber}
-use Rattle.room.specs.declared.lookup.FoundNumber.TheVariants as number
+use Rattle.std.proofs.Common.{Option, Some, None}
 use Rattle.room_laws.specs.Layout.{routes_table}
 use Rattle.room_laws.specs.View.{view_room, view_routes, seat_held}
 use Rattle.room_laws.specs.Whole.{room_whole}
@@ -33,8 +31,6 @@ use Rattle.room.proofs.PeersFound.{found_back}
 use Rattle.records.specs.Output.{Appends}
 use Rattle.records.proofs.AppendLaws.{appends_none, appends_more, appends_one_next, appends_front, appends_front_answer}
 
--- ---- the peer that the code has, read back
-
 -- ---- where the next record goes
 
 pub connected_next : (seat number : ℕ) (out : List ℕ) (from next : ℕ) (left : List ℕ) → Appends (to seat (connect_notice number) ∷ []) out from next left
@@ -49,30 +45,30 @@ response_next seat number key l out from next left p = let e = appends_one_next 
 
 -- ---- both are told, or nobody is
 
-module _ (seat number : ℕ) (q : code.Peer) where
-  told_alone : q ≡ code.TheVariants.Alone → tell_both seat number (peer_of q) ≡ []
+module _ (seat number : ℕ) (q : Option code.Peer) where
+  told_alone : q ≡ None → tell_both seat number (peer_of q) ≡ []
   unfolding tell_both peer_of
   told_alone e = rw e
 
-  told_joined : (other : seats.Seat) (theirs : ConnectionNumber) → q ≡ code.TheVariants.Joined other theirs → 16 ≤ theirs.0
-      → (to seat (connect_notice number) ∷ []) ++ (to other.0 (connect_notice theirs.0) ∷ []) ≡ tell_both seat number (peer_of q)
+  told_joined : (other : code.Peer) → q ≡ Some other → 16 ≤ other.number.0
+      → (to seat (connect_notice number) ∷ []) ++ (to other.seat.0 (connect_notice other.number.0) ∷ []) ≡ tell_both seat number (peer_of q)
   unfolding tell_both peer_of
-  told_joined other theirs e h =
-      let f : theirs.0 ≡ number_of_place (theirs.0 - first_number) = omega arith in
-      ap (λ (x : ℕ). to seat (connect_notice number) ∷ to other.0 (connect_notice x) ∷ []) f
-      ∙ sym (ap (λ (p : code.Peer). tell_both seat number (peer_of p)) e)
+  told_joined other e h =
+      let f : other.number.0 ≡ number_of_place (other.number.0 - first_number) = omega arith in
+      ap (λ (x : ℕ). to seat (connect_notice number) ∷ to other.seat.0 (connect_notice x) ∷ []) f
+      ∙ sym (ap (λ (p : Option code.Peer). tell_both seat number (peer_of p)) e)
 
-  pub tells_nobody : q ≡ code.TheVariants.Alone → (out : List ℕ) (from : ℕ) → Appends (tell_both seat number (peer_of q)) out from from out
+  pub tells_nobody : q ≡ None → (out : List ℕ) (from : ℕ) → Appends (tell_both seat number (peer_of q)) out from from out
   tells_nobody e out from = rw (told_alone e) (appends_none out from)
 
-  pub tells_both : (other : seats.Seat) (theirs : ConnectionNumber) → q ≡ code.TheVariants.Joined other theirs → 16 ≤ theirs.0
+  pub tells_both : (other : code.Peer) → q ≡ Some other → 16 ≤ other.number.0
       → (out : List ℕ) (from mid next : ℕ) (left last : List ℕ) → from ≤ length out
       → Appends (to seat (connect_notice number) ∷ []) out from mid left
-      → Appends (to other.0 (connect_notice theirs.0) ∷ []) left mid next last
+      → Appends (to other.seat.0 (connect_notice other.number.0) ∷ []) left mid next last
       → Appends (tell_both seat number (peer_of q)) out from next last
-  tells_both other theirs e h out from mid next left last room p q' =
-      rw (sym (told_joined other theirs e h))
-      (appends_more (to seat (connect_notice number) ∷ []) (to other.0 (connect_notice theirs.0) ∷ []) out from mid next left last room p q')
+  tells_both other e h out from mid next left last room p q' =
+      rw (sym (told_joined other e h))
+      (appends_more (to seat (connect_notice number) ∷ []) (to other.seat.0 (connect_notice other.number.0) ∷ []) out from mid next left last room p q')
 
 -- ---- a number given
 
@@ -82,7 +78,7 @@ unfolding given_number
 given_number_lem s n b i number key h = rw (le-ltb number 16 h)
 
 pub gives : (s n : ℕ) (b : List ℕ) (seat : ℕ) (key wanted : Key) (number : ℕ) → 16 ≤ number
-    → (q : code.Peer) → q ≡ peer_found (peer (view_room s n b) seat key wanted)
+    → (q : Option code.Peer) → q ≡ peer_found (peer (view_room s n b) seat key wanted)
     → (b' : List ℕ) → b' ≡ given_number s n b seat number wanted
     → (out : List ℕ) (mid next : ℕ) (left last : List ℕ)
     → Appends (to seat (routing_response number wanted) ∷ []) out 0 mid left
@@ -98,7 +94,7 @@ gives s n b seat key wanted number h q e b' f out mid next left last p r = recor
 -- ---- the client who asks: its routes, looked up
 
 -- a number that a lookup answers is one
-pub number_right_lem : (f : Found) (r : FoundNumber) → r ≡ number_found f → (n : ConnectionNumber) → r ≡ number.At n → 16 ≤ n.0
+pub number_right_lem : (f : Found) (r : Option ConnectionNumber) → r ≡ number_found f → (n : ConnectionNumber) → r ≡ Some n → 16 ≤ n.0
 number_right_lem f r looked n e = (number_found_lem f n (sym looked ∙ e)).1
 
 -- an answer alone changes no room
@@ -136,9 +132,9 @@ module _ (s n : ℕ) (b : List ℕ) (i : ℕ) (key wanted : Key) where
     unfolding routes_of
     lowest = lowest_route_finds s n b whole i (sits_taken s n b whole i key sits) ∙ ap (λ (x : Seat). find is_free (routes_of x)) sits
 
-    module _ (out out' : List ℕ) (first : FoundNumber) (looked : first ≡ number_found (route_wanting s n b i wanted)) where
+    module _ (out out' : List ℕ) (first : Option ConnectionNumber) (looked : first ≡ number_found (route_wanting s n b i wanted)) where
       -- an old number
-      pub request_old : (old : ConnectionNumber) → first ≡ number.At old → (answer : Answer) → Carries (answer_only i old.0 wanted) out answer out'
+      pub request_old : (old : ConnectionNumber) → first ≡ Some old → (answer : Answer) → Carries (answer_only i old.0 wanted) out answer out'
           → Leaves s n asked b out answer b out'
       unfolding act request_at
       request_old old e answer p =
@@ -147,19 +143,19 @@ module _ (s n : ℕ) (b : List ℕ) (i : ℕ) (key wanted : Key) where
           let m : number_of_place (old.0 - first_number) ≡ old.0 = let h = f.1 in omega arith in
           rw (other, g, m) (p s n b)
 
-      module _ (new : first ≡ number.None) (second : FoundNumber) (looked' : second ≡ number_found (lowest_route s n b i)) where
+      module _ (new : first ≡ None) (second : Option ConnectionNumber) (looked' : second ≡ number_found (lowest_route s n b i)) where
         unrouted : find (route_to wanted) (view_routes n (routes_table s n b i)) ≡ none
         unrouted = sym wanting ∙ number_not_found (route_wanting s n b i wanted) (sym looked ∙ new)
 
         -- none free
-        pub request_full : second ≡ number.None → (answer : Answer) → Carries (answer_only i 0 wanted) out answer out' → Leaves s n asked b out answer b out'
+        pub request_full : second ≡ None → (answer : Answer) → Carries (answer_only i 0 wanted) out answer out' → Leaves s n asked b out answer b out'
         unfolding act request_at
         request_full e answer p =
             let g : find is_free (view_routes n (routes_table s n b i)) ≡ none = sym lowest ∙ number_not_found (lowest_route s n b i) (sym looked' ∙ e) in
             rw (other, unrouted, g) (p s n b)
 
         -- a number given
-        pub request_given : (bytes : ℕ) (given : ConnectionNumber) → second ≡ number.At given
+        pub request_given : (bytes : ℕ) (given : ConnectionNumber) → second ≡ Some given
             → (b' : List ℕ) → Gives s n b i key wanted given.0 out bytes b' out' → Leaves s n asked b out (accepted i bytes) b' out'
         unfolding act request_at accept store_all
         request_given bytes given e b' p =

@@ -6,6 +6,7 @@ use Prim.Native.Nat.{ℕ, suc, ◌+◌, ◌-◌, ◌≤◌}
 use native.Mathlib.Nat.{zero-add, add-zero}
 use native.Mathlib.Omega.{arith}
 use lib.ListN.{length, get_or, drop, length-append}
+use Rattle.std.proofs.Common.{Ok}
 use Rattle.rules.specs.Room.{Room, sizes_of}
 use Rattle.rules.specs.Call.{Call, FieldsFit}
 use Rattle.rules.specs.Outcome.{outcome, room_after}
@@ -30,9 +31,13 @@ use Rattle.relay_laws.proofs.PartLaws.{store_all_append}
 abbrev pub entries_from : ℕ → ℕ → List ℕ → List Call → List ℕ
 entries_from s n b calls = entries_bytes (transcript (sizes_of s n) (view_room s n b) calls)
 
+-- why a run stopped, with its counts
+abbrev pub told : Stop → ℕ → ℕ → ℕ → code.Run
+told why calls bytes at = record { why = why; played = calls; read = bytes; written = at }
+
 -- a run r from the bytes b, behind `calls` calls that took `bytes` of the stored ones and wrote the first `at` of the output
 pub record Rests (s n calls bytes at : ℕ) (r : Run) (b out : List ℕ) (given : code.Run) (b' out' : List ℕ) : Type 0 where
-  pub answers : given ≡ code.TheVariants.Stopped r.why (calls + length r.calls) (bytes + length (stored_all r.calls)) (at + length (entries_from s n b r.calls))
+  pub answers : given ≡ told r.why (calls + length r.calls) (bytes + length (stored_all r.calls)) (at + length (entries_from s n b r.calls))
   pub stores : b' ≡ store_all s n b (changes_all (sizes_of s n) (view_room s n b) r.calls)
   pub writes : out' ≡ appended out at (entries_from s n b r.calls)
 
@@ -41,21 +46,21 @@ abbrev pub left : ℕ → ℕ → ℕ → List ℕ → List ℕ → List ℕ →
 left s n allowance stored b out at = run (sizes_of s n) allowance (view_room s n b) stored (length out - at)
 
 -- nothing is left to play
-pub rests_stopped : (s n calls bytes at : ℕ) (why : Stop) (b out : List ℕ) → Rests s n calls bytes at (ended why) b out (code.TheVariants.Stopped why calls bytes at) b out
+pub rests_stopped : (s n calls bytes at : ℕ) (why : Stop) (b out : List ℕ) → Rests s n calls bytes at (ended why) b out (told why calls bytes at) b out
 unfolding stored_all entries_bytes transcript changes_all store_all
 rests_stopped s n calls bytes at why b out =
-    let none : code.TheVariants.Stopped why calls bytes at ≡ code.TheVariants.Stopped why (calls + 0) (bytes + 0) (at + 0) =
+    let none : told why calls bytes at ≡ told why (calls + 0) (bytes + 0) (at + 0) =
     rw (add-zero calls, add-zero bytes, add-zero at) refl in
     record { answers = none; stores = refl; writes = sym (appended_none out at) }
 
 -- the whole of a run is what is left at its beginning
 pub rests_all : (s n : ℕ) (r : Run) (b out : List ℕ) (given : code.Run) (b' out' : List ℕ) → Rests s n 0 0 0 r b out given b' out'
-    → LeavesRun s n (played (sizes_of s n) (view_room s n b) r) b out given b' out'
+    → LeavesRun s n (played (sizes_of s n) (view_room s n b) r) b out (Ok given) b' out'
 unfolding played
 rests_all s n r b out given b' out' w =
     let e = entries_from s n b r.calls in
     record {
-      answers = w.answers ∙ rw (zero-add (length r.calls), zero-add (length (stored_all r.calls)), zero-add (length e)) refl;
+      answers = ap Ok w.answers ∙ rw (zero-add (length r.calls), zero-add (length (stored_all r.calls)), zero-add (length e)) refl;
       stores = w.stores;
       writes = w.writes ∙ appended_front out e;
     }
@@ -119,9 +124,9 @@ module _ (s n allowance : ℕ) (stored b out : List ℕ) (calls bytes at : ℕ) 
           record {
             answers =
                 w.answers
-                ∙ ap (λ (x : ℕ). code.TheVariants.Stopped r.why x (bytes + length (stored_bytes c) + length (stored_all r.calls)) (at + length entry + length e)) more
-                ∙ ap (λ (x : ℕ). code.TheVariants.Stopped r.why (calls + suc (length r.calls)) x (at + length entry + length e)) read
-                ∙ ap (λ (x : ℕ). code.TheVariants.Stopped r.why (calls + suc (length r.calls)) (bytes + length (stored_bytes c ++ stored_all r.calls)) x) (wrote ∙ ap (λ (l : List ℕ). at + length l) same);
+                ∙ ap (λ (x : ℕ). told r.why x (bytes + length (stored_bytes c) + length (stored_all r.calls)) (at + length entry + length e)) more
+                ∙ ap (λ (x : ℕ). told r.why (calls + suc (length r.calls)) x (at + length entry + length e)) read
+                ∙ ap (λ (x : ℕ). told r.why (calls + suc (length r.calls)) (bytes + length (stored_bytes c ++ stored_all r.calls)) x) (wrote ∙ ap (λ (l : List ℕ). at + length l) same);
             stores =
                 w.stores
                 ∙ ap (λ (x : Room). store_all s n stepped (changes_all (sizes_of s n) x r.calls)) kept.0

@@ -1,14 +1,15 @@
 -- The client in a seat, by the bytes: the seat is taken, and what its numbers name is what its routes say.
-use mathlib.Core.Path.{◌≡◌, refl, sym, ap, ◌∙◌}
-use mathlib.Core.Bool.{Bool, true, false, not, cond}
+use mathlib.Core.Path.{◌≡◌, refl, ap, ◌∙◌}
+use mathlib.Core.Bool.{true, not, cond}
 use mathlib.Core.List.{List}
 use Prim.Native.Nat.{ℕ, ◌-◌, ◌≤◌}
 use lib.Dec.{ltb}
 use lib.ListN.{get_or}
 use borrow.Author.Tests.{le-ltb}
+use Rattle.std.proofs.Common.{Option, Some, None}
 use Rattle.rules.specs.Room.{Key, Route, free, wants, Seat, is_vacant, routes_of, route_at, first_number}
 use Rattle.rules.specs.Outcome.{peer}
-use Rattle.room.specs.declared.lookup.Wanted.{Wanted}
+use Rattle.key.specs.declared.Key as keys
 use Rattle.room.specs.declared.peer.Peer.{Peer}
 use Rattle.room_laws.specs.Layout.{routes_table}
 use Rattle.room_laws.specs.View.{view_room, view_routes}
@@ -18,15 +19,16 @@ use Rattle.room.specs.Numbers.{route_numbered, wanted_of, peer_found}
 use Rattle.room_laws.proofs.LookupLaws.{taken_is, route_at_place_is, peer_wanting_is}
 use Rattle.relay.specs.Steps.{Sits}
 
-pub wanted_free : (r : Route) (w : Wanted) → w ≡ wanted_of r → w.held ≡ false → r ≡ free
+-- what a lookup answers of a number is what its route says
+pub wanted_free : (r : Route) → wanted_of r ≡ None → r ≡ free
 unfolding wanted_of
-wanted_free free w e h = refl
-wanted_free (wants key) w e h = let z : ◌≡◌ {A = Bool} true false = sym (ap (λ (x : Wanted). x.held) e) ∙ h in cc
+wanted_free free e = refl
+wanted_free (wants key) e = absurd (cc)
 
-pub wanted_wants : (r : Route) (w : Wanted) → w ≡ wanted_of r → w.held ≡ true → r ≡ wants w.key.0
+pub wanted_wants : (r : Route) (k : keys.Key) → wanted_of r ≡ Some k → r ≡ wants k.0
 unfolding wanted_of
-wanted_wants free w e h = let z : ◌≡◌ {A = Bool} false true = sym (ap (λ (x : Wanted). x.held) e) ∙ h in cc
-wanted_wants (wants key) w e h = ap (λ (x : Wanted). wants x.key.0) (sym e)
+wanted_wants free k e = absurd (cc)
+wanted_wants (wants key) k e = let q : record { 0 = key } ≡ k = cc in ap (λ (x : keys.Key). wants x.0) q
 
 module _ (s n : ℕ) (b : List ℕ) (whole : room_whole s n b ≡ true) (i : ℕ) (key : Key) (sits : Sits s n b i key) where
   pub sits_taken : taken s n b i ≡ true
@@ -46,6 +48,6 @@ unfolding route_at
 route_of_number routes number h = rw (le-ltb number first_number h)
 
 -- the peer that the code found by the bytes is the one in the room
-pub peer_is : (s n : ℕ) (b : List ℕ) → room_whole s n b ≡ true → (i : ℕ) (key wanted : Key) (p : Peer) → p ≡ peer_found (peer_wanting s n b i key wanted)
+pub peer_is : (s n : ℕ) (b : List ℕ) → room_whole s n b ≡ true → (i : ℕ) (key wanted : Key) (p : Option Peer) → p ≡ peer_found (peer_wanting s n b i key wanted)
     → p ≡ peer_found (peer (view_room s n b) i key wanted)
 peer_is s n b whole i key wanted p e = e ∙ ap peer_found (peer_wanting_is s n b whole i key wanted)

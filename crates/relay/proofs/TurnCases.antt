@@ -1,13 +1,14 @@
 -- One turn of a run: the stored calls and the output from where the last turn ended, lent and back. A turn that stops ends the run; after one that
 -- played a call the rest is to be played. Assumes nothing.
 use mathlib.Core.Path.{◌≡◌, sym, ap, ap₂, subst, ◌∙◌}
-use mathlib.Core.Bool.{true, false≢true}
+use mathlib.Core.Bool.{true}
 use mathlib.Core.List.{List, ◌++◌}
 use Prim.Native.Nat.{ℕ, ◌+◌, ◌-◌, ◌≤◌}
 use native.Mathlib.Nat.{sub-zero}
 use native.Mathlib.Omega.{arith}
 use lib.ListN.{length, take, drop, take-append-drop}
 use lib.Seq.{drop-drop}
+use Rattle.std.proofs.Common.{Result, Ok, Err}
 use Rattle.rules.specs.Outcome.{outcome}
 use Rattle.rules.specs.Room.{sizes_of}
 use Rattle.room_laws.specs.View.{view_room}
@@ -15,7 +16,7 @@ use Rattle.room_laws.specs.Whole.{room_whole}
 use Rattle.room_laws.specs.Store.{store_all}
 use Rattle.stored.specs.Stored.{stored_bytes}
 use Rattle.stored.proofs.StoredLaws.{first_within}
-use Rattle.relay.specs.declared.play.Next as code
+use Rattle.relay.specs.declared.play.Played.{Played}
 use Rattle.relay.specs.declared.play.Run as answer
 use Rattle.relay.specs.declared.play.Stop.{Stop}
 use Rattle.records.specs.Output.{appended}
@@ -23,7 +24,14 @@ use Rattle.relay.specs.Play.{Next, stops, plays, next, Run, run}
 use Rattle.relay.specs.PlaySteps.{Takes, stopped, played}
 use Rattle.relay.proofs.PlayLaws.{ended, run_stops, next_is}
 use Rattle.relay.proofs.LentParts.{from, from_is, length_from, back, back_is}
-use Rattle.relay.proofs.RunCases.{Rests, left, rests_stopped, stepped_whole, stepped_length, rests_first}
+use Rattle.relay.proofs.RunCases.{told, Rests, left, rests_stopped, stepped_whole, stepped_length, rests_first}
+
+-- a call that was played
+abbrev pub step : ℕ → ℕ → Played
+step read written = record { read = read; written = written }
+
+abbrev pub took : ℕ → ℕ → Result Played Stop
+took read written = Ok (step read written)
 
 back_same : (at : ℕ) (l : List ℕ) → back at l (from at l) ≡ l
 back_same at l = back_is at l (from at l) ∙ ap (λ (x : List ℕ). take at l ++ x) (from_is at l) ∙ take-append-drop at l
@@ -45,18 +53,18 @@ module _ (s n allowance : ℕ) (stored : List ℕ) (calls bytes at : ℕ) (b out
   next_here x e = ap₂ (λ (l : List ℕ) (m : ℕ). next (allowance - calls) l m) (sym (from_is bytes stored)) (sym (length_from at out)) ∙ e
 
   -- a turn that stops
-  pub turn_last : (given : code.Next) (why : Stop) (b₁ new : List ℕ) → Takes s n (allowance - calls) (from bytes stored) b (from at out) given b₁ new
-      → given ≡ code.TheVariants.Stopped why → Rests s n calls bytes at here b out (answer.TheVariants.Stopped why calls bytes at) b₁ (back at out new)
+  pub turn_last : (given : Result Played Stop) (why : Stop) (b₁ new : List ℕ) → Takes s n (allowance - calls) (from bytes stored) b (from at out) given b₁ new
+      → given ≡ Err why → Rests s n calls bytes at here b out (told why calls bytes at) b₁ (back at out new)
   turn_last given why b₁ new (stopped w e g p q) h =
       let same : w ≡ why = cc in
       let r : here ≡ ended why = run_stops (sizes_of s n) (view_room s n b) (drop bytes stored) (length out - at) (allowance - calls) why (next_here (stops why) (e ∙ ap stops same)) in
       let o : back at out new ≡ out = ap (back at out) q ∙ back_same at out in
-      subst (λ (x : Run). Rests s n calls bytes at x b out (answer.TheVariants.Stopped why calls bytes at) b₁ (back at out new)) (sym r)
-      (subst (λ (x : List ℕ). Rests s n calls bytes at (ended why) b out (answer.TheVariants.Stopped why calls bytes at) x (back at out new)) (sym p)
-      (subst (λ (x : List ℕ). Rests s n calls bytes at (ended why) b out (answer.TheVariants.Stopped why calls bytes at) b x) (sym o)
+      subst (λ (x : Run). Rests s n calls bytes at x b out (told why calls bytes at) b₁ (back at out new)) (sym r)
+      (subst (λ (x : List ℕ). Rests s n calls bytes at (ended why) b out (told why calls bytes at) x (back at out new)) (sym p)
+      (subst (λ (x : List ℕ). Rests s n calls bytes at (ended why) b out (told why calls bytes at) b x) (sym o)
       (rests_stopped s n calls bytes at why b out)))
   turn_last given why b₁ new (played c entry is e g p f q) h =
-      let z : code.TheVariants.Played (length (stored_bytes c)) (length entry) ≡ code.TheVariants.Stopped why = sym g ∙ h in absurd (false≢true (cc))
+      absurd (cc)
 
   -- a turn that played a call of `size` bytes and wrote `more`
   pub record More (size more : ℕ) (b₁ new : List ℕ) : Type 0 where
@@ -69,14 +77,15 @@ module _ (s n allowance : ℕ) (stored : List ℕ) (calls bytes at : ℕ) (b out
         → Rests s n (calls + 1) (bytes + size) (at + more) (left s n (allowance - (calls + 1)) (drop (bytes + size) stored) b₁ (back at out new) (at + more)) b₁ (back at out new) given b' out'
         → Rests s n calls bytes at here b out given b' out'
 
-  pub turn_more : (given : code.Next) (size more : ℕ) (b₁ new : List ℕ) → Takes s n (allowance - calls) (from bytes stored) b (from at out) given b₁ new
-      → given ≡ code.TheVariants.Played size more → More size more b₁ new
+  pub turn_more : (given : Result Played Stop) (size more : ℕ) (b₁ new : List ℕ) → Takes s n (allowance - calls) (from bytes stored) b (from at out) given b₁ new
+      → given ≡ Ok (step size more) → More size more b₁ new
   turn_more given size more b₁ new (stopped w e g p q) h =
-      let z : code.TheVariants.Stopped w ≡ code.TheVariants.Played size more = sym g ∙ h in absurd (false≢true (cc))
+      absurd (cc)
   turn_more given size more b₁ new (played c entry is e g p f q) h =
-      let z : code.TheVariants.Played (length (stored_bytes c)) (length entry) ≡ code.TheVariants.Played size more = sym g ∙ h in
-      let takes : length (stored_bytes c) ≡ size = cc in
-      let writes : length entry ≡ more = cc in
+      let answers : ◌≡◌ {A = Result Played Stop} (Ok (step (length (stored_bytes c)) (length entry))) (Ok (step size more)) = sym g ∙ h in
+      let same : ◌≡◌ {A = Played} (step (length (stored_bytes c)) (length entry)) (step size more) = cc in
+      let takes : length (stored_bytes c) ≡ size = ap (λ (p : Played). p.read) same in
+      let writes : length entry ≡ more = ap (λ (p : Played). p.written) same in
       let comes = next_here (plays c) e in
       let i = next_is (allowance - calls) (from bytes stored) (length (from at out)) c e in
       let w = first_within (from bytes stored) c i.first in

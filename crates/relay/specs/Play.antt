@@ -1,7 +1,8 @@
 -- Stored calls, played one after the other. Each is one of document 01's calls, on the room that the last returned. The run writes, for each call, refusal (1
 -- byte, 0 for none), seat (1), length (2) and the records; and it answers how many calls it played, how many bytes of the stored calls it read, how many it
 -- wrote, and why it stopped. Only 11 is a refusal, before the first call; a stop is none.
-use Rattle.std.specs.Prelude.{cond, List, [], ◌∷◌, ◌++◌, ◌≡◌, ℕ, zero, suc, ◌+◌, ◌-◌, eqb, leb, length, drop}
+use Rattle.std.specs.Prelude.{cond, List, [], ◌∷◌, ◌++◌, ◌≡◌, ℕ, zero, suc, ◌+◌, ◌-◌, eqb, leb, length, drop, Result, Ok, Err}
+use Rattle.refusal.specs.declared.Refusal.{Refusal}
 use Rattle.refusal.specs.declared.Refusal.TheVariants.{RoomNotWhole}
 use Rattle.rules.specs.Room.{Sizes, Room}
 use Rattle.rules.specs.Call.{Call, arrive, leave, needed, packet_call, tick}
@@ -81,7 +82,7 @@ changes_all sizes room (c ∷ calls) = (outcome room c).changes ++ changes_all s
 -- ---- what a run comes to
 
 pub record Playing : Type 0 where
-  pub answer : code.Run
+  pub answer : Result code.Run Refusal
   pub changes : List Change
   pub bytes : List ℕ
 
@@ -90,7 +91,7 @@ unfoldable pub played : Sizes → Room → Run → Playing
 played sizes room r =
     let bytes = entries_bytes (transcript sizes room r.calls) in
     record {
-      answer = code.TheVariants.Stopped r.why (length r.calls) (length (stored_all r.calls)) (length bytes);
+      answer = Ok (record { why = r.why; played = length r.calls; read = length (stored_all r.calls); written = length bytes });
       changes = changes_all sizes room r.calls;
       bytes = bytes;
     }
@@ -100,14 +101,14 @@ unfoldable pub playing : ℕ → ℕ → ℕ → List ℕ → List ℕ → List 
 playing s n allowance stored b out =
     let sizes : Sizes = record { seats = s; numbers = n } in
     cond (room_whole s n b) (played sizes (view_room s n b) (run sizes allowance (view_room s n b) stored (length out)))
-    (record { answer = code.TheVariants.Refused RoomNotWhole; changes = []; bytes = [] })
+    (record { answer = Err RoomNotWhole; changes = []; bytes = [] })
 
 -- what it leaves: the answer, the room with the changes stored, the output with what is written and what stood behind it
-pub record LeavesRun (s n : ℕ) (p : Playing) (b out : List ℕ) (given : code.Run) (b' out' : List ℕ) : Type 0 where
+pub record LeavesRun (s n : ℕ) (p : Playing) (b out : List ℕ) (given : Result code.Run Refusal) (b' out' : List ℕ) : Type 0 where
   pub answers : given ≡ p.answer
   pub stores : b' ≡ store_all s n b p.changes
   pub writes : out' ≡ p.bytes ++ drop (length p.bytes) out
 
 -- THE PUBLIC CALL: a run of stored calls, one relation as each single call is one (`relay_laws`, `Calls.antt`)
-abbrev pub Plays : (s n allowance : ℕ) (stored b out b' out' : List ℕ) (given : code.Run) → Type 0
+abbrev pub Plays : (s n allowance : ℕ) (stored b out b' out' : List ℕ) (given : Result code.Run Refusal) → Type 0
 Plays s n allowance stored b out b' out' given = LeavesRun s n (playing s n allowance stored b out) b out given b' out'

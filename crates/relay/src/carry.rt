@@ -1,72 +1,52 @@
 // What one client sends to another: "Out-of-band send goes to the seat holding the key, the sender included, with the sender's key put in. With no
 // such seat it is accepted and nothing is sent." "Data on a connected number goes to the peer under the peer's number."
-ghost use Rattle.std.specs.Prelude.{◌≡◌, true, ◌≤◌, length};
+ghost use Rattle.std.specs.Prelude.{◌≤◌, length};
 ghost use Rattle.packet_laws.specs.FromClient.{oob_send, routed_data};
-ghost use Rattle.rules.specs.Outcome.{act, carry_to};
-ghost use Rattle.room_laws.specs.View.{view_room, seat_held};
-ghost use Rattle.room_laws.specs.Whole.{room_whole};
-ghost use Rattle.relay_laws.specs.Calls.{answer_of, Leaves};
-ghost use Rattle.room.specs.Numbers.{peer_of, PeerRight};
-ghost use Rattle.relay.specs.Steps.{Sits, Carries};
+ghost use Rattle.relay_laws.specs.Calls.{answer_of};
+ghost use Rattle.relay.specs.Steps.{Acts, Ready, Seated};
 
+use crate::Client;
 use key::Key;
 use packet::ConnectionNumber;
-use records::{Answer, record};
+use records::{Accepted, Answer, record};
 use refusal::Refusal;
-use room::lookup::FoundSeat;
-use room::peer::Peer;
-use room::{lookup, peer};
-use seat::Seat;
+use room::{Sizes, lookup, peer};
 
 // An out-of-band send.
 pub(crate) fn out_of_band(
     memory: &[u8],
-    seats: usize,
-    numbers: usize,
-    seat: Seat,
-    key: Key,
+    sizes: Sizes,
+    client: Client,
     wanted: Key,
     data: &[u8],
     out: &mut [u8],
 ) -> Answer
-    requires { (room_whole seats numbers memory.now ≡ true) × (2048 ≤ length out.old) × (1 ≤ length «data».now) × (length «data».now ≤ 1024) }
-    ensures { Leaves seats numbers (act (oob_send wanted.0 «data».now) (view_room seats numbers memory.now) seat.0 (seat_held seats numbers memory.now seat.0 key.0)) memory.now out.old (answer_of result) memory.now out.new }
+    requires { Ready sizes memory.now out.old × (1 ≤ length «data».now) × (length «data».now ≤ 1024) }
+    ensures { Acts sizes client (oob_send wanted.0 «data».now) memory.now out.old (answer_of result) memory.now out.new }
 {
-    let FoundSeat::At(other) = lookup::seat_of(memory, seats, numbers, wanted) else {
-        return Answer::Accepted(seat, 0);
+    let seat = client.seat;
+    let Some(other) = lookup::seat_of(memory, sizes, wanted) else {
+        return Ok(Accepted { seat, bytes: 0 });
     };
-    Answer::Accepted(seat, record::out_of_band(out, 0, other, key, data))
+    let bytes = record::out_of_band(out, 0, other, client.key, data);
+    Ok(Accepted { seat, bytes })
 }
 
-// Data for a peer: 9 where there is none. The payload is copied once, from the lent packet to the lent output.
-fn to_peer(peer: Peer, seat: Seat, data: &[u8], out: &mut [u8]) -> Answer
-    requires { PeerRight peer × (2048 ≤ length out.old) × (1 ≤ length «data».now) × (length «data».now ≤ 2031) }
-    ensures { Carries (carry_to (peer_of peer) seat.0 «data».now) out.old (answer_of result) out.new }
-{
-    let Peer::Joined(other, number) = peer else {
-        return Answer::Refused(Refusal::NotConnected);
-    };
-    Answer::Accepted(seat, record::data(out, 0, other, number, data))
-}
-
-// Data on a number: 8, 9.
+// Data on a number: 8, 9. The payload is copied once, from the lent packet to the lent output.
 pub(crate) fn data(
     memory: &[u8],
-    seats: usize,
-    numbers: usize,
-    seat: Seat,
-    key: Key,
+    sizes: Sizes,
+    client: Client,
     number: ConnectionNumber,
     data: &[u8],
     out: &mut [u8],
 ) -> Answer
-    requires { (room_whole seats numbers memory.now ≡ true) × Sits seats numbers memory.now seat.0 key.0 × (2048 ≤ length out.old) × (1 ≤ length «data».now) × (length «data».now ≤ 2031) }
-    ensures { Leaves seats numbers (act (routed_data number.0 «data».now) (view_room seats numbers memory.now) seat.0 (seat_held seats numbers memory.now seat.0 key.0)) memory.now out.old (answer_of result) memory.now out.new }
+    requires { Seated sizes client memory.now out.old × (1 ≤ length «data».now) × (length «data».now ≤ 2031) }
+    ensures { Acts sizes client (routed_data number.0 «data».now) memory.now out.old (answer_of result) memory.now out.new }
 {
-    let wanted = lookup::wanted_by(memory, seats, numbers, seat, number);
-    if !wanted.held {
-        return Answer::Refused(Refusal::NoSuchRoute);
-    }
-    let peer = peer::of(memory, seats, numbers, seat, key, wanted.key);
-    to_peer(peer, seat, data, out)
+    let seat = client.seat;
+    let wanted = lookup::wanted_by(memory, sizes, seat, number).ok_or(Refusal::NoSuchRoute)?;
+    let peer = peer::of(memory, sizes, seat, client.key, wanted).ok_or(Refusal::NotConnected)?;
+    let bytes = record::data(out, 0, peer.seat, peer.number, data);
+    Ok(Accepted { seat, bytes })
 }

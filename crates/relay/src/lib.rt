@@ -16,4 +16,16 @@ mod pong;
 mod request;
 mod tick;
 
-pub use records::Answer;
+use key::Key;
+pub use records::{Accepted, Answer};
+use seat::Seat;
+
+// Who makes a call: the key, and the seat in which it sits.
+//
+// That the room is whole and the output long is asked for in the steps' contracts, and is no type around the lent memory: what a step promises is said of all
+// the lent bytes, as they are when it returns.
+#[derive(Clone, Copy)]
+struct Client {
+    seat: Seat,
+    key: Key,
+}

@@ -1,7 +1,8 @@
 // Stored calls, played one after the other. The room is tested once: each step leaves a whole room for the next.
-ghost use Rattle.std.specs.Prelude.{◌≡◌, true, ◌≤◌, length};
+ghost use Rattle.std.specs.Prelude.{◌≡◌, true};
 ghost use Rattle.room_laws.specs.Whole.{room_whole};
 ghost use Rattle.relay_laws.specs.Calls.{answer_of};
+ghost use Rattle.relay.specs.Steps.{Ready};
 ghost use Rattle.relay.specs.Play.{Plays};
 ghost use Rattle.relay.specs.PlaySteps.{Reads, Makes, Takes, RunsOn};
 
@@ -9,8 +10,8 @@ use crate::{arrive, calls, leave, packet_call};
 use key::Key;
 use records::{Answer, entry};
 use refusal::Refusal;
-use room::{Room, whole};
-use stored::{StoredCall, StoredRead};
+use room::{Room, Sizes, whole};
+use stored::StoredCall;
 
 // Output for the head of a call and for what any call may write.
 const LEAST_SPACE: usize = entry::HEAD + calls::LEAST_OUTPUT;
@@ -19,61 +20,48 @@ const LEAST_SPACE: usize = entry::HEAD + calls::LEAST_OUTPUT;
 const KEY_END: usize = stored::HEAD + Key::BYTES;
 
 // Why a run of stored calls stopped.
-#[derive(Clone, Copy)]
+#[derive(Clone, Copy, PartialEq, Eq, Debug)]
 pub enum Stop {
     // Every call was played.
-    End,
+    End = 0,
     // What comes next is no stored call.
-    NoCall,
+    NoCall = 1,
     // As many calls as allowed were played.
-    Allowance,
+    Allowance = 2,
     // The output left is too short for another call.
-    Output,
+    Output = 3,
 }
 
-// What came of the next stored call: how many bytes of the stored calls it took, and how many of the output.
+// A stored call that was played: how many bytes of the stored calls it took, and how many of the output.
 #[derive(Clone, Copy)]
-enum Next {
-    Stopped(Stop),
-    Played(usize, usize),
+struct Played {
+    read: usize,
+    written: usize,
 }
 
-// What a run came to: how many calls were played, how many bytes of the stored calls they took, and how many were written.
-#[derive(Clone, Copy)]
-pub enum Run {
-    Stopped {
-        why: Stop,
-        played: usize,
-        read: usize,
-        written: usize,
-    },
-    Refused(Refusal),
+// What a run came to: why it stopped, how many calls were played, how many bytes of the stored calls they took, and how many were written.
+#[derive(Clone, Copy, PartialEq, Eq, Debug)]
+pub struct Run {
+    pub why: Stop,
+    pub played: usize,
+    pub read: usize,
+    pub written: usize,
 }
 
 // The call at the front of the stored ones is made on a whole room.
-fn make(
-    memory: &mut [u8],
-    seats: usize,
-    numbers: usize,
-    call: StoredCall,
-    calls: &[u8],
-    out: &mut [u8],
-) -> Answer
-    requires { (room_whole seats numbers memory.old ≡ true) × Reads calls.now call × (2048 ≤ length out.old) }
-    ensures { Makes seats numbers calls.now memory.old out.old (answer_of result) memory.new out.new }
+fn make(memory: &mut [u8], sizes: Sizes, call: StoredCall, calls: &[u8], out: &mut [u8]) -> Answer
+    requires { Ready sizes memory.old out.old × Reads calls.now call }
+    ensures { Makes sizes.seats sizes.numbers calls.now memory.old out.old (answer_of result) memory.new out.new }
 {
     match call {
-        StoredCall::Arrive => arrive::step(
-            memory,
-            seats,
-            numbers,
-            Key::read(&calls[stored::HEAD..KEY_END]),
-            out,
-        ),
-        StoredCall::Leave(seat) => leave::step(memory, seats, numbers, seat, out),
+        StoredCall::Arrive => {
+            let key = Key::read(&calls[stored::HEAD..KEY_END]);
+            arrive::step(memory, sizes, key, out)
+        }
+        StoredCall::Leave(seat) => leave::step(memory, sizes, seat, out),
         StoredCall::Packet(seat, size) => {
             let end = stored::HEAD + size;
-            packet_call::step(memory, seats, numbers, seat, &calls[stored::HEAD..end], out)
+            packet_call::step(memory, sizes, seat, &calls[stored::HEAD..end], out)
         }
     }
 }
@@ -81,84 +69,69 @@ fn make(
 // The next stored call is played, unless there is a ground to stop.
 fn play_next(
     memory: &mut [u8],
-    seats: usize,
-    numbers: usize,
+    sizes: Sizes,
     calls: &[u8],
     allowance: usize,
     out: &mut [u8],
-) -> Next
-    requires { room_whole seats numbers memory.old ≡ true }
-    ensures { Takes seats numbers allowance calls.now memory.old out.old result memory.new out.new }
+) -> Result<Played, Stop>
+    requires { room_whole sizes.seats sizes.numbers memory.old ≡ true }
+    ensures { Takes sizes.seats sizes.numbers allowance calls.now memory.old out.old result memory.new out.new }
 {
-    if calls.len() == 0 {
-        return Next::Stopped(Stop::End);
+    if calls.is_empty() {
+        return Err(Stop::End);
     }
     if allowance == 0 {
-        return Next::Stopped(Stop::Allowance);
+        return Err(Stop::Allowance);
     }
-    let StoredRead::Call(call, size) = stored::read(calls) else {
-        return Next::Stopped(Stop::NoCall);
-    };
+    let (call, read) = stored::read(calls).ok_or(Stop::NoCall)?;
     if out.len() < LEAST_SPACE {
-        return Next::Stopped(Stop::Output);
+        return Err(Stop::Output);
     }
-    Next::Played(
-        size,
-        entry::write(
-            make(memory, seats, numbers, call, calls, &mut out[entry::HEAD..]),
-            out,
-        ),
-    )
+    let answer = make(memory, sizes, call, calls, &mut out[entry::HEAD..]);
+    let written = entry::write(answer, out);
+    Ok(Played { read, written })
 }
 
 // Call after call, on a whole room.
-fn play_all(
-    memory: &mut [u8],
-    seats: usize,
-    numbers: usize,
-    calls: &[u8],
-    allowance: usize,
-    out: &mut [u8],
-) -> Run
-    requires { room_whole seats numbers memory.old ≡ true }
-    ensures { RunsOn seats numbers allowance calls.now memory.old out.old result memory.new out.new }
+fn play_all(memory: &mut [u8], sizes: Sizes, calls: &[u8], allowance: usize, out: &mut [u8]) -> Run
+    requires { room_whole sizes.seats sizes.numbers memory.old ≡ true }
+    ensures { RunsOn sizes.seats sizes.numbers allowance calls.now memory.old out.old result memory.new out.new }
 {
     let mut played = 0;
     let mut read = 0;
     let mut written = 0;
+    // A `loop`: it ends only by a stop, and how many calls there are is not known before.
     loop {
         let left = allowance - played;
-        match play_next(
-            memory,
-            seats,
-            numbers,
-            &calls[read..],
-            left,
-            &mut out[written..],
-        ) {
-            Next::Stopped(why) => {
-                return Run::Stopped {
+        match play_next(memory, sizes, &calls[read..], left, &mut out[written..]) {
+            Ok(call) => {
+                played += 1;
+                read += call.read;
+                written += call.written;
+            }
+            Err(why) => {
+                return Run {
                     why,
                     played,
                     read,
                     written,
                 };
             }
-            Next::Played(size, bytes) => {
-                played += 1;
-                read += size;
-                written += bytes;
-            }
         }
     }
 }
 
 // Plays the stored calls, at most `allowance` of them: 11.
-pub fn play(memory: &mut [u8], calls: &[u8], allowance: usize, out: &mut [u8]) -> Run
+pub fn play(
+    memory: &mut [u8],
+    calls: &[u8],
+    allowance: usize,
+    out: &mut [u8],
+) -> Result<Run, Refusal>
     ensures { Plays 40 32 allowance calls.now memory.old out.old memory.new out.new result }
 {
-    if !whole::is_whole(memory, Room::SEATS, Room::NUMBERS) {
-        return Run::Refused(Refusal::RoomNotWhole);
+    if !whole::is_whole(memory, Room::SIZES) {
+        return Err(Refusal::RoomNotWhole);
     }
-    play_all(memory, Room::SEATS, Room::NUMBERS, calls, allowance, out)
+    Ok(play_all(memory, Room::SIZES, calls, allowance, out))
 }

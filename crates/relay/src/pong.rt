@@ -4,23 +4,17 @@ ghost use Rattle.room_laws.specs.Whole.{room_whole};
 ghost use Rattle.relay_laws.specs.Calls.{answer_of};
 ghost use Rattle.relay.specs.Steps.{Pongs};
 
-use records::Answer;
-use room::{change, lookup};
+use records::{Accepted, Answer};
+use room::{Sizes, change, lookup};
 use seat::Seat;
 
 // A client's pong.
-pub(crate) fn step(
-    memory: &mut [u8],
-    seats: usize,
-    numbers: usize,
-    seat: Seat,
-    number: u64,
-) -> Answer
-    requires { room_whole seats numbers memory.old ≡ true }
-    ensures { Pongs seats numbers seat.0 number memory.old (answer_of result) memory.new }
+pub(crate) fn step(memory: &mut [u8], sizes: Sizes, seat: Seat, number: u64) -> Answer
+    requires { room_whole sizes.seats sizes.numbers memory.old ≡ true }
+    ensures { Pongs sizes.seats sizes.numbers seat.0 number memory.old (answer_of result) memory.new }
 {
-    if lookup::outstanding(memory, seats, numbers, seat) == number {
-        change::clear_ping(memory, seats, numbers, seat);
+    if lookup::outstanding(memory, sizes, seat) == number {
+        change::clear_ping(memory, sizes, seat);
     }
-    Answer::Accepted(seat, 0)
+    Ok(Accepted { seat, bytes: 0 })
 }

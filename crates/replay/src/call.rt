@@ -2,77 +2,56 @@
 ghost use Rattle.std.specs.Prelude.{◌≤◌, length};
 ghost use Rattle.relay_laws.specs.Calls.{answer_of, written};
 
-use crate::{handed, who};
+use crate::handed;
+use crate::who::Client;
 use key::Key;
-use refusal::Refusal;
-use relay::{Answer, calls};
+use records::{Accepted, Answer};
+use relay::calls;
 use seat::Seat;
 use std::io;
 use stored::StoredCall;
-use telling::{asked, refused, say};
+use telling::asked::Asked;
+use telling::count::Bytes;
+use telling::refused::Refused;
 
-fn tell_refused(rt: &HostRuntime, why: Refusal) -> io::Result<()> {
-    say::words(rt, b"  ")?;
-    refused::tell(rt, why)?;
-    say::words(rt, b"\n")
-}
-
-// The count of bytes written, and the records that they are. Whom these name is looked up in the room after the call: only clients that are seated
-// then are sent anything.
-fn tell_written(rt: &HostRuntime, memory: &[u8], count: usize, out: &[u8]) -> io::Result<()>
-    requires { count ≤ length out.now }
-{
-    say::bytes(rt, count)?;
-    say::words(rt, b"\n")?;
-    handed::tell_all(rt, memory, &out[0..count])
-}
-
-fn tell_accepted(rt: &HostRuntime, memory: &[u8], count: usize, out: &[u8]) -> io::Result<()>
-    requires { count ≤ length out.now }
-{
-    say::words(rt, b"  accepted: ")?;
-    tell_written(rt, memory, count, out)
-}
-
-// The answer to a leave or a packet.
+// The answer to a leave or a packet: the count of bytes written, and the records that they are. Whom these name is looked up in the room after the call: only
+// clients that are seated then are sent anything.
 fn tell_answer(rt: &HostRuntime, memory: &[u8], answer: Answer, out: &[u8]) -> io::Result<()>
     requires { written (answer_of answer) ≤ length out.now }
 {
     match answer {
-        Answer::Accepted(_, count) => tell_accepted(rt, memory, count, out),
-        Answer::Refused(why) => tell_refused(rt, why),
+        Ok(Accepted { bytes, .. }) => {
+            println!(rt; "  accepted: {}", Bytes(bytes))?;
+            handed::tell_all(rt, memory, &out[..bytes])
+        }
+        Err(why) => println!(rt; "  {}", Refused(why)),
     }
 }
 
 // "Arrive now has output and answers its byte count too.": the seat, and then as of every call.
 fn arrive(rt: &HostRuntime, memory: &mut [u8], key: Key) -> io::Result<()> {
-    say::key(rt, key)?;
-    say::words(rt, b": arrives\n")?;
+    println!(rt; "{key}: arrives")?;
     let mut out = [0u8; calls::LEAST_OUTPUT];
     match calls::arrive(memory, key, &mut out) {
-        Answer::Accepted(seat, count) => {
-            say::words(rt, b"  accepted: ")?;
-            who::tell_seat(rt, seat)?;
-            say::words(rt, b", ")?;
-            tell_written(rt, memory, count, &out)
+        Ok(Accepted { seat, bytes }) => {
+            println!(rt; "  accepted: {seat}, {}", Bytes(bytes))?;
+            handed::tell_all(rt, memory, &out[..bytes])
         }
-        Answer::Refused(why) => tell_refused(rt, why),
+        Err(why) => println!(rt; "  {}", Refused(why)),
     }
 }
 
 fn leave(rt: &HostRuntime, memory: &mut [u8], seat: Seat) -> io::Result<()> {
-    who::tell_client(rt, memory, seat)?;
-    say::words(rt, b": leaves\n")?;
+    println!(rt; "{}: leaves", Client { memory, seat })?;
     let mut out = [0u8; calls::LEAST_OUTPUT];
     let answer = calls::leave(memory, seat, &mut out);
     tell_answer(rt, memory, answer, &out)
 }
 
 fn packet(rt: &HostRuntime, memory: &mut [u8], seat: Seat, packet: &[u8]) -> io::Result<()> {
-    who::tell_client(rt, memory, seat)?;
-    say::words(rt, b": ")?;
-    asked::tell(rt, packet)?;
-    say::words(rt, b"\n")?;
+    // In two prints: one that borrows from the room and from the packet has no proof yet.
+    print!(rt; "{}: ", Client { memory, seat })?;
+    println!(rt; "{}", Asked(packet))?;
     let mut out = [0u8; calls::LEAST_OUTPUT];
     let answer = calls::packet(memory, seat, packet, &mut out);
     tell_answer(rt, memory, answer, &out)
@@ -86,9 +65,7 @@ pub(crate) fn play(
     call: StoredCall,
     given: &[u8],
 ) -> io::Result<()> {
-    say::words(rt, b"call ")?;
-    say::number(rt, number as u64)?;
-    say::words(rt, b", ")?;
+    print!(rt; "call {number}, ")?;
     match call {
         StoredCall::Arrive => arrive(rt, memory, Key::read(given)),
         StoredCall::Leave(seat) => leave(rt, memory, seat),

@@ -24,11 +24,7 @@ fn read_input<F: Read + Drop>(rt: &HostRuntime, from: F) -> io::Result<Vec<u8>> 
 // Replays what was read, or tells why nothing was.
 fn replay_input(rt: &HostRuntime, name: &str, read: io::Result<Vec<u8>>) -> io::Result<()> {
     match read {
-        Ok(mut input) => {
-            let all_read = input.len() <= MOST_INPUT;
-            input.truncate(MOST_INPUT);
-            history::replay(rt, &input, all_read)
-        }
+        Ok(input) => history::replay(rt, &input, MOST_INPUT),
         Err(why) => eprintln!(rt; "{name}: {why}"),
     }
 }

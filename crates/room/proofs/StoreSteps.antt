@@ -1,21 +1,21 @@
--- The stores' definitions, case by case: what a change leaves where the memory fits and has such a seat, and that else it leaves all.
+-- The stores' definitions, where the memory fits and has such a seat: what a change leaves.
 use mathlib.Core.Path.{◌≡◌, sym, ap, ap₂, ◌∙◌}
 use mathlib.Core.Bool.{true, false}
 use mathlib.Core.List.{List, [], ◌∷◌, ◌++◌, append_assoc}
-use Prim.Native.Nat.{ℕ, ◌+◌, ◌-◌, ◌≤◌, ◌<◌}
+use Prim.Native.Nat.{ℕ, ◌+◌, ◌-◌, ◌≤◌}
 use native.Mathlib.Nat.{not-suc-le-zero, le_of_suc-le-suc}
 use native.Mathlib.Omega.{arith}
 use lib.ListN.{length, take, drop, set, length-append}
 use lib.Seq.{length-take-le, take_at, drop_at, drop-drop, set_split}
-use borrow.Author.Tests.{lt-ltb, le-ltb}
+use borrow.Author.Tests.{le-ltb}
 use Rattle.wire.proofs.Numbers.{length_bytes_of}
 use Rattle.table_laws.specs.Bytes.{splice}
 use Rattle.table_laws.specs.Table.{put_in, freed_in}
 use Rattle.rules.specs.Room.{Key, first_number}
-use Rattle.rules.specs.Outcome.{seat_taken, seat_emptied, clock_set, ping_sent, ping_answered}
+use Rattle.rules.specs.Outcome.{seat_taken, seat_emptied, ping_sent, ping_answered}
 use Rattle.room_laws.specs.Layout.{word_bytes, clock_start, key_bytes, routes_bytes, seat_bytes, seats_bytes, room_header, fits_room, seat_table, ping_start, outstanding_start, routes_start, routes_table}
 use Rattle.room_laws.specs.View.{word_at}
-use Rattle.room_laws.specs.Store.{word_of, emptied, new_seat, with_clock, with_ping_at, with_outstanding, with_seats, with_routes, store, MakesEmpty}
+use Rattle.room_laws.specs.Store.{word_of, emptied, new_seat, with_ping_at, with_outstanding, with_seats, with_routes, store, MakesEmpty}
 use Rattle.room_laws.specs.Lookup.{has_seat}
 use Rattle.room.specs.Numbers.{given_number, freed_number}
 
@@ -24,25 +24,9 @@ module _ (s n : ℕ) (b : List ℕ) where
   unfolding store with_seats
   store_taken h i key = rw h
 
-  pub store_taken_not : fits_room s n b ≡ false → (i : ℕ) (key : Key) → store s n b (seat_taken i key) ≡ b
-  unfolding store
-  store_taken_not h i key = rw h
-
   pub store_emptied : fits_room s n b ≡ true → (i : ℕ) → store s n b (seat_emptied i) ≡ splice b room_header (freed_in s (seat_table s n b) i) (seats_bytes s n)
   unfolding store with_seats
   store_emptied h i = rw h
-
-  pub store_emptied_not : fits_room s n b ≡ false → (i : ℕ) → store s n b (seat_emptied i) ≡ b
-  unfolding store
-  store_emptied_not h i = rw h
-
-  pub store_clock : fits_room s n b ≡ true → (time : ℕ) → store s n b (clock_set time) ≡ splice b clock_start (word_of time) word_bytes
-  unfolding store with_clock
-  store_clock h time = rw h
-
-  pub store_clock_not : fits_room s n b ≡ false → (time : ℕ) → store s n b (clock_set time) ≡ b
-  unfolding store
-  store_clock_not h time = rw h
 
 -- ---- the ping of a seat
 
@@ -67,37 +51,13 @@ module _ (s n : ℕ) (b : List ℕ) (i : ℕ) where
       (let q : outstanding_start s n i ≡ ping_start s n i + word_bytes = omega arith in q)
       ∙ splice_twice b (word_of time) (word_of number) (ping_start s n i) word_bytes word_bytes (length_bytes_of word_bytes time) within ∙ rw h
 
-  pub store_sent_not : has_seat s n b i ≡ false → (time number : ℕ) → store s n b (ping_sent i time number) ≡ b
-  unfolding store has_seat
-  store_sent_not h time number = rw h
-
   pub store_answered : has_seat s n b i ≡ true → store s n b (ping_answered i) ≡ splice b (outstanding_start s n i) (word_of 0) word_bytes
   unfolding store has_seat with_outstanding
   store_answered h = rw h
 
-  pub store_answered_not : has_seat s n b i ≡ false → store s n b (ping_answered i) ≡ b
-  unfolding store has_seat
-  store_answered_not h = rw h
-
 -- ---- the routes of a seat
 
 module _ (s n : ℕ) (b : List ℕ) (i number : ℕ) where
-  pub number_low : number < first_number → (key : Key) → given_number s n b i number key ≡ b
-  unfolding given_number
-  number_low h key = rw (lt-ltb number first_number h)
-
-  pub number_low_freed : number < first_number → freed_number s n b i number ≡ b
-  unfolding freed_number
-  number_low_freed h = rw (lt-ltb number first_number h)
-
-  pub given_not : first_number ≤ number → has_seat s n b i ≡ false → (key : Key) → given_number s n b i number key ≡ b
-  unfolding given_number store has_seat
-  given_not l h key = rw (le-ltb number first_number l, h)
-
-  pub freed_not : first_number ≤ number → has_seat s n b i ≡ false → freed_number s n b i number ≡ b
-  unfolding freed_number store has_seat
-  freed_not l h = rw (le-ltb number first_number l, h)
-
   pub given_in : first_number ≤ number → has_seat s n b i ≡ true → (key : Key) →
       given_number s n b i number key ≡ splice b (routes_start s n i) (put_in n key_bytes (routes_table s n b i) (number - first_number) key) (routes_bytes n)
   unfolding given_number store has_seat with_routes
@@ -126,10 +86,3 @@ module _ (s n : ℕ) (b : List ℕ) where
 
   pub makes_none : fits_room s n b ≡ false → MakesEmpty s n b b false
   makes_none h = record { answers = rw h; leaves = rw h }
-
--- a part that was lent comes back: where it stood, how long it is and what it holds now
-pub replaced : (b : List ℕ) {at at' k k' : ℕ} {new new' : List ℕ} → at ≡ at' → k ≡ k' → new ≡ new' → splice b at new k ≡ splice b at' new' k'
-replaced b {at} {at'} {k} {k'} {new} {new'} e d f = rw (e, d, f)
-
-pub put_same : (p i : ℕ) {w w' : ℕ} {t t' r r' : List ℕ} → w ≡ w' → t ≡ t' → r ≡ r' → put_in p w t i r ≡ put_in p w' t' i r'
-put_same p i {w} {w'} {t} {t'} {r} {r'} e d f = rw (e, d, f)

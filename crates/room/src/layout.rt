@@ -3,14 +3,17 @@
 //     room    | seats (1) | numbers (1) | clock (8) | table of seats |
 //     seat    | key (32) | ping time (8) | outstanding ping (8) | table of routes |
 //     route   | wanted key (32) |
-ghost use Rattle.std.specs.Prelude.{◌≡◌, true, ◌+◌, ◌<◌, ◌≤◌, length};
+ghost use Rattle.std.specs.Prelude.{◌≡◌, true, false, ◌+◌, ◌<◌, ◌≤◌, length, IfSome, MatchOption, SomeIff};
 ghost use Rattle.table_laws.specs.Bytes.{splice};
-ghost use Rattle.room_laws.specs.Layout.{routes_bytes, seat_bytes, room_bytes, sizes_right, fits_room, seat_table, seat_start, ping_start, outstanding_start, routes_start, routes_end, routes_table};
+ghost use Rattle.table_laws.specs.Table.{key_of_place};
+ghost use Rattle.room_laws.specs.Layout.{seat_bytes, room_bytes, sizes_right, fits_room, seat_table, seat_start, routes_start, routes_end, routes_table};
 ghost use Rattle.room_laws.specs.View.{word_at, number_at, clock_in, seat_ping};
 ghost use Rattle.room_laws.specs.Whole.{header_right};
-ghost use Rattle.room_laws.specs.Store.{word_of, emptied, new_seat};
+ghost use Rattle.room_laws.specs.Store.{word_of, new_seat, MakesEmpty};
 
 use key::Key;
+use seat::Seat;
+use table::Shape;
 
 // Document 01: "40 seats, 0 to 39"; connection numbers are 16 to 255 at most.
 pub const MOST_SEATS: usize = 40;
@@ -31,129 +34,64 @@ const WORD: usize = 8;
 pub(crate) const SEATS_START: usize = CLOCK_START + WORD;
 
 // Where the time of the last ping stands in a seat's record: behind its key. The number of the ping that is outstanding follows, and then the table of routes.
-const PING_IN_SEAT: usize = Key::BYTES;
+pub(crate) const PING_IN_SEAT: usize = Key::BYTES;
 
-const OUTSTANDING_IN_SEAT: usize = PING_IN_SEAT + WORD;
+pub(crate) const OUTSTANDING_IN_SEAT: usize = PING_IN_SEAT + WORD;
 
-const ROUTES_IN_SEAT: usize = OUTSTANDING_IN_SEAT + WORD;
+pub(crate) const ROUTES_IN_SEAT: usize = OUTSTANDING_IN_SEAT + WORD;
 
 // How much of the record of a seat is written when it is taken: up to the count of its routes, the first byte of their table.
-pub(crate) const NEW_SEAT: usize = ROUTES_IN_SEAT + 1;
+const NEW_SEAT: usize = ROUTES_IN_SEAT + 1;
 
-// Whether a room can be of these sizes.
-pub fn sizes_right(seats: usize, numbers: usize) -> bool
-    ensures { result ≡ sizes_right seats numbers }
-{
-    if MOST_SEATS < seats {
-        return false;
-    }
-    numbers <= MOST_NUMBERS
+// The sizes of a room: its seats, and the connection numbers of each.
+#[derive(Clone, Copy, PartialEq, Eq, Debug)]
+pub struct Sizes {
+    pub seats: usize,
+    pub numbers: usize,
 }
 
-// The bytes of a table of routes.
-pub(crate) fn routes_bytes(numbers: usize) -> usize
-    requires { numbers ≤ 240 }
-    ensures { result ≡ routes_bytes numbers }
+impl Sizes {
+    // The shape of the table of routes of a seat.
+    pub(crate) fn routes_shape(self) -> Shape
+        ensures { result ≡ record { places = self.numbers; width = 32 } }
+    {
+        Shape {
+            places: self.numbers,
+            width: Key::BYTES,
+        }
+    }
+}
+
+// Whether a room can be of these sizes.
+#[tactic(auto, unfolding(room_laws::specs::Layout::sizes_right))]
+pub fn sizes_right(sizes: Sizes) -> bool
+    ensures { result ≡ sizes_right sizes.seats sizes.numbers }
 {
-    1 + numbers + numbers * Key::BYTES
+    sizes.seats <= MOST_SEATS && sizes.numbers <= MOST_NUMBERS
 }
 
 // The bytes of a seat.
-pub(crate) fn seat_bytes(numbers: usize) -> usize
-    requires { numbers ≤ 240 }
-    ensures { result ≡ seat_bytes numbers }
+fn seat_bytes(sizes: Sizes) -> usize
+    requires { sizes.numbers ≤ 240 }
+    ensures { result ≡ seat_bytes sizes.numbers }
 {
-    ROUTES_IN_SEAT + routes_bytes(numbers)
+    ROUTES_IN_SEAT + (1 + sizes.numbers + sizes.numbers * Key::BYTES)
 }
 
 // The bytes of a room.
-pub(crate) fn room_bytes(seats: usize, numbers: usize) -> usize
-    requires { (seats ≤ 40) × (numbers ≤ 240) }
-    ensures { result ≡ room_bytes seats numbers }
+fn room_bytes(sizes: Sizes) -> usize
+    requires { (sizes.seats ≤ 40) × (sizes.numbers ≤ 240) }
+    ensures { result ≡ room_bytes sizes.seats sizes.numbers }
 {
-    let width = seat_bytes(numbers);
-    SEATS_START + (1 + seats + seats * width)
-}
-
-// Where a seat stands.
-fn seat_start(seats: usize, numbers: usize, seat: usize) -> usize
-    requires { (seats ≤ 40) × (numbers ≤ 240) × (seat < seats) }
-    ensures { result ≡ seat_start seats numbers seat }
-{
-    let width = seat_bytes(numbers);
-    SEATS_START + (1 + seats + seat * width)
-}
-
-// Where the time of the last ping of a seat stands.
-pub(crate) fn ping_start(seats: usize, numbers: usize, seat: usize) -> usize
-    requires { (seats ≤ 40) × (numbers ≤ 240) × (seat < seats) }
-    ensures { result ≡ ping_start seats numbers seat }
-{
-    seat_start(seats, numbers, seat) + PING_IN_SEAT
-}
-
-// Where the number of the ping that is outstanding stands.
-pub(crate) fn outstanding_start(seats: usize, numbers: usize, seat: usize) -> usize
-    requires { (seats ≤ 40) × (numbers ≤ 240) × (seat < seats) }
-    ensures { result ≡ outstanding_start seats numbers seat }
-{
-    seat_start(seats, numbers, seat) + OUTSTANDING_IN_SEAT
-}
-
-// Where the table of routes of a seat stands.
-pub(crate) fn routes_start(seats: usize, numbers: usize, seat: usize) -> usize
-    requires { (seats ≤ 40) × (numbers ≤ 240) × (seat < seats) }
-    ensures { result ≡ routes_start seats numbers seat }
-{
-    seat_start(seats, numbers, seat) + ROUTES_IN_SEAT
-}
-
-// Where it ends.
-pub(crate) fn routes_end(seats: usize, numbers: usize, seat: usize) -> usize
-    requires { (seats ≤ 40) × (numbers ≤ 240) × (seat < seats) }
-    ensures { result ≡ routes_end seats numbers seat }
-{
-    routes_start(seats, numbers, seat) + routes_bytes(numbers)
+    SEATS_START + (1 + sizes.seats + sizes.seats * seat_bytes(sizes))
 }
 
 // Whether memory is long enough for a room of these sizes; it may be longer.
-pub fn fits(memory: &[u8], seats: usize, numbers: usize) -> bool
-    ensures { result ≡ fits_room seats numbers memory.now }
+#[tactic(auto, unfolding(room_laws::specs::Layout::sizes_right, room_laws::specs::Layout::fits_room))]
+pub fn fits(memory: &[u8], sizes: Sizes) -> bool
+    ensures { result ≡ fits_room sizes.seats sizes.numbers memory.now }
 {
-    if !sizes_right(seats, numbers) {
-        return false;
-    }
-    room_bytes(seats, numbers) <= memory.len()
-}
-
-// The table of seats.
-pub(crate) fn seat_table(memory: &[u8], seats: usize, numbers: usize) -> &[u8]
-    requires { fits_room seats numbers memory.now ≡ true }
-    ensures { result.now ≡ seat_table seats numbers memory.now }
-{
-    let end = room_bytes(seats, numbers);
-    &memory[SEATS_START..end]
-}
-
-// The table of routes of a seat.
-pub(crate) fn routes_table(memory: &[u8], seats: usize, numbers: usize, seat: usize) -> &[u8]
-    requires { (fits_room seats numbers memory.now ≡ true) × (seat < seats) }
-    ensures { result.now ≡ routes_table seats numbers memory.now seat }
-{
-    let at = routes_start(seats, numbers, seat);
-    let end = routes_end(seats, numbers, seat);
-    &memory[at..end]
-}
-
-// Whether the header has the room's sizes.
-pub(crate) fn header_right(memory: &[u8], seats: usize, numbers: usize) -> bool
-    requires { fits_room seats numbers memory.now ≡ true }
-    ensures { result ≡ header_right seats numbers memory.now }
-{
-    if memory[SEATS_BYTE] as usize != seats {
-        return false;
-    }
-    memory[NUMBERS_BYTE] as usize == numbers
+    sizes_right(sizes) && room_bytes(sizes) <= memory.len()
 }
 
 // The number that stands at `at`.
@@ -174,49 +112,145 @@ pub(crate) fn write_word(memory: &mut [u8], at: usize, number: u64)
     wire::write_number(number, &mut memory[at..end]);
 }
 
-// The clock.
-pub(crate) fn clock(memory: &[u8]) -> u64
-    requires { 10 ≤ length memory.now }
-    ensures { result ≡ clock_in memory.now }
-{
-    read_word(memory, CLOCK_START)
+// Memory that is long enough for a room of these sizes, so that each part of the room stands in it.
+#[derive(Clone, Copy)]
+pub(crate) struct Lent<'a> {
+    memory: &'a [u8],
+    pub(crate) sizes: Sizes,
+    ghost long: { fits_room sizes.seats sizes.numbers memory.now ≡ true },
 }
 
-// The time of the last ping of a seat.
-pub(crate) fn ping_time(memory: &[u8], seats: usize, numbers: usize, seat: usize) -> u64
-    requires { (fits_room seats numbers memory.now ≡ true) × (seat < seats) }
-    ensures { result ≡ (seat_ping seats numbers memory.now seat).time }
-{
-    read_word(memory, ping_start(seats, numbers, seat))
+impl<'a> Lent<'a> {
+    // None where the memory is too short, or no room is of these sizes.
+    pub(crate) fn new(memory: &'a [u8], sizes: Sizes) -> Option<Self>
+        ensures { MatchOption result (fits_room sizes.seats sizes.numbers memory.now ≡ false) (λ room. (fits_room sizes.seats sizes.numbers memory.now ≡ true) × (room.sizes ≡ sizes) × (room.memory.now ≡ memory.now)) }
+    {
+        if !fits(memory, sizes) {
+            return None;
+        }
+        Some(Lent { memory, sizes })
+    }
+
+    // Where the room ends.
+    pub(crate) fn end(self) -> usize
+        ensures is { result ≡ room_bytes self.entry.sizes.seats self.entry.sizes.numbers }
+        ensures within { result ≤ length self.entry.memory.now }
+    {
+        room_bytes(self.sizes)
+    }
+
+    // Whether the header has the room's sizes.
+    #[tactic(auto, unfolding(room_laws::specs::Whole::header_right))]
+    pub(crate) fn header_right(self) -> bool
+        ensures { result ≡ header_right self.entry.sizes.seats self.entry.sizes.numbers self.entry.memory.now }
+    {
+        usize::from(self.memory[SEATS_BYTE]) == self.sizes.seats
+            && usize::from(self.memory[NUMBERS_BYTE]) == self.sizes.numbers
+    }
+
+    // The clock.
+    pub(crate) fn clock(self) -> u64
+        ensures { result ≡ clock_in self.entry.memory.now }
+    {
+        read_word(self.memory, CLOCK_START)
+    }
+
+    // The shape of the table of seats.
+    pub(crate) fn seats_shape(self) -> Shape
+        ensures { result ≡ record { places = self.entry.sizes.seats; width = seat_bytes self.entry.sizes.numbers } }
+    {
+        Shape {
+            places: self.sizes.seats,
+            width: seat_bytes(self.sizes),
+        }
+    }
+
+    // The table of seats.
+    pub(crate) fn seats(self) -> &'a [u8]
+        ensures { result.now ≡ seat_table self.entry.sizes.seats self.entry.sizes.numbers self.entry.memory.now }
+    {
+        let end = self.end();
+        &self.memory[SEATS_START..end]
+    }
+
+    // The key of a seat, whether it is taken or not; the key of zeros where there is no such seat.
+    pub(crate) fn key(self, seat: Seat) -> Key
+        ensures { let r = self.entry in result.0 ≡ key_of_place r.sizes.seats (seat_bytes r.sizes.numbers) (seat_table r.sizes.seats r.sizes.numbers r.memory.now) seat.0 }
+    {
+        table::key_at(self.seats(), self.seats_shape(), usize::from(seat.0))
+    }
+
+    // Where a seat stands, if the room has it.
+    pub(crate) fn seat_start(self, seat: Seat) -> Option<usize>
+        ensures is { let r = self.entry in SomeIff result (seat.0 < r.sizes.seats) (seat_start r.sizes.seats r.sizes.numbers seat.0) }
+        ensures within { let r = self.entry in IfSome result (λ at. at + seat_bytes r.sizes.numbers ≤ length r.memory.now) }
+    {
+        let place = usize::from(seat.0);
+        if self.sizes.seats <= place {
+            return None;
+        }
+        Some(SEATS_START + (1 + self.sizes.seats + place * seat_bytes(self.sizes)))
+    }
+
+    // The time of the last ping of a seat.
+    pub(crate) fn ping_time(self, seat: Seat) -> Option<u64>
+        ensures { let r = self.entry in SomeIff result (seat.0 < r.sizes.seats) (seat_ping r.sizes.seats r.sizes.numbers r.memory.now seat.0).time }
+    {
+        let at = self.seat_start(seat)? + PING_IN_SEAT;
+        Some(read_word(self.memory, at))
+    }
+
+    // The number of the ping of a seat that is outstanding.
+    pub(crate) fn outstanding(self, seat: Seat) -> Option<u64>
+        ensures { let r = self.entry in SomeIff result (seat.0 < r.sizes.seats) (seat_ping r.sizes.seats r.sizes.numbers r.memory.now seat.0).number }
+    {
+        let at = self.seat_start(seat)? + OUTSTANDING_IN_SEAT;
+        Some(read_word(self.memory, at))
+    }
+
+    // Where the table of routes of a seat stands, and where it ends.
+    pub(crate) fn routes_span(self, seat: Seat) -> Option<(usize, usize)>
+        ensures is { let r = self.entry in SomeIff result (seat.0 < r.sizes.seats) (routes_start r.sizes.seats r.sizes.numbers seat.0, routes_end r.sizes.seats r.sizes.numbers seat.0) }
+        ensures within { let r = self.entry in IfSome result (λ span. (span.0 ≤ span.1) × (span.1 ≤ length r.memory.now)) }
+    {
+        let start = self.seat_start(seat)?;
+        Some((start + ROUTES_IN_SEAT, start + seat_bytes(self.sizes)))
+    }
+
+    // The table of routes of a seat.
+    pub(crate) fn routes(self, seat: Seat) -> Option<&'a [u8]>
+        ensures { let r = self.entry in MatchOption result (r.sizes.seats ≤ seat.0) (λ t. (seat.0 < r.sizes.seats) × (t.now ≡ routes_table r.sizes.seats r.sizes.numbers r.memory.now seat.0)) }
+    {
+        let (at, end) = self.routes_span(seat)?;
+        Some(&self.memory[at..end])
+    }
+
+    // How the record of a seat that is taken begins: its key, the clock's bytes, none outstanding, and no route. Document 02: "An arrival starts with the last
+    // clock as its ping time."
+    pub(crate) fn new_seat(self, key: Key) -> [u8; NEW_SEAT]
+        ensures { result ≡ new_seat (word_at 2 self.entry.memory.now) key.0 }
+    {
+        let mut record = [0u8; NEW_SEAT];
+        record[PING_IN_SEAT..OUTSTANDING_IN_SEAT].copy_from_slice(
+            &self.memory[CLOCK_START..SEATS_START],
+        );
+        record[0..Key::BYTES].copy_from_slice(&key.0);
+        record
+    }
 }
 
-// The number of the ping of a seat that is outstanding.
-pub(crate) fn outstanding(memory: &[u8], seats: usize, numbers: usize, seat: usize) -> u64
-    requires { (fits_room seats numbers memory.now ≡ true) × (seat < seats) }
-    ensures { result ≡ (seat_ping seats numbers memory.now seat).number }
+// Makes memory an empty room of these sizes, and tells whether it could: where the memory is too short nothing changes. The clock is 0, and the table of seats
+// lists none: its count, the first byte, is 0.
+pub(crate) fn make_empty(memory: &mut [u8], sizes: Sizes) -> bool
+    ensures { MakesEmpty sizes.seats sizes.numbers memory.old memory.new result }
 {
-    read_word(memory, outstanding_start(seats, numbers, seat))
-}
-
-// Writes the header of a room of these sizes, whose clock is 0, and a table of seats that lists none: its count, the first byte, is 0.
-pub(crate) fn write_empty(memory: &mut [u8], seats: usize, numbers: usize)
-    requires { fits_room seats numbers memory.old ≡ true }
-    ensures { memory.new ≡ emptied seats numbers memory.old }
-{
-    memory[SEATS_BYTE] = seats as u8;
-    memory[NUMBERS_BYTE] = numbers as u8;
+    if !fits(memory, sizes) {
+        return false;
+    }
+    // at most 40 and 240
+    memory[SEATS_BYTE] = sizes.seats as u8;
+    memory[NUMBERS_BYTE] = sizes.numbers as u8;
     memory[SEATS_START] = 0;
     write_word(memory, CLOCK_START, 0);
-}
-
-// How the record of a seat that is taken begins: its key, the clock's bytes, none outstanding, and no route. Document 02: "An arrival starts with the last
-// clock as its ping time."
-pub(crate) fn new_seat(memory: &[u8], key: Key) -> [u8; NEW_SEAT]
-    requires { 10 ≤ length memory.now }
-    ensures { result ≡ new_seat (word_at 2 memory.now) key.0 }
-{
-    let mut record = [0u8; NEW_SEAT];
-    record[PING_IN_SEAT..OUTSTANDING_IN_SEAT].copy_from_slice(&memory[CLOCK_START..SEATS_START]);
-    key.write(&mut record[0..Key::BYTES]);
-    record
+    true
 }

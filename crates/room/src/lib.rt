@@ -13,3 +13,4 @@ pub mod peer;
 pub mod whole;
 
 pub use empty::Room;
+pub use layout::Sizes;

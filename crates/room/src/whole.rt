@@ -1,84 +1,55 @@
 // The test of a lent room: a pass over what is in use, a comparison of each seat's ping time with the clock, and a search where a route begins like its seat's own
 // key.
-ghost use Rattle.std.specs.Prelude.{◌≡◌, true, ◌<◌};
+ghost use Rattle.std.specs.Prelude.{◌≡◌, true, ◌&&◌, ltb};
 ghost use Rattle.table_laws.specs.Table.{listed, table_whole};
-ghost use Rattle.room_laws.specs.Layout.{seat_bytes, fits_room, seat_table};
+ghost use Rattle.room_laws.specs.Layout.{seat_bytes, seat_table};
 ghost use Rattle.room_laws.specs.View.{clock_in};
-ghost use Rattle.room_laws.specs.Whole.{seat_routes_whole, seat_whole, seats_whole, room_whole};
+ghost use Rattle.room_laws.specs.Whole.{seat_whole, seats_whole, room_whole};
 
-use crate::layout;
-use key::Key;
+use crate::layout::{Lent, Sizes};
+use seat::Seat;
 
-// Whether the table of seats keeps its rules.
-fn seats_whole(memory: &[u8], seats: usize, numbers: usize) -> bool
-    requires { fits_room seats numbers memory.now ≡ true }
-    ensures { result ≡ table_whole seats (seat_bytes numbers) (seat_table seats numbers memory.now) }
+// Whether there is such a seat, the table of its routes keeps its rules and does not list the seat's own key, and its ping time is not after the clock, which
+// is `clock`. Document 02: "A room where a seat names its own key is no longer whole." and "A ping time after the clock makes a room not whole."
+#[tactic(auto, unfolding(room_laws::specs::Whole::seat_whole, room_laws::specs::Whole::seat_ping_whole, room_laws::specs::Whole::seat_routes_whole))]
+fn seat_whole(room: Lent, clock: u64, seat: Seat) -> bool
+    requires { clock ≡ clock_in room.memory.now }
+    ensures { let r = room.entry in result ≡ (ltb seat.0 r.sizes.seats && seat_whole r.sizes.seats r.sizes.numbers r.memory.now seat.0) }
 {
-    let width = layout::seat_bytes(numbers);
-    table::is_whole(layout::seat_table(memory, seats, numbers), seats, width)
-}
-
-// Whether the table of routes of a seat keeps its rules and does not list the seat's own key: document 02, "A room where a seat names its own key is no
-// longer whole."
-fn routes_whole(memory: &[u8], seats: usize, numbers: usize, seat: usize) -> bool
-    requires { (fits_room seats numbers memory.now ≡ true) × (seat < seats) }
-    ensures { result ≡ seat_routes_whole seats numbers memory.now seat }
-{
-    let width = layout::seat_bytes(numbers);
-    let own = table::key_at(
-        layout::seat_table(memory, seats, numbers),
-        seats,
-        width,
-        seat,
-    );
-    table::is_whole_without(
-        layout::routes_table(memory, seats, numbers, seat),
-        numbers,
-        Key::BYTES,
-        own,
-    )
-}
-
-// Whether that is so and the ping time of the seat is not after the clock, which is `clock`: document 02, "A ping time after the clock makes a room not whole."
-fn seat_whole(memory: &[u8], seats: usize, numbers: usize, clock: u64, seat: usize) -> bool
-    requires { (fits_room seats numbers memory.now ≡ true) × (seat < seats) × (clock ≡ clock_in memory.now) }
-    ensures { result ≡ seat_whole seats numbers memory.now seat }
-{
-    if clock < layout::ping_time(memory, seats, numbers, seat) {
+    let Some(time) = room.ping_time(seat) else {
         return false;
-    }
-    routes_whole(memory, seats, numbers, seat)
+    };
+    let Some(routes) = room.routes(seat) else {
+        return false;
+    };
+    time <= clock && table::is_whole_without(routes, room.sizes.routes_shape(), room.key(seat))
 }
 
 // Whether that is so of each seat that is taken.
-fn each_whole(memory: &[u8], seats: usize, numbers: usize) -> bool
-    requires { (fits_room seats numbers memory.now ≡ true) × (table_whole seats (seat_bytes numbers) (seat_table seats numbers memory.now) ≡ true) }
-    ensures { result ≡ seats_whole seats numbers memory.now (listed seats (seat_table seats numbers memory.now)) }
+fn each_whole(room: Lent) -> bool
+    requires { table_whole room.sizes.seats (seat_bytes room.sizes.numbers) (seat_table room.sizes.seats room.sizes.numbers room.memory.now) ≡ true }
+    ensures { let r = room.entry in result ≡ seats_whole r.sizes.seats r.sizes.numbers r.memory.now (listed r.sizes.seats (seat_table r.sizes.seats r.sizes.numbers r.memory.now)) }
 {
-    let clock = layout::clock(memory);
-    let taken = table::used(layout::seat_table(memory, seats, numbers), seats);
-    let mut i = 0;
-    while i < taken.len() {
-        if !seat_whole(memory, seats, numbers, clock, taken[i] as usize) {
-            return false;
-        }
-        i += 1;
-    }
-    true
+    let clock = room.clock();
+    table::used(room.seats(), room.sizes.seats)
+        .iter()
+        .all(|&seat| seat_whole(room, clock, Seat(seat)))
+}
+
+// Whether the table of seats keeps its rules, and that is so.
+fn seats_whole(room: Lent) -> bool
+    ensures { let r = room.entry in let t = seat_table r.sizes.seats r.sizes.numbers r.memory.now in result ≡ (table_whole r.sizes.seats (seat_bytes r.sizes.numbers) t && seats_whole r.sizes.seats r.sizes.numbers r.memory.now (listed r.sizes.seats t)) }
+{
+    table::is_whole(room.seats(), room.seats_shape()) && each_whole(room)
 }
 
 // Whether memory holds a whole room of these sizes.
-pub fn is_whole(memory: &[u8], seats: usize, numbers: usize) -> bool
-    ensures { result ≡ room_whole seats numbers memory.now }
+#[tactic(auto, unfolding(room_laws::specs::Whole::room_whole))]
+pub fn is_whole(memory: &[u8], sizes: Sizes) -> bool
+    ensures { result ≡ room_whole sizes.seats sizes.numbers memory.now }
 {
-    if !layout::fits(memory, seats, numbers) {
-        return false;
+    match Lent::new(memory, sizes) {
+        Some(room) => room.header_right() && seats_whole(room),
+        None => false,
     }
-    if !layout::header_right(memory, seats, numbers) {
-        return false;
-    }
-    if !seats_whole(memory, seats, numbers) {
-        return false;
-    }
-    each_whole(memory, seats, numbers)
 }

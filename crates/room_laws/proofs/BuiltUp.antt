@@ -15,7 +15,7 @@ use Rattle.key.proofs.Same.{same_refl}
 use Rattle.rules.specs.Room.{Sizes, Key, Route, free, wants, Ping, Held, Seat, vacant, holds, Room, newcomer, set_ping, set_routes, set_route, set_seats, set_seat, empty_room, seat_of, route_to, seat_at, sizes_of}
 use Rattle.rules.specs.Outcome.{Change, seat_taken, seat_emptied, route_given, route_freed, clock_set, ping_sent, ping_answered, with_route, with_ping, apply}
 use Rattle.rules.specs.Whole.{Whole}
-use Rattle.rules.proofs.FindLaws.{Once, clash, set_default, set_all, once_set, find_clear, seat_set, held_within}
+use Rattle.rules.proofs.FindLaws.{Once, set_default, set_all, once_set, find_clear, seat_set, held_within}
 use Rattle.rules.proofs.Whole.{key_once, wanted_once, own_unnamed}
 use Rattle.room_laws.specs.Layout.{word_bytes}
 use Rattle.room_laws.specs.Fits.{Fit, takes, gives, sets, pings}
@@ -50,7 +50,7 @@ put_again : {A : Type 0} (l : List A) (i : ℕ) (x y d : A) → get_or l i d ≡
 put_again l i x y d e = set-set l i x y ∙ ap (set l i) (sym e) ∙ set-get_or l i d
 
 wanted_within : (routes : List Route) (j : ℕ) (key : Key) → get_or routes j free ≡ wants key → j < length routes
-wanted_within [] j key e = clash (cc)
+wanted_within [] j key e = cc
 wanted_within (r ∷ routes) zero key e = omega arith
 wanted_within (r ∷ routes) (suc j) key e = let h = wanted_within routes j key e in omega arith
 
@@ -114,7 +114,7 @@ unfolding route_to
 good_freed K n own routes j g = record {
   long = length-set routes j free ∙ g.long;
   once = λ key. once_set (route_to key) free routes j free (g.once key) (λ e. absurd (false≢true e));
-  keys = λ i key. set_all (λ (r : Route). r ≡ wants key → K key) free routes j free (λ e. clash (cc)) (λ i. g.keys i key) i;
+  keys = λ i key. set_all (λ (r : Route). r ≡ wants key → K key) free routes j free (λ e. cc) (λ i. g.keys i key) i;
   others = set_all (λ (r : Route). route_to own r ≡ false) free routes j free refl g.others;
 }
 

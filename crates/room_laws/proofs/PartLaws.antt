@@ -1,25 +1,19 @@
 -- Parts of bytes: a part of a beginning, and what stands before, in and behind a part that is replaced.
-use mathlib.Core.Path.{◌≡◌, refl, sym, ap, ◌∙◌}
-use mathlib.Core.List.{List, [], ◌∷◌, ◌++◌}
-use Prim.Native.Nat.{ℕ, zero, suc, ◌+◌, ◌≤◌}
+use mathlib.Core.Path.{◌≡◌, sym, ap, ◌∙◌}
+use mathlib.Core.List.{List, ◌++◌}
+use Prim.Native.Nat.{ℕ, ◌+◌, ◌-◌, ◌≤◌}
 use native.Mathlib.Omega.{arith}
 use lib.ListN.{length, take, drop}
-use lib.Seq.{length-take-le, take-nil, take_at, drop_at, take-take, drop-drop}
+use lib.Seq.{length-take-le, take_at, drop_at, take-take, drop-drop}
+use Rattle.std.proofs.lemmas.List.{drop-take}
 use Rattle.table_laws.specs.Bytes.{splice}
-
--- behind m of the first m + n: n of what stands behind m
-pub drop_of_take : (m n c : ℕ) (l : List ℕ) → c ≡ m + n → drop m (take c l) ≡ take n (drop m l)
-drop_of_take zero n c l e = ap (λ (x : ℕ). take x l) (let q : c ≡ n = omega arith in q)
-drop_of_take (suc m) n zero l e = absurd (omega arith)
-drop_of_take (suc m) n (suc c) [] e = sym (take-nil n)
-drop_of_take (suc m) n (suc c) (x ∷ l) e = drop_of_take m n c l (omega arith)
 
 -- a part that ends within a list's beginning is that part of the list
 pub part_of_take : (a w c : ℕ) (l : List ℕ) → a + w ≤ c → take w (drop a (take c l)) ≡ take w (drop a l)
-part_of_take zero w c l h = take-take w c l (omega arith)
-part_of_take (suc a) w zero l h = absurd (omega arith)
-part_of_take (suc a) w (suc c) [] h = refl
-part_of_take (suc a) w (suc c) (x ∷ l) h = part_of_take a w c l (omega arith)
+part_of_take a w c l h =
+    ap (λ (x : ℕ). take w (drop a (take x l))) (let q : c ≡ a + (c - a) = omega arith in q)
+    ∙ ap (take w) (drop-take a (c - a) l)
+    ∙ take-take w (c - a) (drop a l) (omega arith)
 
 -- ---- the w bytes from `at` on replaced by `new`
 

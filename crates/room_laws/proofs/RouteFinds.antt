@@ -14,7 +14,7 @@ use Rattle.table_laws.proofs.Listed.{whole_rising}
 use Rattle.table_laws.proofs.FitsLaws.{table_fits, found_fits}
 use Rattle.table_laws.proofs.FoundLaws.{found_most}
 use Rattle.rules.specs.Room.{Key, free, none, at, find, route_to, is_free}
-use Rattle.rules.proofs.FindLaws.{clash, free_not_to}
+use Rattle.rules.proofs.FindLaws.{free_not_to}
 use Rattle.room_laws.specs.Layout.{key_bytes}
 use Rattle.room_laws.specs.View.{route_in, view_routes}
 use Rattle.room_laws.specs.Lookup.{place_in}
@@ -52,7 +52,7 @@ module _ (n : ℕ) (r : List ℕ) (t : Table n key_bytes r) (o : table_whole n k
   none_without e = rw o (go (ltb place n) refl (sym finds_place ∙ e))
     where
       go : (u : Bool) → ltb place n ≡ u → place_in n place ≡ none → eqb place n ≡ true
-      go true h q = let z : at place ≡ none = rw h at q in clash (cc)
+      go true h q = let z : at place ≡ none = rw h at q in cc
       go false h q =
           let least = ltb-false place n h in
           let most = found_most n (key_at n key_bytes r) key (listed n r) (rising_below n (key_at n key_bytes r) (listed n r) (whole_rising n key_bytes r o)) in

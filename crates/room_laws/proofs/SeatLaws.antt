@@ -15,13 +15,13 @@ use Rattle.key.proofs.Same.{same_refl}
 use Rattle.table_laws.specs.Bytes.{member, index_of}
 use Rattle.table_laws.specs.Table.{Table, count, listed, record_at, key_at, table_without, place_of, put, put_in, freed, freed_in}
 use Rattle.table_laws.proofs.Listed.{whole_count}
-use Rattle.table_laws.proofs.WithoutLaws.{without_none}
+use Rattle.table_laws.proofs.WithoutLaws.{without_empty}
 use Rattle.table_laws.proofs.Places.{member_in}
 use Rattle.table_laws.proofs.TableLaws.{key_record, put_listed, put_other, put_same, length_put, view_put, whole_put, freed_listed, freed_record, length_freed, view_freed, whole_freed}
 use Rattle.table_laws.proofs.Distinct.{member_less, unlisted_leaves_room}
 use Rattle.table_laws.proofs.FitsLaws.{freed_in_lem}
 use Rattle.table_laws.proofs.PutLaws.{put_in_is_put}
-use Rattle.table_laws.proofs.NoneListed.{view_none}
+use Rattle.table_laws.proofs.NoneListed.{listed_none, view_none}
 use Rattle.rules.specs.Room.{sizes_of, Key, Route, free, Ping, Held, Seat, vacant, holds, none_since, newcomer, set_key, set_ping, set_routes, set_seats, set_seat, none, find, seat_of, seat_at}
 use Rattle.rules.proofs.FindLaws.{find_miss}
 use Rattle.room_laws.specs.Layout.{word_bytes, clock_start, key_bytes, ping_in_seat, outstanding_in_seat, routes_in_seat, seat_bytes, seats_bytes, fits_room, seat_table}
@@ -79,7 +79,7 @@ module _ (clock : List ℕ) (c : length clock ≡ word_bytes) (key : Key) (e : l
     new_whole : (n : ℕ) → SeatRecordWhole n (number_of clock) (new_seat clock key ++ x)
     new_whole n =
         ap₂ (λ (p : Ping) (t : List ℕ). leb p.time (number_of clock) && table_without n key_bytes t (take key_bytes (new_seat clock key ++ x))) new_ping new_routes
-        ∙ rw (le-leb (number_of clock) (number_of clock) (omega arith)) (without_none n key_bytes (0 ∷ x) (take key_bytes (new_seat clock key ++ x)) refl)
+        ∙ rw (le-leb (number_of clock) (number_of clock) (omega arith)) (without_empty n key_bytes (0 ∷ x) (take key_bytes (new_seat clock key ++ x)) (omega arith) (ap length (listed_none n (0 ∷ x) refl)))
 
     new_seat_lem : (s n : ℕ) → seat_in n true (new_seat clock key ++ x) ≡ holds (newcomer (sizes_of s n) (number_of clock) key)
     unfolding seat_in

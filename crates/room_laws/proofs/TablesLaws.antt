@@ -9,9 +9,10 @@ use lib.Seq.{take-take, drop-drop}
 use Rattle.wire.specs.Numbers.{number_of}
 use Rattle.table_laws.specs.Table.{table_bytes, record_at}
 use Rattle.table_laws.proofs.Listed.{row_fits}
+use Rattle.std.proofs.lemmas.List.{drop-take}
 use Rattle.room_laws.specs.Layout.{room_header, key_bytes, word_bytes, ping_in_seat, outstanding_in_seat, routes_bytes, routes_in_seat, seat_bytes, fits_room, seat_table, seat_start, routes_table}
 use Rattle.room_laws.specs.View.{record_ping, seat_ping}
-use Rattle.room_laws.proofs.PartLaws.{drop_of_take, part_of_take}
+use Rattle.room_laws.proofs.PartLaws.{part_of_take}
 
 -- whether bytes fit a room is a matter of their length
 pub fits_same : (s n : ℕ) (c b : List ℕ) → length c ≡ length b → fits_room s n c ≡ fits_room s n b
@@ -27,7 +28,7 @@ unfolding record_at
 end_of_record s m n w i h b e l =
     let r = row_fits s w i l in
     let t : List ℕ = take (table_bytes s w) (drop h b) in
-    drop_of_take m n w (drop (i * w) (drop (1 + s) t)) e
+    ap (λ (k : ℕ). drop m (take k (drop (i * w) (drop (1 + s) t)))) e ∙ drop-take m n (drop (i * w) (drop (1 + s) t))
     ∙ ap (take n) (ap (drop m) (drop-drop (i * w) (1 + s) t) ∙ drop-drop m (1 + s + i * w) t)
     ∙ part_of_take (1 + s + i * w + m) n (table_bytes s w) (drop h b) (omega arith)
     ∙ ap (take n) (drop-drop (1 + s + i * w + m) h b ∙ ap (λ (x : ℕ). drop x b) (let q : h + (1 + s + i * w + m) ≡ h + (1 + s + i * w) + m = omega arith in q))

@@ -12,7 +12,6 @@ use Rattle.table_laws.specs.Bytes.{member}
 use Rattle.table_laws.specs.Table.{listed, record_at, view}
 use Rattle.table_laws.proofs.TableLaws.{view_at, length_view, view_past}
 use Rattle.rules.specs.Room.{Key, Route, free, wants, Held, vacant, holds, route_to, seat_at}
-use Rattle.rules.proofs.FindLaws.{clash}
 use Rattle.room_laws.specs.Layout.{key_bytes, seat_bytes, seat_table}
 use Rattle.room_laws.specs.View.{route_in, view_routes, held_in, seat_in, view_room}
 
@@ -26,21 +25,21 @@ wants_passes key y e = rw e (same_refl key)
 route_listed : (t : Bool) (r : List ℕ) (k : Key) → route_in t r ≡ wants k → (t ≡ true) × (r ≡ k)
 unfolding route_in
 route_listed true r k e = (refl, cc)
-route_listed false r k e = clash (cc)
+route_listed false r k e = cc
 
 route_unlisted : (t : Bool) (r : List ℕ) → route_in t r ≡ free → t ≡ false
 unfolding route_in
-route_unlisted true r e = clash (cc)
+route_unlisted true r e = cc
 route_unlisted false r e = refl
 
 seat_listed : (n : ℕ) (t : Bool) (r : List ℕ) (held : Held) → seat_in n t r ≡ holds held → (t ≡ true) × (held_in n r ≡ held)
 unfolding seat_in
 seat_listed n true r held e = (refl, cc)
-seat_listed n false r held e = clash (cc)
+seat_listed n false r held e = cc
 
 seat_unlisted : (n : ℕ) (t : Bool) (r : List ℕ) → seat_in n t r ≡ vacant → t ≡ false
 unfolding seat_in
-seat_unlisted n true r e = clash (cc)
+seat_unlisted n true r e = cc
 seat_unlisted n false r e = refl
 
 -- ---- the routes of a table
@@ -69,7 +68,7 @@ module _ (n : ℕ) (r : List ℕ) where
           let l = ltb-true j n h in
           let q = route_listed (member j (listed n r)) (record_at n key_bytes r j) k (sym (route_at j l) ∙ e) in
           (l, q.0, q.1)
-      go false h = let q = route_past j (ltb-false j n h) in clash (cc)
+      go false h = let q = route_past j (ltb-false j n h) in cc
 
 -- ---- the seats of a room
 
@@ -104,4 +103,4 @@ module _ (s n : ℕ) (b : List ℕ) where
           let l = ltb-true i s h in
           let q = seat_listed n (member i (listed s (seat_table s n b))) (record_at s (seat_bytes n) (seat_table s n b) i) held (sym (seat_at_lem i l) ∙ e) in
           (l, q.0, q.1)
-      go false h = let q = seat_past i (ltb-false i s h) in clash (cc)
+      go false h = let q = seat_past i (ltb-false i s h) in cc

@@ -9,7 +9,6 @@ use Rattle.rules.specs.Outcome.{outcome, room_after}
 use Rattle.rules.specs.History.{Event, event, transcript}
 use Rattle.rules.specs.Transcript.{Past, Start, from_empty}
 use Rattle.rules.specs.After.{past_after, Tied}
-use Rattle.rules.proofs.FindLaws.{clash}
 use Rattle.rules.proofs.Whole.{whole_after, whole_empty}
 use Rattle.rules.proofs.Tied.{tied_after, tied_empty}
 
@@ -19,8 +18,8 @@ module _ (sizes : Sizes) (start : Start) (P : Past → Event → Type 0)
   pub each_event : (past : Past) (room : Room) → Whole sizes room → Tied start past room
       → (calls : List Call) (before : List Event) (e : Event) (later : List Event) → transcript sizes room calls ≡ before ++ (e ∷ later) → P (past_after past before) e
   unfolding transcript past_after
-  each_event past room whole tie [] [] e later t = clash (cc)
-  each_event past room whole tie [] (b ∷ before) e later t = clash (cc)
+  each_event past room whole tie [] [] e later t = absurd (cc)
+  each_event past room whole tie [] (b ∷ before) e later t = absurd (cc)
   each_event past room whole tie (call ∷ calls) [] e later t =
       let q : event room call ≡ e = cc in
       subst (P past) q (each past room whole tie call)
@@ -35,7 +34,7 @@ module _ (sizes : Sizes) (start : Start) (P : Past → Type 0) (each : (past : P
       → (calls : List Call) (before after : List Event) → transcript sizes room calls ≡ before ++ after → P (past_after past before)
   unfolding transcript past_after
   each_moment past room whole tie calls [] after t = each past room whole tie
-  each_moment past room whole tie [] (b ∷ before) after t = clash (cc)
+  each_moment past room whole tie [] (b ∷ before) after t = absurd (cc)
   each_moment past room whole tie (call ∷ calls) (b ∷ before) after t =
       let q : event room call ≡ b = cc in
       rw (← q)

@@ -51,24 +51,24 @@ module _ {A : Type 0} where
 
   pub find_within : (test : A → Bool) (l : List A) (i : ℕ) → find test l ≡ at i → i < length l
   unfolding find or_later
-  find_within test [] i e = clash (cc)
+  find_within test [] i e = absurd (cc)
   find_within test (x ∷ l) i e = go (test x) (find test l) (find_within test l) e
     where
       go : (t : Bool) (f : Found) → ((j : ℕ) → f ≡ at j → j < length l) → or_later t f ≡ at i → i < suc (length l)
       go true f k h = let q : 0 ≡ i = cc in omega arith
-      go false none k h = clash (cc)
+      go false none k h = absurd (cc)
       go false (at j) k h = let q : suc j ≡ i = cc in omega (arith, k j refl)
 
   -- none before it passes
   pub find_before : (test : A → Bool) (d : A) (l : List A) (i : ℕ) → find test l ≡ at i → (j : ℕ) → j < i → test (get_or l j d) ≡ false
   unfolding find or_later
-  find_before test d [] i e j h = clash (cc)
+  find_before test d [] i e j h = absurd (cc)
   find_before test d (x ∷ l) i e j h = go (test x) refl (find test l) (find_before test d l) e j h
     where
       go : (t : Bool) → test x ≡ t → (f : Found) → ((i : ℕ) → f ≡ at i → (j : ℕ) → j < i → test (get_or l j d) ≡ false)
           → or_later t f ≡ at i → (j : ℕ) → j < i → test (get_or (x ∷ l) j d) ≡ false
       go true ht f k q j h = let z : 0 ≡ i = cc in absurd (omega arith)
-      go false ht none k q j h = clash (cc)
+      go false ht none k q j h = absurd (cc)
       go false ht (at m) k q zero h = ht
       go false ht (at m) k q (suc j) h = let z : suc m ≡ i = cc in k m refl j (omega arith)
 
@@ -80,10 +80,10 @@ module _ {A : Type 0} where
     where
       go : (t : Bool) → test x ≡ t → (f : Found) → (f ≡ none → (i : ℕ) → i < length l → test (get_or l i d) ≡ false)
           → or_later t f ≡ none → (i : ℕ) → i < suc (length l) → test (get_or (x ∷ l) i d) ≡ false
-      go true ht f k q i h = clash (cc)
+      go true ht f k q i h = absurd (cc)
       go false ht none k q zero h = ht
       go false ht none k q (suc i) h = k refl i (omega arith)
-      go false ht (at m) k q i h = clash (cc)
+      go false ht (at m) k q i h = absurd (cc)
 
   -- nothing is found in a list of things that do not pass
   pub find_replicate : (test : A → Bool) (n : ℕ) (x : A) → test x ≡ false → find test (replicate n x) ≡ none
@@ -209,7 +209,7 @@ unfolding seat_at
 held_within room seat held e = go room.seats seat e
   where
     go : (seats : List Seat) (seat : ℕ) → get_or seats seat vacant ≡ holds held → seat < length seats
-    go [] seat e = clash (cc)
+    go [] seat e = absurd (cc)
     go (s ∷ seats) zero e = omega arith
     go (s ∷ seats) (suc seat) e = let h = go seats seat e in omega arith
 
@@ -246,7 +246,7 @@ unfolding route_at
 wanted_high routes number wanted e = go (ltb number first_number) refl e
   where
     go : (t : Bool) → ltb number first_number ≡ t → cond t free (get_or routes (number - first_number) free) ≡ wants wanted → number ≡ 16 + (number - 16)
-    go true h q = clash (cc)
+    go true h q = absurd (cc)
     go false h q = let l = ltb-false number 16 h in omega arith
 
 -- and its place has the key

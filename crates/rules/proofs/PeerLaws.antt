@@ -10,7 +10,7 @@ use Rattle.key.proofs.Same.{same_refl}
 use Rattle.rules.specs.Room.{Sizes, Key, free, wants, Held, vacant, holds, Room, set_key, Found, none, at, find, seat_of, route_to, routes_of, seat_at, route_at, first_number, number_of_place, joined}
 use Rattle.rules.specs.Whole.{Whole}
 use Rattle.rules.specs.Outcome.{joined_by, peer_at, peer_in, peer}
-use Rattle.rules.proofs.FindLaws.{clash, find_hit, find_once, held_of, routes_held, seat_of_holds, route_to_wants, route_at_place, wanted_place}
+use Rattle.rules.proofs.FindLaws.{find_hit, find_once, held_of, routes_held, seat_of_holds, route_to_wants, route_at_place, wanted_place}
 use Rattle.rules.proofs.Whole.{wanted_once, key_found}
 
 -- a peer sits in another seat, and its route at the place names the key
@@ -24,7 +24,7 @@ module _ (room : Room) (seat : ℕ) (key wanted : Key) where
   place_found : (other place i : ℕ) → seat ≢ i → seat_at room i ≡ holds (set_key (held_of (seat_at room i)) wanted) → (f : Found) → find (route_to key) (held_of (seat_at room i)).routes ≡ f
       → joined_by i f ≡ joined other place → PeerHas room seat key wanted other (number_of_place place)
   unfolding joined_by
-  place_found other place i ne sits none q h = clash (cc)
+  place_found other place i ne sits none q h = absurd (cc)
   place_found other place i ne sits (at j) q h =
       let a : i ≡ other = cc in
       let b : j ≡ place = cc in
@@ -38,11 +38,11 @@ module _ (room : Room) (seat : ℕ) (key wanted : Key) where
 
   seat_found_lem : (other place : ℕ) (f : Found) → find (seat_of wanted) room.seats ≡ f → peer_in f room seat key ≡ joined other place → PeerHas room seat key wanted other (number_of_place place)
   unfolding peer_in peer_at seat_at
-  seat_found_lem other place none q h = clash (cc)
+  seat_found_lem other place none q h = absurd (cc)
   seat_found_lem other place (at i) q h = go (eqb seat i) refl h
     where
       go : (t : Bool) → eqb seat i ≡ t → peer_at t room key i ≡ joined other place → PeerHas room seat key wanted other (number_of_place place)
-      go true e h = clash (cc)
+      go true e h = absurd (cc)
       go false e h =
           place_found other place i (eqb-false seat i e) (seat_of_holds wanted (seat_at room i) (find_hit (seat_of wanted) vacant room.seats i q))
           (find (route_to key) (held_of (seat_at room i)).routes) refl (rw (routes_held (seat_at room i)) at h)

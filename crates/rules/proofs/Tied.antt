@@ -26,7 +26,7 @@ use Rattle.rules.specs.Outcome.{with_route, without_ping, apply, apply_all, refu
 use Rattle.rules.specs.History.{event, transcript}
 use Rattle.rules.specs.Transcript.{Past, Maker, nobody, client_of, Start, from_empty, is_accepted, clock_after, clock_of, ping_after_arrival, ping_after_packet, ping_after, ping_of, put_out_if, put_out, is_among, sits_after_arrival, sits_after, sitter, maker, number_answered, stands_after_packet, stands_after_own, stands_after, stands}
 use Rattle.rules.specs.After.{room_after_all, past_after, client_in, routes_in, routes_by, Tied, start_of}
-use Rattle.rules.proofs.FindLaws.{clash, route_to_wants, find_hit, find_within, find_replicate, get_d_all, held_of, seat_set, seat_set_other, held_within, free_not_to, route_none, route_at_place, wanted_high, route_set_other, route_set, route_freed}
+use Rattle.rules.proofs.FindLaws.{route_to_wants, find_hit, find_within, find_replicate, get_d_all, held_of, seat_set, seat_set_other, held_within, free_not_to, route_none, route_at_place, wanted_high, route_set_other, route_set, route_freed}
 use Rattle.rules.proofs.Whole.{whole_after, whole_empty}
 use Rattle.rules.proofs.ComesBack.{arrives_new}
 use Rattle.rules.proofs.SeatSet.{seat_put, client_set, client_kept, routes_else, routes_mine, routes_put, routes_left}
@@ -365,7 +365,7 @@ module _ (sizes : Sizes) (start : Start) (past : Past) (room : Room) (whole : Wh
   seat_holds seat key e = go (seat_at room seat) (sym (tie.sits seat) ∙ e)
     where
       go : (s : Seat) → client_in s ≡ client_of key → s ≡ holds (set_key (held_of s) key)
-      go vacant q = clash (cc)
+      go vacant q = absurd (cc)
       go (holds held) q = let z : held.key ≡ key = cc in ap (λ (k : Key). holds (set_key held k)) z
 
   module _ (seat : ℕ) (held : Held) (sits : seat_at room seat ≡ holds held) where

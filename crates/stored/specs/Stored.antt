@@ -1,12 +1,14 @@
 -- Stored calls. Document 01, "Examples": "A stored call is 1 byte for the call (0 arrive, 1 leave, 2 packet), 1 for the seat (0 where it names none), a
 -- 2-byte length and the bytes the call is given; no other form is one."
-use Rattle.std.specs.Prelude.{cond, List, [], ◌∷◌, ◌++◌, ℕ, ◌<◌, eqb, leb, length, get_or, take, drop}
+use Rattle.std.specs.Prelude.{cond, List, [], ◌∷◌, ◌++◌, ℕ, ◌<◌, eqb, leb, length, get_or, take, drop, Option, Some, None, Result, Ok, Err}
 use Rattle.wire.specs.Numbers.{Bytes, number_of, bytes_of}
 use Rattle.key.specs.Keys.{IsKey}
 use Rattle.rules.specs.Call.{Call, arrive, leave, packet_call, tick}
+use Rattle.stored.specs.declared.StoredCall.{StoredCall}
 use Rattle.stored.specs.declared.StoredCall.TheVariants.{Arrive, Leave, Packet}
-use Rattle.stored.specs.declared.StoredRead.{StoredRead}
-use Rattle.stored.specs.declared.StoredRead.TheVariants as code
+use Rattle.stored.specs.declared.StoredKind.{StoredKind}
+use Rattle.stored.specs.declared.StoredKind.TheVariants as kind
+use Rattle.stored.specs.declared.UnknownKind.{UnknownKind}
 
 -- ---- written
 
@@ -53,13 +55,17 @@ headed code seat size rest = cond (leb size (length rest)) (formed code seat (ta
 unfoldable pub first_call : List ℕ → First
 first_call bytes = cond (leb 4 (length bytes)) (headed (get_or bytes 0 0) (get_or bytes 1 0) (number_of (take 2 (drop 2 bytes))) (drop 4 bytes)) none
 
--- as the code has it: a key and a packet stand behind the head, and the packet's size is told
-unfoldable pub shown_call : Call → ℕ → StoredRead
-shown_call (arrive key) size = code.Call Arrive size
-shown_call (leave seat) size = code.Call (Leave (record { 0 = seat })) size
-shown_call (packet_call seat bytes) size = code.Call (Packet (record { 0 = seat }) (length bytes)) size
-shown_call (tick time number) size = code.None
+-- the kind of the call that a stored one with this first byte is
+abbrev pub kind_of : ℕ → Result StoredKind UnknownKind
+kind_of code = cond (eqb code 0) (Ok kind.Arrive) (cond (eqb code 1) (Ok kind.Leave) (cond (eqb code 2) (Ok kind.Packet) (Err (record { 0 = code }))))
 
-unfoldable pub shown_first : First → StoredRead
-shown_first none = code.None
+-- as the code has it: a key and a packet stand behind the head, and the packet's size is told
+unfoldable pub shown_call : Call → ℕ → Option (StoredCall × ℕ)
+shown_call (arrive key) size = Some (Arrive, size)
+shown_call (leave seat) size = Some (Leave (record { 0 = seat }), size)
+shown_call (packet_call seat bytes) size = Some (Packet (record { 0 = seat }) (length bytes), size)
+shown_call (tick time number) size = None
+
+unfoldable pub shown_first : First → Option (StoredCall × ℕ)
+shown_first none = None
 shown_first (call c) = shown_call c (length (stored_bytes c))

@@ -5,7 +5,7 @@
 #![tactic(auto)]
 
 ghost use Rattle.std.specs.Prelude.{◌≡◌};
-ghost use Rattle.stored.specs.Stored.{first_call, formed, shown_first};
+ghost use Rattle.stored.specs.Stored.{first_call, formed, kind_of, shown_first};
 
 use key::Key;
 use seat::Seat;
@@ -13,64 +13,63 @@ use seat::Seat;
 // The bytes before those that the call is given.
 pub const HEAD: usize = 4;
 
-const ARRIVE: u8 = 0;
+// Which call is stored: "1 byte for the call (0 arrive, 1 leave, 2 packet)".
+#[derive(Clone, Copy, PartialEq, Eq, Debug)]
+pub enum StoredKind {
+    Arrive = 0,
+    Leave = 1,
+    Packet = 2,
+}
 
-const LEAVE: u8 = 1;
+// A byte that no stored call begins with.
+#[derive(Clone, Copy, PartialEq, Eq, Debug)]
+pub struct UnknownKind(pub u8);
 
-const PACKET: u8 = 2;
+impl TryFrom<u8> for StoredKind {
+    type Error = UnknownKind;
+
+    ghost try_from_gives = { λ code kind. kind ≡ kind_of code };
+
+    fn try_from(code: u8) -> Result<Self, UnknownKind> {
+        match code {
+            0 => Ok(StoredKind::Arrive),
+            1 => Ok(StoredKind::Leave),
+            2 => Ok(StoredKind::Packet),
+            _ => Err(UnknownKind(code)),
+        }
+    }
+}
 
 // A call. The key of an arrival is the 32 bytes behind the head, and a packet as many as are told.
-#[derive(Clone, Copy)]
+#[derive(Clone, Copy, PartialEq, Eq, Debug)]
 pub enum StoredCall {
     Arrive,
     Leave(Seat),
     Packet(Seat, usize),
 }
 
-// What stands at the front of bytes: a call, and how many bytes it takes, or none.
-#[derive(Clone, Copy)]
-pub enum StoredRead {
-    Call(StoredCall, usize),
-    None,
-}
-
-// The call with these parts, where they are the form of one.
-fn formed(code: u8, seat: Seat, given: &[u8]) -> StoredRead
+// The call with these parts, where they are the form of one, and how many bytes it takes.
+#[tactic(auto, using(crate::proofs::FormLaws::lengths), unfolding(crate::specs::Stored::shown_first, crate::specs::Stored::shown_call, crate::specs::Stored::formed))]
+fn formed(code: u8, seat: Seat, given: &[u8]) -> Option<(StoredCall, usize)>
     ensures { result ≡ shown_first (formed code seat.0 given.now) }
 {
-    let end = HEAD + given.len();
-    match code {
-        ARRIVE => {
-            if seat.0 != 0 {
-                return StoredRead::None;
-            }
-            if given.len() != Key::BYTES {
-                return StoredRead::None;
-            }
-            StoredRead::Call(StoredCall::Arrive, end)
-        }
-        LEAVE => {
-            if given.len() != 0 {
-                return StoredRead::None;
-            }
-            StoredRead::Call(StoredCall::Leave(seat), end)
-        }
-        PACKET => StoredRead::Call(StoredCall::Packet(seat, given.len()), end),
-        _ => StoredRead::None,
-    }
+    let call = match StoredKind::try_from(code).ok()? {
+        StoredKind::Arrive if seat.0 == 0 && given.len() == Key::BYTES => StoredCall::Arrive,
+        StoredKind::Leave if given.is_empty() => StoredCall::Leave(seat),
+        StoredKind::Packet => StoredCall::Packet(seat, given.len()),
+        _ => return None,
+    };
+    Some((call, HEAD + given.len()))
 }
 
-// The stored call at the front of bytes, which more may follow.
-pub fn read(bytes: &[u8]) -> StoredRead
+// The stored call at the front of bytes, which more may follow, and how many bytes it takes.
+#[tactic(auto, unfolding(crate::specs::Stored::first_call, crate::specs::Stored::headed, crate::specs::Stored::shown_first, wire::specs::Numbers::number_of))]
+pub fn read(bytes: &[u8]) -> Option<(StoredCall, usize)>
     ensures { result ≡ shown_first (first_call bytes.now) }
 {
-    if bytes.len() < HEAD {
-        return StoredRead::None;
-    }
-    let size = wire::read_number(&bytes[2..HEAD]) as usize;
-    if bytes.len() - HEAD < size {
-        return StoredRead::None;
-    }
-    let end = HEAD + size;
-    formed(bytes[0], Seat(bytes[1]), &bytes[HEAD..end])
+    let [code, seat, high, low, rest @ ..] = bytes else {
+        return None;
+    };
+    let size = usize::from(u16::from_be_bytes([*high, *low]));
+    formed(*code, Seat(*seat), rest.get(..size)?)
 }

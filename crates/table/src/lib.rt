@@ -8,77 +8,80 @@
 #![tactic(auto)]
 
 ghost use Rattle.std.specs.Prelude.{◌≡◌};
-ghost use Rattle.table_laws.specs.Table.{fits_table, is_table, is_table_without, found, key_of_place, is_used, used_places, lowest_free, may_put, put_in, freed_in, may_overwrite, overwritten_in};
+ghost use Rattle.table_laws.specs.Table.{fits_table, is_table, is_table_without, found, place_below, key_of_place, is_used, used_places, lowest_free, may_put, put_in, freed_in, may_overwrite, overwritten_in};
 
 mod order;
 mod records;
 
 use key::Key;
+use records::Records;
 
 // A place is a byte of the order.
 pub const MOST_PLACES: usize = 255;
 
 pub const WIDEST_RECORD: usize = 65535;
 
+// What tells how long a table is and where each of its parts stands: how many places it has, and how many bytes each record takes.
+#[derive(Clone, Copy)]
+pub struct Shape {
+    pub places: usize,
+    pub width: usize,
+}
+
 // Whether the bytes are as long as a table of so many places, with records of such a width.
-pub fn fits(table: &[u8], places: usize, width: usize) -> bool
-    ensures { result ≡ fits_table places width table.now }
+pub fn fits(table: &[u8], shape: Shape) -> bool
+    ensures { result ≡ fits_table shape.places shape.width table.now }
 {
-    if MOST_PLACES < places {
+    if MOST_PLACES < shape.places {
         return false;
     }
-    if width < Key::BYTES {
+    if shape.width < Key::BYTES {
         return false;
     }
-    if WIDEST_RECORD < width {
+    if WIDEST_RECORD < shape.width {
         return false;
     }
-    table.len() == 1 + places + places * width
+    table.len() == 1 + shape.places + shape.places * shape.width
 }
 
 // Whether the bytes are a table that keeps its rules: each place listed is a place, and the keys listed strictly rise.
-pub fn is_whole(table: &[u8], places: usize, width: usize) -> bool
-    ensures { result ≡ is_table places width table.now }
+pub fn is_whole(table: &[u8], shape: Shape) -> bool
+    ensures { result ≡ is_table shape.places shape.width table.now }
 {
-    if !fits(table, places, width) {
+    let Some(records) = Records::of(table, shape) else {
         return false;
-    }
-    records::all_rise(table, places, width)
+    };
+    records.all_rise()
 }
 
 // Whether the bytes are such a table, and no place listed has the key.
-pub fn is_whole_without(table: &[u8], places: usize, width: usize, key: Key) -> bool
-    ensures { result ≡ is_table_without places width table.now key.0 }
+pub fn is_whole_without(table: &[u8], shape: Shape, key: Key) -> bool
+    ensures { result ≡ is_table_without shape.places shape.width table.now key.0 }
 {
-    if !fits(table, places, width) {
+    let Some(records) = Records::of(table, shape) else {
         return false;
-    }
-    let bytes = key.0;
-    records::all_rise_without(table, places, width, &bytes)
+    };
+    records.all_rise_without(&key.0)
 }
 
-// The place that has the key, or `places` where none has.
-pub fn find(table: &[u8], places: usize, width: usize, key: Key) -> usize
-    ensures { result ≡ found places width table.now key.0 }
+// The place that has the key, where one has.
+pub fn find(table: &[u8], shape: Shape, key: Key) -> Option<usize>
+    ensures { result ≡ place_below shape.places (found shape.places shape.width table.now key.0) }
 {
-    if !fits(table, places, width) {
-        return places;
-    }
-    let bytes = key.0;
-    records::place_of(table, places, width, &bytes)
+    Records::of(table, shape)?.place_of(&key.0)
 }
 
 // The key of a place, used or not; the key of zeros where there is no such place.
-pub fn key_at(table: &[u8], places: usize, width: usize, place: usize) -> Key
-    ensures { result.0 ≡ key_of_place places width table.now place }
+pub fn key_at(table: &[u8], shape: Shape, place: usize) -> Key
+    ensures { result.0 ≡ key_of_place shape.places shape.width table.now place }
 {
-    if !fits(table, places, width) {
+    let Some(records) = Records::of(table, shape) else {
+        return Key([0u8; 32]);
+    };
+    if shape.places <= place {
         return Key([0u8; 32]);
     }
-    if places <= place {
-        return Key([0u8; 32]);
-    }
-    records::key_of(table, places, width, place)
+    records.key_of(place)
 }
 
 // Whether a place is used.
@@ -98,51 +101,50 @@ pub fn used(table: &[u8], places: usize) -> &[u8]
     if table.len() <= places {
         return &table[0..0];
     }
-    let end = 1 + order::length(table, places);
-    &table[1..end]
+    order::listed(table, places)
 }
 
-// The lowest place that is not used, or `places` where all are.
-pub fn lowest_free(table: &[u8], places: usize) -> usize
-    ensures { result ≡ lowest_free places table.now }
+// The lowest place that is not used, where there is one.
+pub fn lowest_free(table: &[u8], places: usize) -> Option<usize>
+    ensures { result ≡ place_below places (lowest_free places table.now) }
 {
     if MOST_PLACES < places {
-        return places;
+        return None;
     }
     if table.len() <= places {
-        return places;
+        return None;
     }
     order::lowest_unlisted(table, places)
 }
 
 // Whether a place may be put in use: there is such a place, the order has room, and the record is no shorter than a key and no longer than the
 // table's.
-fn may_put(table: &[u8], places: usize, width: usize, place: usize, record: &[u8]) -> bool
-    ensures { result ≡ may_put places width table.now place «record».now }
+fn may_put(table: &[u8], shape: Shape, place: usize, record: &[u8]) -> bool
+    ensures { result ≡ may_put shape.places shape.width table.now place «record».now }
 {
-    if !fits(table, places, width) {
+    if !fits(table, shape) {
         return false;
     }
-    if places <= table[0] as usize {
+    if shape.places <= usize::from(table[0]) {
         return false;
     }
-    if places <= place {
+    if shape.places <= place {
         return false;
     }
     if record.len() < Key::BYTES {
         return false;
     }
-    record.len() <= width
+    record.len() <= shape.width
 }
 
 // A place is put in use, where it may be: its record begins with `record`, whose first 32 bytes are the key.
-pub fn put(table: &mut [u8], places: usize, width: usize, place: usize, record: &[u8])
-    ensures { table.new ≡ put_in places width table.old place «record».now }
+pub fn put(table: &mut [u8], shape: Shape, place: usize, record: &[u8])
+    ensures { table.new ≡ put_in shape.places shape.width table.old place «record».now }
 {
-    if !may_put(table, places, width, place, record) {
+    if !may_put(table, shape, place, record) {
         return;
     }
-    records::enter(table, places, width, place, record);
+    records::enter(table, shape, place, record);
 }
 
 // A place is no longer used. Its record stays as it is, and is not read again.
@@ -152,54 +154,40 @@ pub fn free(table: &mut [u8], places: usize, place: usize)
     if table.len() <= places {
         return;
     }
-    if places < table[0] as usize {
+    if places < usize::from(table[0]) {
         return;
     }
     order::remove(table, places, place);
 }
 
 // Whether part of a place's record may be overwritten: the place is used, and the part stands behind the key and within the record.
-fn may_overwrite(
-    table: &[u8],
-    places: usize,
-    width: usize,
-    place: usize,
-    at: usize,
-    part: &[u8],
-) -> bool
-    ensures { result ≡ may_overwrite places width table.now place at part.now }
+fn may_overwrite(table: &[u8], shape: Shape, place: usize, at: usize, part: &[u8]) -> bool
+    ensures { result ≡ may_overwrite shape.places shape.width table.now place at part.now }
 {
-    if !fits(table, places, width) {
+    if !fits(table, shape) {
         return false;
     }
-    if places <= place {
+    if shape.places <= place {
         return false;
     }
     if at < Key::BYTES {
         return false;
     }
-    if width < at {
+    if shape.width < at {
         return false;
     }
-    if width - at < part.len() {
+    if shape.width - at < part.len() {
         return false;
     }
-    order::lists(table, places, place)
+    order::lists(table, shape.places, place)
 }
 
 // A field behind the key of a used place changes: the record is `part` from its byte `at` on. The key and so the order stay.
-pub fn overwrite(
-    table: &mut [u8],
-    places: usize,
-    width: usize,
-    place: usize,
-    at: usize,
-    part: &[u8],
-)
-    ensures { table.new ≡ overwritten_in places width table.old place at part.now }
+pub fn overwrite(table: &mut [u8], shape: Shape, place: usize, at: usize, part: &[u8])
+    ensures { table.new ≡ overwritten_in shape.places shape.width table.old place at part.now }
 {
-    if !may_overwrite(table, places, width, place, at, part) {
+    if !may_overwrite(table, shape, place, at, part) {
         return;
     }
-    records::refill(table, places, width, place, at, part);
+    records::refill(table, shape, place, at, part);
 }

@@ -1,6 +1,6 @@
 -- Laws of the order of keys and of lists of places whose keys rise.
-use mathlib.Core.Path.{◌≡◌, refl, sym, ◌∙◌, subst}
-use mathlib.Core.Bool.{Bool, true, false, ◌&&◌, ◌||◌, cond, or-true}
+use mathlib.Core.Path.{◌≡◌, refl, sym, ap, ◌∙◌, subst}
+use mathlib.Core.Bool.{Bool, true, false, ◌&&◌, ◌||◌, cond, or-true, and-false}
 use Prim.Native.Nat.{ℕ, zero, suc, ◌+◌, ◌≤◌, ◌<◌}
 use native.Mathlib.Nat.{le_of_suc-le-suc, not-suc-le-zero, suc-ne-zero, suc_inj}
 use native.Mathlib.Numerals.{add-one}
@@ -9,7 +9,11 @@ use mathlib.Core.List.{List, [], ◌∷◌}
 use lib.ListN.{length, drop, get_or, drop_of_length-le}
 use lib.Seq.{drop-cons}
 use lib.Dec.{eqb, ltb}
-use borrow.Author.Tests.{eq-eqb, ne_eqb, eqb-true, eqb-false, ltb-true, ltb-false, lt-ltb}
+use borrow.Author.Tests.{eq-eqb, ne_eqb, eqb-true, eqb-false, ltb-true, ltb-false, lt-ltb, le-ltb}
+use Rattle.std.specs.Cmp.Lexicographic.{pointwise, slice_cmp}
+use Rattle.std.specs.Ordering.{nat_cmp, is_lt, ordering_then}
+use Rattle.std.specs.declared.cmp.Ordering.TheVariants.{Less, Equal, Greater}
+use Rattle.key.specs.Keys.{same_key}
 use Rattle.lists.specs.Insert.{insert_at, remove_at}
 use Rattle.lists.specs.Find.{leading, member}
 use Rattle.table_laws.specs.Bytes.{key_before}
@@ -73,21 +77,34 @@ key_before_total (x ∷ xs) (y ∷ ys) l h k = go (key_before_total xs ys (suc_i
         let c = ltb-false y x (rw (ne_eqb y x (λ (q : y ≡ x). a (sym q))) at k) in
         absurd (a (omega arith))
 
--- the loop that compares
-module _ (a b : List ℕ) (i : ℕ) (h : i < length a) (k : i < length b) where
-  pub key_before_step : key_before (drop i a) (drop i b) ≡ cond (eqb (get_or a i 0) (get_or b i 0)) (key_before (drop (i + 1) a) (drop (i + 1) b)) (ltb (get_or a i 0) (get_or b i 0))
-  unfolding key_before
-  key_before_step = rw (add-one, drop-cons a i 0 h, drop-cons b i 0 k)
-
-  pub key_before_differ : (get_or a i 0 ≡ get_or b i 0 → ⊥) → key_before (drop i a) (drop i b) ≡ ltb (get_or a i 0) (get_or b i 0)
-  key_before_differ d = rw (key_before_step, ne_eqb _ _ d)
-
-  pub key_before_agree : get_or a i 0 ≡ get_or b i 0 → key_before (drop i a) (drop i b) ≡ key_before (drop (i + 1) a) (drop (i + 1) b)
-  key_before_agree e = rw (key_before_step, eq-eqb _ _ e)
-
-pub key_before_end : (a b : List ℕ) (i : ℕ) → length a ≤ i → key_before (drop i a) (drop i b) ≡ false
+pub key_before_differ : (a b : List ℕ) → 0 < length a → 0 < length b → (get_or a 0 0 ≡ get_or b 0 0 → ⊥) → key_before a b ≡ ltb (get_or a 0 0) (get_or b 0 0)
 unfolding key_before
-key_before_end a b i h = rw (drop_of_length-le a h)
+key_before_differ [] b h k d = absurd (omega arith)
+key_before_differ (x ∷ a) [] h k d = absurd (omega arith)
+key_before_differ (x ∷ a) (y ∷ b) h k d = rw (ne_eqb x y d)
+
+-- the order of slices is that of keys, where they are of one length
+pub slices_before : (a b : List ℕ) → length a ≡ length b → is_lt (slice_cmp nat_cmp a b) ≡ key_before a b
+unfolding key_before
+slices_before [] [] l = refl
+slices_before [] (y ∷ b) l = absurd (omega arith)
+slices_before (x ∷ a) [] l = absurd (omega arith)
+slices_before (x ∷ a) (y ∷ b) l = go (ltb x y) (eqb x y) refl refl (slices_before a b (suc_inj l))
+  where
+    go : (t u : Bool) → ltb x y ≡ t → eqb x y ≡ u → is_lt (slice_cmp nat_cmp a b) ≡ key_before a b
+        → is_lt (ordering_then (cond t Less (cond u Equal Greater)) (slice_cmp nat_cmp a b)) ≡ cond u (key_before a b) t
+    go true true e f ih = let c = ltb-true x y e in let d = eqb-true x y f in absurd (omega arith)
+    go true false e f ih = refl
+    go false true e f ih = ih
+    go false false e f ih = refl
+
+-- and their equality is that of keys
+pub slices_same : (a b : List ℕ) → pointwise eqb a b ≡ same_key a b
+unfolding same_key
+slices_same [] [] = refl
+slices_same [] (y ∷ b) = refl
+slices_same (x ∷ a) [] = refl
+slices_same (x ∷ a) (y ∷ b) = ap (λ (t : Bool). eqb x y && t) (slices_same a b)
 
 -- ---- lists of places whose keys rise
 
@@ -137,11 +154,20 @@ module _ (p : ℕ) (f : ℕ → List ℕ) where
       go ih true a i = let e = eqb-true n x a in let q = ltb-true n p (both (ltb n p) _ h).0 in omega arith
       go ih false a i = ih i
 
-  -- the loop that checks
-  module _ (m : ℕ) (ns : List ℕ) (i : ℕ) (b : i < length ns) where
-    pub rising_step : rising_after p f m (drop i ns) ≡ (ltb (get_or ns i 0) p && (key_before (f m) (f (get_or ns i 0)) && rising_after p f (get_or ns i 0) (drop (i + 1) ns)))
+  -- the loop that checks: n is the i-th, and m the one before it
+  module _ (m : ℕ) (ns : List ℕ) (i n : ℕ) (b : i < length ns) (e : n ≡ get_or ns i 0) where
+    rising_step : rising_after p f m (drop i ns) ≡ (ltb n p && (key_before (f m) (f n) && rising_after p f n (drop (i + 1) ns)))
     unfolding rising_after
-    rising_step = rw (add-one, drop-cons ns i 0 b)
+    rising_step = rw (e, add-one, drop-cons ns i 0 b)
+
+    pub step_out : p ≤ n → rising_after p f m (drop i ns) ≡ false
+    step_out o = rising_step ∙ rw (le-ltb n p o)
+
+    pub step_falls : key_before (f m) (f n) ≡ false → rising_after p f m (drop i ns) ≡ false
+    step_falls o = rising_step ∙ rw o (and-false (ltb n p))
+
+    pub step_on : n < p → key_before (f m) (f n) ≡ true → rising_after p f m (drop i ns) ≡ rising_after p f n (drop (i + 1) ns)
+    step_on u o = rising_step ∙ rw (lt-ltb n p u, o)
 
   pub rising_end : (m : ℕ) (ns : List ℕ) (i : ℕ) → length ns ≤ i → rising_after p f m (drop i ns) ≡ true
   unfolding rising_after

@@ -6,13 +6,15 @@ pub mod FitsLaws
 pub mod Listed
 pub mod SearchLaws
 pub mod Stores
+pub mod Shifted
 pub mod Places
 pub mod Distinct
 pub mod TableLaws
 pub mod RecordLaws
 pub mod OverwriteLaws
 pub mod NoneListed
-pub mod WithoutLaws
 pub mod PutLaws
 pub mod FoundLaws
+pub mod PlaceBelow
+pub mod WithoutLaws
 pub mod BytesKept

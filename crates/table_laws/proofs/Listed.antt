@@ -1,18 +1,18 @@
 -- What the bytes of a table list, and where the keys stand.
-use mathlib.Core.Path.{◌≡◌, ◌∙◌, refl, sym, ap, ap₂}
-use mathlib.Core.Bool.{Bool, true, false, ◌&&◌, not}
-use mathlib.Core.List.{List}
-use Prim.Native.Nat.{ℕ, ◌+◌, ◌*◌, ◌-◌, ◌<◌, ◌≤◌}
+use mathlib.Core.Path.{◌≡◌, ◌∙◌, refl, sym, ap}
+use mathlib.Core.Bool.{Bool, true, false, ◌&&◌}
+use mathlib.Core.List.{List, [], ◌∷◌}
+use Prim.Native.Nat.{ℕ, ◌+◌, ◌*◌, ◌-◌, ◌<◌, ◌≤◌, min}
 use native.Mathlib.Nat.{suc-mul, le_trans, le_of_eq, mul-le-mul_right, add-sub_cancel_left}
 use native.Mathlib.Omega.{arith}
 use lib.ListN.{length, get_or, take, drop, length-drop}
-use lib.Seq.{drop-cons, length-take-le, get_or-take, get_or-drop, drop-drop, take_all}
+use lib.Seq.{length-take-le, get_or-take, get_or-drop, drop-drop, take_all, take-take}
 use lib.Dec.{ltb, leb}
-use borrow.Author.Tests.{leb-true, leb-false, lt-leb, le-leb, lt-ltb, le-ltb, not-true, not-false}
+use borrow.Author.Tests.{leb-true, leb-false, lt-leb, le-leb}
 use Rattle.lists.proofs.Found.{leading_le}
 use Rattle.table_laws.specs.Bytes.{key_before}
 use Rattle.table_laws.specs.Table.{Table, Spot, count, order, listed, key_at, rising, rising_after, table_whole, place_of}
-use Rattle.table_laws.proofs.KeyOrder.{both, key_before_differ, rising_step, rising_end}
+use Rattle.table_laws.proofs.KeyOrder.{both}
 
 pub listed_is : (p : ℕ) (b : List ℕ) → take (count b) (order p b) ≡ listed p b
 unfolding listed
@@ -21,6 +21,21 @@ listed_is p b = refl
 module _ (p : ℕ) (b : List ℕ) (l : p < length b) where
   pub length_order : length (order p b) ≡ p
   length_order = length-take-le p (drop 1 b) (rw length-drop (omega arith))
+
+  -- the part lent for them
+  pub listed_lent : (m : ℕ) → m ≡ min (count b) p → take (1 + m - 1) (drop 1 b) ≡ listed p b
+  unfolding listed
+  listed_lent m e = rw (add-sub_cancel_left 1 m, e) (go (leb (count b) p) refl)
+    where
+      go : (t : Bool) → leb (count b) p ≡ t → take (min (count b) p) (drop 1 b) ≡ take (count b) (order p b)
+      go true e =
+          let c = leb-true (count b) p e in
+          let m : min (count b) p ≡ count b = omega arith in
+          rw m (sym (take-take (count b) p (drop 1 b) c))
+      go false e =
+          let c = leb-false (count b) p e in
+          let m : min (count b) p ≡ p = omega arith in
+          rw m (sym (take_all (count b) (order p b) (rw length_order (omega arith))))
 
   -- the count tells how many are listed, up to p
   pub length_listed : count b ≤ p → length (listed p b) ≡ count b
@@ -58,35 +73,10 @@ module _ (p w : ℕ) (b : List ℕ) where
   pub key_lent : (n r : ℕ) → Spot p w b n r → take (r + 32 - r) (drop r b) ≡ key_at p w b n
   key_lent n r s = rw (add-sub_cancel_left r 32, s.at) (sym (key_drop n))
 
-  -- a comparison with them is one with the key
-  pub before_lent : (k : List ℕ) (n r : ℕ) → Spot p w b n r → (x : Bool) → x ≡ key_before k (take (r + 32 - r) (drop r b)) → x ≡ key_before k (key_at p w b n)
-  before_lent k n r s x e = e ∙ ap (key_before k) (key_lent n r s)
-
   pub length_key : (n : ℕ) → Table p w b → n < p → length (key_at p w b n) ≡ 32
   length_key n t h =
       ap length (key_drop n)
       ∙ length-take-le 32 (drop (1 + p + n * w) b) (rw length-drop (let q = row_fits p w n h in let k = t.key in let m = t.long in omega arith))
-
-  -- the first byte of a key, where it stands
-  pub key_first : (n r : ℕ) → Spot p w b n r → get_or (key_at p w b n) 0 0 ≡ get_or b r 0
-  key_first n r s =
-      ap (λ (x : List ℕ). get_or x 0 0) (key_drop n)
-      ∙ get_or-take 32 (drop (1 + p + n * w) b) 0 0 (omega arith)
-      ∙ get_or-drop (1 + p + n * w) b 0 0
-      ∙ ap (λ (x : ℕ). get_or b x 0) (let q : 1 + p + n * w + 0 ≡ r = let z = s.at in omega arith in q)
-
-  -- two keys whose first bytes differ
-  pub first_key_before : (t : Table p w b) (n : ℕ) → n < p → (r x : ℕ) (k : List ℕ) → Spot p w b n r → length k ≡ 32 → x ≡ get_or k 0 0 →
-      (get_or b r 0 ≡ x → ⊥) → key_before (key_at p w b n) k ≡ ltb (get_or b r 0) x
-  first_key_before t n h r x k s e q d =
-      let f = key_first n r s in
-      key_before_differ (key_at p w b n) k 0 (let z = length_key n t h in omega arith) (omega arith) (λ z. d (sym f ∙ z ∙ sym q))
-      ∙ ap₂ ltb f (sym q)
-
-  pub first_rises : (t : Table p w b) (m n : ℕ) → m < p → n < p → (r q : ℕ) → Spot p w b m r → Spot p w b n q → (get_or b r 0 ≡ get_or b q 0 → ⊥) →
-      key_before (key_at p w b m) (key_at p w b n) ≡ ltb (get_or b r 0) (get_or b q 0)
-  first_rises t m n h k r q s z d =
-      first_key_before t m h r (get_or b q 0) (key_at p w b n) s (length_key n t k) (sym (key_first n q z)) d
 
   -- ---- whole
 
@@ -110,42 +100,19 @@ module _ (p w : ℕ) (b : List ℕ) where
   unfolding table_whole listed rising
   whole_none h = rw (h, le-leb 0 p (omega arith))
 
--- ---- the loop that tests a table
+pub none : (ns : List ℕ) → length ns ≡ 0 → ns ≡ []
+none [] e = refl
+none (n ∷ ns) e = absurd (omega arith)
 
-and_no : (t u : Bool) → (t && (false && u)) ≡ false
-and_no true u = refl
-and_no false u = refl
-
-module _ (p w : ℕ) (b : List ℕ) (c : count b ≤ p) (l : p < length b) where
-  pub whole_first : (m : ℕ) → m ≡ get_or b 1 0 → 0 < count b → table_whole p w b ≡ (ltb m p && rising_after p (key_at p w b) m (drop 1 (listed p b)))
+module _ (p w : ℕ) (b : List ℕ) (c : count b ≤ p) where
+  pub whole_empty : length (listed p b) ≡ 0 → table_whole p w b ≡ true
   unfolding rising
-  whole_first m e h =
-      rw e
-      (whole_is p w b c
-      ∙ ap (rising p (key_at p w b)) (drop-cons (listed p b) 0 0 (rw (length_listed p b l c) h))
-      ∙ ap (λ (x : ℕ). ltb x p && rising_after p (key_at p w b) x (drop 1 (listed p b))) (at_listed p b l 0 (rw (length_listed p b l c) h)))
+  whole_empty e = whole_is p w b c ∙ ap (rising p (key_at p w b)) (none (listed p b) e)
 
-  module _ (m i n : ℕ) (e : n ≡ get_or b (1 + i) 0) (h : i < count b) where
-    step : rising_after p (key_at p w b) m (drop i (listed p b))
-        ≡ (ltb n p && (key_before (key_at p w b m) (key_at p w b n) && rising_after p (key_at p w b) n (drop (i + 1) (listed p b))))
-    step =
-        rw (e, ← at_listed p b l i (rw (length_listed p b l c) h))
-        (rising_step p (key_at p w b) m (listed p b) i (rw (length_listed p b l c) h))
+  -- the first of them, and those behind it
+  pub whole_begins : (m : ℕ) (ms : List ℕ) → listed p b ≡ m ∷ ms → table_whole p w b ≡ (ltb m p && rising_after p (key_at p w b) m ms)
+  unfolding rising
+  whole_begins m ms e = whole_is p w b c ∙ ap (rising p (key_at p w b)) e
 
-    pub step_out : p ≤ n → rising_after p (key_at p w b) m (drop i (listed p b)) ≡ false
-    step_out o = step ∙ rw (le-ltb n p o)
-
-    -- by what the comparison answered
-    module _ (r : Bool) (q : r ≡ key_before (key_at p w b m) (key_at p w b n)) where
-      pub step_falls : not r ≡ true → rising_after p (key_at p w b) m (drop i (listed p b)) ≡ false
-      step_falls o = step ∙ rw (← q, not-true r o) (and_no (ltb n p) (rising_after p (key_at p w b) n (drop (i + 1) (listed p b))))
-
-      pub step_on : n < p → not r ≡ false →
-          rising_after p (key_at p w b) m (drop i (listed p b)) ≡ rising_after p (key_at p w b) n (drop (i + 1) (listed p b))
-      step_on u o = step ∙ rw (lt-ltb n p u, ← q, not-false r o)
-
-  pub step_end : (m i : ℕ) → count b ≤ i → rising_after p (key_at p w b) m (drop i (listed p b)) ≡ true
-  step_end m i h = rising_end p (key_at p w b) m (listed p b) i (rw (length_listed p b l c) h)
-
-  pub place_le : (k : List ℕ) → place_of p w b k ≤ count b
-  place_le k = let a = leading_le (λ (n : ℕ). key_before (key_at p w b n) k) (listed p b) in let q = length_listed p b l c in omega arith
+  pub place_le : p < length b → (k : List ℕ) → place_of p w b k ≤ count b
+  place_le l k = let a = leading_le (λ (n : ℕ). key_before (key_at p w b n) k) (listed p b) in let q = length_listed p b l c in omega arith

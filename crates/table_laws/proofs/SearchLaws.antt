@@ -1,6 +1,6 @@
 -- The passes over the places listed, one turn at a time: the first that has a key, and how many come before one. A place that is none has no key.
 use mathlib.Core.Path.{◌≡◌, refl, sym, ap, ◌∙◌}
-use mathlib.Core.Bool.{Bool, true, false, not, cond}
+use mathlib.Core.Bool.{Bool, true, false, cond, true≢false}
 use mathlib.Core.List.{List, [], ◌∷◌}
 use Prim.Native.Nat.{ℕ, suc, ◌+◌, ◌*◌, ◌≤◌, ◌<◌}
 use native.Mathlib.Nat.{mul-le-mul_right}
@@ -8,24 +8,30 @@ use native.Mathlib.Numerals.{add-one}
 use native.Mathlib.Omega.{arith}
 use lib.ListN.{length, take, drop, get_or, length-drop, drop_of_length-le}
 use lib.Seq.{drop-cons, take-nil}
-use borrow.Author.Tests.{not-true, not-false}
+use lib.Dec.{ltb}
+use borrow.Author.Tests.{ltb-true, ltb-false}
 use Rattle.key.specs.Keys.{same_key}
-use Rattle.key.proofs.Same.{same_differ}
 use Rattle.lists.proofs.Found.{leading_turn, leading_end}
 use Rattle.table_laws.specs.Bytes.{key_before}
-use Rattle.table_laws.specs.Table.{Table, Spot, records, listed, key_at, find_key, position}
-use Rattle.table_laws.proofs.Listed.{at_listed, length_key, key_first}
+use Rattle.table_laws.specs.Table.{Table, records, key_at, find_key, position}
 
-module _ (p : ℕ) (f : ℕ → List ℕ) (k : List ℕ) (ns : List ℕ) (i : ℕ) (h : i < length ns) where
-  find_turn : find_key p f k (drop i ns) ≡ cond (same_key (f (get_or ns i 0)) k) (get_or ns i 0) (find_key p f k (drop (i + 1) ns))
+-- n is the i-th
+module _ (p : ℕ) (f : ℕ → List ℕ) (k : List ℕ) (ns : List ℕ) (i n : ℕ) (h : i < length ns) (e : n ≡ get_or ns i 0) where
+  find_turn : find_key p f k (drop i ns) ≡ cond (same_key (f n) k) n (find_key p f k (drop (i + 1) ns))
   unfolding find_key
-  find_turn = rw (add-one, drop-cons ns i 0 h)
+  find_turn = rw (e, add-one, drop-cons ns i 0 h)
 
-  find_here : same_key (f (get_or ns i 0)) k ≡ true → find_key p f k (drop i ns) ≡ get_or ns i 0
-  find_here e = find_turn ∙ rw e
+  pub find_here : same_key (f n) k ≡ true → find_key p f k (drop i ns) ≡ n
+  find_here y = find_turn ∙ rw y
 
-  find_next : same_key (f (get_or ns i 0)) k ≡ false → find_key p f k (drop i ns) ≡ find_key p f k (drop (i + 1) ns)
-  find_next e = find_turn ∙ rw e
+  pub find_on : same_key (f n) k ≡ false → find_key p f k (drop i ns) ≡ find_key p f k (drop (i + 1) ns)
+  find_on y = find_turn ∙ rw y
+
+  pub position_here : key_before (f n) k ≡ false → position f k (drop i ns) ≡ 0
+  position_here y = leading_turn (λ (n : ℕ). key_before (f n) k) ns 0 i h false (rw (← e) y)
+
+  pub position_on : key_before (f n) k ≡ true → position f k (drop i ns) ≡ suc (position f k (drop (i + 1) ns))
+  position_on y = leading_turn (λ (n : ℕ). key_before (f n) k) ns 0 i h true (rw (← e) y)
 
 module _ (p : ℕ) (f : ℕ → List ℕ) (k : List ℕ) (ns : List ℕ) (i : ℕ) (h : length ns ≤ i) where
   pub find_end : find_key p f k (drop i ns) ≡ p
@@ -34,29 +40,6 @@ module _ (p : ℕ) (f : ℕ → List ℕ) (k : List ℕ) (ns : List ℕ) (i : �
 
   pub position_end : position f k (drop i ns) ≡ 0
   position_end = leading_end (λ (n : ℕ). key_before (f n) k) ns i h
-
--- ---- one turn, by what the test of the place read there answered
-
-module _ (p w : ℕ) (b : List ℕ) (l : p < length b) (k : List ℕ) (i : ℕ) (h : i < length (listed p b)) (r : Bool) where
-  module _ (e : r ≡ same_key (key_at p w b (get_or b (1 + i) 0)) k) where
-    same_read : same_key (key_at p w b (get_or (listed p b) i 0)) k ≡ r
-    same_read = rw (at_listed p b l i h) (sym e)
-
-    pub find_read : r ≡ true → find_key p (key_at p w b) k (drop i (listed p b)) ≡ get_or b (1 + i) 0
-    find_read y = find_here p (key_at p w b) k (listed p b) i h (same_read ∙ y) ∙ at_listed p b l i h
-
-    pub find_on : r ≡ false → find_key p (key_at p w b) k (drop i (listed p b)) ≡ find_key p (key_at p w b) k (drop (i + 1) (listed p b))
-    find_on y = find_next p (key_at p w b) k (listed p b) i h (same_read ∙ y)
-
-  module _ (e : r ≡ key_before (key_at p w b (get_or b (1 + i) 0)) k) where
-    before_read : key_before (key_at p w b (get_or (listed p b) i 0)) k ≡ r
-    before_read = rw (at_listed p b l i h) (sym e)
-
-    pub position_read : not r ≡ true → position (key_at p w b) k (drop i (listed p b)) ≡ 0
-    position_read y = leading_turn (λ (n : ℕ). key_before (key_at p w b n) k) (listed p b) 0 i h false (before_read ∙ not-true r y)
-
-    pub position_on : not r ≡ false → position (key_at p w b) k (drop i (listed p b)) ≡ suc (position (key_at p w b) k (drop (i + 1) (listed p b)))
-    position_on y = leading_turn (λ (n : ℕ). key_before (key_at p w b n) k) (listed p b) 0 i h true (before_read ∙ not-false r y)
 
 module _ (p w : ℕ) (b : List ℕ) (t : Table p w b) (n : ℕ) where
   -- a place that is none has no key
@@ -78,7 +61,10 @@ module _ (p w : ℕ) (b : List ℕ) (t : Table p w b) (n : ℕ) where
   pub none_before : p ≤ n → (k : List ℕ) → key_before (key_at p w b n) k ≡ false
   none_before h k = rw (key_none h) (unfold key_before in refl)
 
-  -- two keys whose first bytes differ
-  pub first_other : n < p → (r x : ℕ) (k : List ℕ) → Spot p w b n r → length k ≡ 32 → x ≡ get_or k 0 0 → (get_or b r 0 ≡ x → ⊥) → same_key (key_at p w b n) k ≡ false
-  first_other h r x k s e q d =
-      same_differ (key_at p w b n) k 0 (let z = length_key p w b n t h in omega arith) (omega arith) (λ z. d (sym (key_first p w b n r s) ∙ z ∙ sym q))
+  -- what is found by a key of 32 bytes is a place
+  pub found_below : (k : List ℕ) → length k ≡ 32 → same_key (key_at p w b n) k ≡ true → n < p
+  found_below k e y = go (ltb n p) refl
+    where
+      go : (u : Bool) → ltb n p ≡ u → n < p
+      go true q = ltb-true n p q
+      go false q = absurd (true≢false (sym y ∙ none_same (ltb-false n p q) k e))

@@ -4,7 +4,7 @@
 --
 -- The first `count` bytes of the order list the used places in the strictly rising order of their keys; a record begins with its key. What is not
 -- listed is no part of the table.
-use Rattle.std.specs.Prelude.{ℕ, zero, suc, ◌+◌, ◌*◌, ◌-◌, ◌≤◌, ◌≡◌, Bool, true, ◌&&◌, cond, List, [], ◌∷◌, ◌++◌, length, take, drop, get_or, replicate, eqb, ltb, leb}
+use Rattle.std.specs.Prelude.{Option, None, Some, ℕ, zero, suc, ◌+◌, ◌*◌, ◌-◌, ◌≤◌, ◌≡◌, Bool, true, ◌&&◌, cond, List, [], ◌∷◌, ◌++◌, length, take, drop, get_or, replicate, eqb, ltb, leb}
 use Rattle.key.specs.Keys.{same_key}
 use Rattle.lists.specs.Insert.{insert_at, remove_at}
 use Rattle.lists.specs.Find.{leading, member, index_of}
@@ -85,6 +85,10 @@ find_key p f k (n ∷ ns) = cond (same_key (f n) k) n (find_key p f k ns)
 
 unfoldable pub found : ℕ → ℕ → List ℕ → List ℕ → ℕ
 found p w b k = cond (fits_table p w b) (find_key p (key_at p w b) k (listed p b)) p
+
+-- what such a search among p places answers: n where it is one of them, and none where n is p
+unfoldable pub place_below : ℕ → ℕ → Option ℕ
+place_below p n = cond (ltb n p) (Some n) None
 
 -- ---- whole without a key k: the search for it among the listed finds none
 

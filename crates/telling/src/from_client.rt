@@ -1,41 +1,27 @@
 // What a client sends, as the relay reads it.
-use crate::say;
-use packet::relay as relay_end;
+use crate::count::Bytes;
+use packet::relay;
 use packet::relay::ClientPacket;
-use std::io;
+use std::fmt;
 
-// A packet that was read: `bytes` are those it was read from.
-pub fn packet<R: Print>(rt: &R, shown: ClientPacket, bytes: &[u8]) -> io::Result<()>
-    ensures { Unit {0} }
-{
-    match shown {
-        ClientPacket::RoutingRequest { key: _ } => {
-            say::words(rt, b"routing request for ")?;
-            say::key(rt, relay_end::key(bytes, shown))
-        }
-        ClientPacket::DropRoute(number) => {
-            say::words(rt, b"drop of ")?;
-            say::connection(rt, number)
-        }
-        ClientPacket::Ping(id) => {
-            say::words(rt, b"ping ")?;
-            say::number(rt, id)
-        }
-        ClientPacket::Pong(id) => {
-            say::words(rt, b"pong ")?;
-            say::number(rt, id)
-        }
-        ClientPacket::OobSend { key: _, payload: _ } => {
-            say::words(rt, b"out-of-band send to ")?;
-            say::key(rt, relay_end::key(bytes, shown))?;
-            say::words(rt, b" with ")?;
-            say::bytes(rt, relay_end::payload(bytes, shown).len())
-        }
-        ClientPacket::Data(number, _) => {
-            say::words(rt, b"data on ")?;
-            say::connection(rt, number)?;
-            say::words(rt, b" with ")?;
-            say::bytes(rt, relay_end::payload(bytes, shown).len())
+// A packet, and what was read of it.
+#[derive(Clone, Copy)]
+pub struct FromClient<'a> {
+    pub packet: &'a [u8],
+    pub shown: ClientPacket,
+}
+
+impl fmt::Display for FromClient<'_> {
+    fn fmt<W: fmt::Write>(&self, f: &mut fmt::Formatter<W>) -> fmt::Result {
+        let key = relay::key(self.packet, self.shown);
+        let size = Bytes(relay::payload(self.packet, self.shown).len());
+        match self.shown {
+            ClientPacket::RoutingRequest { .. } => write!(f, "routing request for {key}"),
+            ClientPacket::DropRoute(number) => write!(f, "drop of {number}"),
+            ClientPacket::Ping(id) => write!(f, "ping {id}"),
+            ClientPacket::Pong(id) => write!(f, "pong {id}"),
+            ClientPacket::OobSend { .. } => write!(f, "out-of-band send to {key} with {size}"),
+            ClientPacket::Data(number, _) => write!(f, "data on {number} with {size}"),
         }
     }
 }

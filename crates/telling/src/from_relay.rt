@@ -1,68 +1,45 @@
 // What the relay sends, as a client reads it.
-use crate::{refused, say};
-use packet::client::{ClientRead, RelayPacket};
+use crate::count::Bytes;
+use crate::refused::Refused;
+use packet::client::RelayPacket;
 use packet::{ConnectionNumber, client};
-use std::io;
+use std::fmt;
 
-// The number that a request is answered with: 0 is no number, and no route is taken.
-fn answered<R: Print>(rt: &R, number: ConnectionNumber) -> io::Result<()>
-    ensures { Unit {0} }
-{
-    if number.0 == 0 {
-        say::words(rt, b"0, no route")
-    } else {
-        say::connection(rt, number)
-    }
-}
-
-// A packet that was read: `bytes` are those it was read from.
-pub fn packet<R: Print>(rt: &R, shown: RelayPacket, bytes: &[u8]) -> io::Result<()>
-    ensures { Unit {0} }
-{
+// A packet that was read.
+fn shown<W: fmt::Write>(
+    f: &mut fmt::Formatter<W>,
+    packet: &[u8],
+    shown: RelayPacket,
+) -> fmt::Result {
+    let key = client::key(packet, shown);
+    let size = Bytes(client::payload(packet, shown).len());
     match shown {
-        RelayPacket::RoutingResponse { number, key: _ } => {
-            say::words(rt, b"routing response: ")?;
-            answered(rt, number)?;
-            say::words(rt, b" for ")?;
-            say::key(rt, client::key(bytes, shown))
+        // 0 is no number, and no route is taken.
+        RelayPacket::RoutingResponse {
+            number: ConnectionNumber(0),
+            ..
+        } => { write!(f, "routing response: 0, no route for {key}") }
+        RelayPacket::RoutingResponse { number, .. } => {
+            write!(f, "routing response: {number} for {key}")
         }
-        RelayPacket::ConnectNotification(number) => {
-            say::words(rt, b"connected: ")?;
-            say::connection(rt, number)
-        }
-        RelayPacket::DisconnectNotification(number) => {
-            say::words(rt, b"disconnected: ")?;
-            say::connection(rt, number)
-        }
-        RelayPacket::Ping(id) => {
-            say::words(rt, b"ping ")?;
-            say::number(rt, id)
-        }
-        RelayPacket::Pong(id) => {
-            say::words(rt, b"pong ")?;
-            say::number(rt, id)
-        }
-        RelayPacket::OobReceived { key: _, payload: _ } => {
-            say::words(rt, b"out-of-band from ")?;
-            say::key(rt, client::key(bytes, shown))?;
-            say::words(rt, b" with ")?;
-            say::bytes(rt, client::payload(bytes, shown).len())
-        }
-        RelayPacket::Data(number, _) => {
-            say::words(rt, b"data on ")?;
-            say::connection(rt, number)?;
-            say::words(rt, b" with ")?;
-            say::bytes(rt, client::payload(bytes, shown).len())
-        }
+        RelayPacket::ConnectNotification(number) => write!(f, "connected: {number}"),
+        RelayPacket::DisconnectNotification(number) => write!(f, "disconnected: {number}"),
+        RelayPacket::Ping(id) => write!(f, "ping {id}"),
+        RelayPacket::Pong(id) => write!(f, "pong {id}"),
+        RelayPacket::OobReceived { .. } => write!(f, "out-of-band from {key} with {size}"),
+        RelayPacket::Data(number, _) => write!(f, "data on {number} with {size}"),
     }
 }
 
 // A packet, or why the client's reader refuses it.
-pub fn tell<R: Print>(rt: &R, bytes: &[u8]) -> io::Result<()>
-    ensures { Unit {0} }
-{
-    match client::read(bytes) {
-        ClientRead::Refused(why) => refused::tell(rt, why),
-        ClientRead::Packet(shown) => packet(rt, shown, bytes),
+#[derive(Clone, Copy)]
+pub struct FromRelay<'a>(pub &'a [u8]);
+
+impl fmt::Display for FromRelay<'_> {
+    fn fmt<W: fmt::Write>(&self, f: &mut fmt::Formatter<W>) -> fmt::Result {
+        match client::read(self.0) {
+            Ok(packet) => shown(f, self.0, packet),
+            Err(why) => write!(f, "{}", Refused(why)),
+        }
     }
 }

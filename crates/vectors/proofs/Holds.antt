@@ -8,18 +8,18 @@ use Prim.Native.Nat.{ℕ}
 use lib.Dec.{eqb}
 use lib.ListN.{length}
 use borrow.Author.Tests.{eqb-true}
+use Rattle.std.specs.Prelude.{Result, Ok, Err}
+use Rattle.refusal.specs.declared.Refusal.{Refusal}
 use Rattle.wire.specs.Numbers.{number_of, bytes_of}
 use Rattle.key.specs.Keys.{same_key, xor_bytes, distance, nearer}
 use Rattle.key.proofs.Same.{same_sound}
 use Rattle.node.specs.declared.Node.{Node}
-use Rattle.node.specs.Families.{known_family, address_length, packed_length}
+use Rattle.node.specs.Families.{known_family, address_length}
 use Rattle.node.specs.Values.{blank_node}
 use Rattle.node.specs.Nodes as nodes
-use Rattle.nearest.specs.declared.OfferAnswer.{OfferAnswer}
-use Rattle.nearest.specs.declared.OfferAnswer.TheVariants as offer
 use Rattle.nearest.specs.Lists.{held, holding, empty_of, size_right, all_known, rising_after, rising, keeps_rules}
 use Rattle.nearest.specs.Effect.{holds, replace, insert, without, last_key, furthest, effect, after_effect, kept}
-use Rattle.nearest.specs.Calls.{begun, checked, offer_answer, taken, offered_after, offered}
+use Rattle.nearest.specs.Calls.{begun, checked, taken, offered_after, offered}
 use Rattle.nearest.specs.Sequence.{offers}
 use Rattle.rules.specs.Outcome.{sent_bytes}
 use Rattle.rules.specs.History.{Event}
@@ -87,25 +87,25 @@ nodes_sound (m ∷ ms) [] h = cc
 nodes_sound (m ∷ ms) (n ∷ ns) h =
     ap₂ (λ (x : Node) (l : List Node). x ∷ l) (node_sound m n (first (same_node m n) _ h)) (nodes_sound ms ns (second (same_node m n) _ h))
 
-answer_sound : (a b : OfferAnswer) → same_answer a b ≡ true → a ≡ b
+answer_sound : (a b : Result Bool Refusal) → same_answer a b ≡ true → a ≡ b
 unfolding same_answer
-answer_sound offer.Kept offer.Kept h = refl
-answer_sound offer.Kept offer.NotKept h = cc
-answer_sound offer.Kept (offer.Refused why) h = cc
-answer_sound offer.NotKept offer.Kept h = cc
-answer_sound offer.NotKept offer.NotKept h = refl
-answer_sound offer.NotKept (offer.Refused why) h = cc
-answer_sound (offer.Refused why) offer.Kept h = cc
-answer_sound (offer.Refused why) offer.NotKept h = cc
-answer_sound (offer.Refused why) (offer.Refused why') h = cc
+answer_sound (Ok true) (Ok true) h = refl
+answer_sound (Ok true) (Ok false) h = cc
+answer_sound (Ok true) (Err why) h = cc
+answer_sound (Ok false) (Ok true) h = cc
+answer_sound (Ok false) (Ok false) h = refl
+answer_sound (Ok false) (Err why) h = cc
+answer_sound (Err why) (Ok true) h = cc
+answer_sound (Err why) (Ok false) h = cc
+answer_sound (Err why) (Err why') h = cc
 
-answers_sound : (l m : List OfferAnswer) → same_answers l m ≡ true → l ≡ m
+answers_sound : (l m : List (Result Bool Refusal)) → same_answers l m ≡ true → l ≡ m
 unfolding same_answers
 answers_sound [] [] h = refl
 answers_sound [] (b ∷ bs) h = cc
 answers_sound (a ∷ rest) [] h = cc
 answers_sound (a ∷ rest) (b ∷ bs) h =
-    ap₂ (λ (x : OfferAnswer) (l : List OfferAnswer). x ∷ l) (answer_sound a b (first (same_answer a b) _ h)) (answers_sound rest bs (second (same_answer a b) _ h))
+    ap₂ (λ (x : Result Bool Refusal) (l : List (Result Bool Refusal)). x ∷ l) (answer_sound a b (first (same_answer a b) _ h)) (answers_sound rest bs (second (same_answer a b) _ h))
 
 -- ---- a row that passes holds
 
@@ -155,7 +155,7 @@ all_hold (other ∷ rows) h r (later i) = all_hold rows (second (test_row other)
 
 -- the fact: every row of the table passes, computed
 pub examples_pass : test_all examples ≡ true
-unfolding opened given ka kb kc after_p2 after_p4 after_p5 key_ending node_ending examples offer_answers row_events same_given test_events same_info test_read same_node same_nodes same_answer same_answers test_row test_all nodes.read_node nodes.check nodes.node_of nodes.packed_node bytes_of known_family packed_length address_length offers begun checked offer_answer taken offered_after offered blank_node holding empty_of size_right all_known rising_after rising keeps_rules holds replace insert without last_key furthest effect after_effect kept same_key xor_bytes distance nearer number_of
+unfolding opened given ka kb kc after_p2 after_p4 after_p5 key_ending node_ending examples offer_answers row_events same_given test_events same_info test_read same_node same_nodes same_answer same_answers test_row test_all nodes.read_node nodes.check nodes.node_of nodes.packed_node bytes_of known_family address_length offers begun checked taken offered_after offered blank_node holding empty_of size_right all_known rising_after rising keeps_rules holds replace insert without last_key furthest effect after_effect kept same_key xor_bytes distance nearer number_of
 examples_pass = refl
 
 -- THE JOINT STATEMENT: each row of the table says what is so

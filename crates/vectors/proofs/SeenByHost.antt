@@ -8,6 +8,8 @@ use Prim.Native.Nat.{ℕ, ◌+◌}
 use native.Mathlib.Omega.{arith}
 use lib.IntN.{ℤ, pos}
 use lib.ListN.{length, drop}
+use Rattle.std.specs.Prelude.{Bool, Result}
+use Rattle.refusal.specs.declared.Refusal.{Refusal}
 use Rattle.key.specs.declared.Key as code
 use Rattle.node.specs.declared.Node.{Node}
 use Rattle.node.specs.Nodes as nodes
@@ -16,13 +18,13 @@ use Rattle.node.specs.Written.{Writes}
 use Rattle.node.proofs.NodeLaws.{info_of_value}
 use Rattle.node.proofs.RoundTrips.{read_known, put_count}
 use Rattle.nearest.specs.declared.NearestList.{NearestList}
-use Rattle.nearest.specs.declared.OfferAnswer.{OfferAnswer}
 use Rattle.nearest.specs.Lists.{held}
 use Rattle.nearest.specs.Calls.{begun, offered}
 use Rattle.nearest.specs.Sequence.{offers}
 use Rattle.rules.specs.Room.{base_sizes, empty_room}
 use Rattle.rules.specs.Call.{Call}
 use Rattle.rules.specs.History.{Event, transcript}
+use Rattle.banavoge_laws.specs.Answers.{written_code}
 use Rattle.banavoge_laws.specs.Nodes.{node_places_of, node_code, node_after, node_written_code}
 use Rattle.banavoge_laws.specs.Nearest.{kept_code}
 use Rattle.histories.specs.ListHistory.{list_after, event_of, list_events, list_after_all, ReadsBack}
@@ -36,7 +38,7 @@ use Rattle.vectors.proofs.Holds.{examples_hold}
 -- ---- a node row
 
 node_seen : (bytes : List ℕ) (size : ℕ) (n : nodes.NodeInfo) → ReadsAs bytes size n → NodeSeen bytes size n
-unfolding node_code node_after node_written_code
+unfolding node_code node_after node_written_code written_code
 node_seen bytes size n says =
     let long : length (nodes.packed_node n) ≡ size = ap length says.packs ∙ says.long in
     let next : 0 + length (nodes.packed_node n) ≡ size = omega arith in
@@ -64,7 +66,7 @@ unfolding list_after_all list_after offering_all offers
 offers_left [] l = refl
 offers_left (n ∷ ns) l = offers_left ns (offered l n).list
 
-list_seen : (target : code.Key) (size : ℕ) (news holding : List Node) (answers : List OfferAnswer) → Keeps target size news holding answers
+list_seen : (target : code.Key) (size : ℕ) (news holding : List Node) (answers : List (Result Bool Refusal)) → Keeps target size news holding answers
     → ListSeen target size news holding answers
 list_seen target size news holding answers says = record {
   seen = λ events m' h c.

@@ -1,14 +1,13 @@
 -- Document 01, "Examples": those marked P, "proved in one joint statement over a table"; P3 as document 02 has it. This is the table, as data, with a test of a row
 -- and of the table, and what a row says. Numbers are written in hex where the paper writes hex. Refusals stand as their numbers.
-use Rattle.std.specs.Prelude.{Bool, true, false, ◌&&◌, List, [], ◌∷◌, ◌++◌, ◌≡◌, ℕ, eqb, length, replicate}
+use Rattle.std.specs.Prelude.{Bool, true, false, not, ◌&&◌, cond, List, [], ◌∷◌, ◌++◌, ◌≡◌, ℕ, eqb, length, replicate, Result, Ok, Err}
+use Rattle.refusal.specs.declared.Refusal.{Refusal}
 use Rattle.refusal.specs.Numbers.{refusal_number}
 use Rattle.key.specs.declared.Key as code
 use Rattle.key.specs.Keys.{same_key}
 use Rattle.node.specs.declared.Node.{Node}
 use Rattle.node.specs.Nodes as nodes
 use Rattle.nearest.specs.declared.NearestList.{NearestList}
-use Rattle.nearest.specs.declared.OfferAnswer.{OfferAnswer}
-use Rattle.nearest.specs.declared.OfferAnswer.TheVariants as offer
 use Rattle.nearest.specs.Lists.{held}
 use Rattle.nearest.specs.Calls.{begun, offered}
 use Rattle.nearest.specs.Sequence.{offers}
@@ -33,7 +32,7 @@ given (refused why) = refusal (refusal_number why)
 pub data Row : Type 0 where
   room_row : List Call → Call → Given → List ℕ → Row
   node_row : List ℕ → ℕ → nodes.NodeInfo → Row
-  list_row : code.Key → ℕ → List Node → List Node → List OfferAnswer → Row
+  list_row : code.Key → ℕ → List Node → List Node → List (Result Bool Refusal) → Row
 
 -- ---- the table
 
@@ -96,7 +95,7 @@ examples =
     (record { family = 2; address = 127 ∷ 0 ∷ 0 ∷ 1 ∷ []; port = 33445; key = ka })
     -- "P13: target all zero, size 2; keys zero but for last byte 05, 03, 09, offered so: holds 03, 05; the third answer is no."
     ∷ list_row (key_ending 0x00) 2 (node_ending 0x05 ∷ node_ending 0x03 ∷ node_ending 0x09 ∷ []) (node_ending 0x03 ∷ node_ending 0x05 ∷ [])
-    (offer.Kept ∷ offer.Kept ∷ offer.NotKept ∷ [])
+    (Ok true ∷ Ok true ∷ Ok false ∷ [])
     ∷ []
 
 -- ---- what a row says
@@ -110,7 +109,7 @@ pub record EndsWith (events : List Event) (answer : Given) (bytes : List ℕ) : 
   pub sends : sent_bytes last.sent ≡ bytes
 
 -- the answers to offers in turn
-unfoldable pub offer_answers : NearestList → List Node → List OfferAnswer
+unfoldable pub offer_answers : NearestList → List Node → List (Result Bool Refusal)
 offer_answers l [] = []
 offer_answers l (n ∷ ns) = (offered l n).answer ∷ offer_answers (offered l n).list ns
 
@@ -125,7 +124,7 @@ pub record ReadsAs (bytes : List ℕ) (size : ℕ) (n : nodes.NodeInfo) : Type 0
   pub packs : nodes.packed_node n ≡ bytes
 
 -- a list row: what the list holds after the offers, and their answers
-pub record Keeps (target : code.Key) (size : ℕ) (news holding : List Node) (answers : List OfferAnswer) : Type 0 where
+pub record Keeps (target : code.Key) (size : ℕ) (news holding : List Node) (answers : List (Result Bool Refusal)) : Type 0 where
   pub holds : held (offers (begun target size).list news) ≡ holding
   pub answered : offer_answers (begun target size).list news ≡ answers
 
@@ -169,18 +168,13 @@ same_nodes (m ∷ ms) [] = false
 same_nodes (m ∷ ms) (n ∷ ns) = same_node m n && same_nodes ms ns
 
 -- the table has no refused offer
-unfoldable pub same_answer : OfferAnswer → OfferAnswer → Bool
-same_answer offer.Kept offer.Kept = true
-same_answer offer.Kept offer.NotKept = false
-same_answer offer.Kept (offer.Refused why) = false
-same_answer offer.NotKept offer.Kept = false
-same_answer offer.NotKept offer.NotKept = true
-same_answer offer.NotKept (offer.Refused why) = false
-same_answer (offer.Refused why) offer.Kept = false
-same_answer (offer.Refused why) offer.NotKept = false
-same_answer (offer.Refused why) (offer.Refused why') = false
+unfoldable pub same_answer : Result Bool Refusal → Result Bool Refusal → Bool
+same_answer (Ok kept) (Ok kept') = cond kept kept' (not kept')
+same_answer (Ok kept) (Err why) = false
+same_answer (Err why) (Ok kept) = false
+same_answer (Err why) (Err why') = false
 
-unfoldable pub same_answers : List OfferAnswer → List OfferAnswer → Bool
+unfoldable pub same_answers : List (Result Bool Refusal) → List (Result Bool Refusal) → Bool
 same_answers [] [] = true
 same_answers [] (b ∷ bs) = false
 same_answers (a ∷ rest) [] = false

@@ -2,13 +2,13 @@
 -- last event has the row's answer, and its records are the row's bytes. P12: the export that reads a node tells the row's fields of its bytes, and the one that
 -- writes makes its bytes of its fields. P13: on a list that the export began for the row's target and size, the exported offers of its nodes are answered as the
 -- row says, and the held-node export reads back the nodes that it says.
-use Rattle.std.specs.Prelude.{List, [], ◌∷◌, ◌++◌, ◌≡◌, ℕ, ◌≤◌, ℤ, pos, length, drop}
+use Rattle.std.specs.Prelude.{Bool, List, [], ◌∷◌, ◌++◌, ◌≡◌, ℕ, ◌≤◌, ℤ, pos, length, drop, Result}
+use Rattle.refusal.specs.declared.Refusal.{Refusal}
 use Rattle.key.specs.declared.Key as code
 use Rattle.node.specs.declared.Node.{Node}
 use Rattle.node.specs.Nodes.{NodeInfo, read_node}
 use Rattle.node.specs.Values.{value_of}
 use Rattle.node.specs.Written.{WritesNode}
-use Rattle.nearest.specs.declared.OfferAnswer.{OfferAnswer}
 use Rattle.rules.specs.Room.{base_sizes}
 use Rattle.rules.specs.History.{Event}
 use Rattle.banavoge_laws.specs.Answers.{ToldAs}
@@ -36,11 +36,11 @@ unfoldable pub numbers_of : List ListEvent → List ℤ
 numbers_of [] = []
 numbers_of (e ∷ events) = e.number ∷ numbers_of events
 
-unfoldable pub kept_codes : List OfferAnswer → List ℤ
+unfoldable pub kept_codes : List (Result Bool Refusal) → List ℤ
 kept_codes [] = []
 kept_codes (answer ∷ rest) = kept_code answer ∷ kept_codes rest
 
-pub record ListSeen (target : code.Key) (size : ℕ) (news holding : List Node) (answers : List OfferAnswer) : Type 0 where
+pub record ListSeen (target : code.Key) (size : ℕ) (news holding : List Node) (answers : List (Result Bool Refusal)) : Type 0 where
   pub seen : (events : List ListEvent) (m' : List ℕ) → ListHistory target size events m' → list_calls events ≡ offering_all news
       → (numbers_of events ≡ kept_codes answers) × ReadsBack m' holding
 

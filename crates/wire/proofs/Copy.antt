@@ -1,23 +1,12 @@
--- Copying a list over the front of another, an output that is written piece by piece, and parts of a list. Assumes nothing.
+-- A list copied over a part, an output that is written piece by piece, and parts of a list. Assumes nothing.
 use mathlib.Core.Path.{◌≡◌, ◌∙◌, refl, sym, ap, ap₂}
 use mathlib.Core.List.{List, [], ◌∷◌, ◌++◌, append_assoc, append-nil}
 use Prim.Native.Nat.{ℕ, zero, suc, ◌+◌, ◌-◌, ◌<◌, ◌≤◌}
 use native.Mathlib.Omega.{arith}
-use native.Mathlib.Nat.{le_of_suc-le-suc, not-suc-le-zero, sub-zero, zero-sub, suc-sub-suc}
+use native.Mathlib.Nat.{not-suc-le-zero, sub-zero, zero-sub, suc-sub-suc}
 use native.Mathlib.Numerals.{add-one}
 use lib.ListN.{length, get_or, take, drop, set, length-append, length-drop, drop_of_length-le}
 use lib.Seq.{take-length, take-nil, take-take, length-take-le, drop-cons, drop-drop, set_at, take_at, drop_at}
-
-stored : (src dst : List ℕ) (i : ℕ) → i < length src → i < length dst → set (take i src ++ drop i dst) i (get_or src i 0) ≡ take (suc i) src ++ drop (suc i) dst
-stored [] dst i h k = absurd (not-suc-le-zero h)
-stored (x ∷ xs) [] i h k = absurd (not-suc-le-zero k)
-stored (x ∷ xs) (y ∷ ys) zero h k = refl
-stored (x ∷ xs) (y ∷ ys) (suc i) h k = ap (λ (l : List ℕ). x ∷ l) (stored xs ys i (le_of_suc-le-suc h) (le_of_suc-le-suc k))
-
--- with i elements copied, the next goes to its place
-pub copy_more : (src dst : List ℕ) (i : ℕ) → i < length src → i < length dst
-    → set (take i src ++ drop i dst) i (get_or src i 0) ≡ take (i + 1) src ++ drop (i + 1) dst
-copy_more src dst i h k = rw add-one (stored src dst i h k)
 
 -- all of a part copied over
 pub copy_whole : (src part : List ℕ) → length part ≡ length src → take (length src) src ++ drop (length src) part ≡ src

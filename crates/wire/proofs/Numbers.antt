@@ -3,12 +3,13 @@
 use mathlib.Core.Path.{◌≡◌, ◌∙◌, refl, sym, ap, ap₂}
 use mathlib.Core.List.{List, [], ◌∷◌, ◌++◌, append_assoc}
 use Prim.Native.Nat.{ℕ, zero, suc, ◌+◌, ◌*◌, ◌/◌, ◌%◌, ◌^◌, ◌<◌, ◌≤◌}
-use native.Mathlib.Nat.{mul-le-mul_right, pow-suc, le_of_suc-le-suc, pow-le-pow_right, mod-eq_of_lt, mod-one}
+use native.Mathlib.Nat.{mul-le-mul_left, mul-le-mul_right, pow-suc, pow-le-pow_right, mod-eq_of_lt, mod-one}
 use native.Mathlib.Omega.{arith}
 use native.Mathlib.Numerals.{add-one}
 use lib.Arith.{digits_div, digits_mod, mod-mul}
 use lib.ListN.{length, get_or, take, drop, set, length-append}
-use lib.Seq.{take-suc, set_split, drop_at, length-take-le}
+use lib.Seq.{set_split, drop_at, length-take-le}
+use Rattle.std.proofs.lemmas.List.{length-take}
 use Rattle.wire.specs.Numbers.{Bytes, number_of, bytes_of}
 
 -- ---- bytes
@@ -109,17 +110,29 @@ bytes_of_number bs s =
 
 -- ---- one byte at a time
 
--- up to seven bytes leave room for one more in 64 bits
-pub seven_leave_room : (n i : ℕ) → n < 256 ^ i → i < 8 → n < 2 ^ 56
-seven_leave_room n i h k = let p : 256 ^ i ≤ 256 ^ 7 = pow-le-pow_right (omega arith) (le_of_suc-le-suc k) in omega arith
+-- what is read of bytes so far, and the bytes left to read: their number is that of all
+abbrev pub Left : ℕ → List ℕ → ℕ → Type 0
+Left n bs all = n * 256 ^ length bs + number_of bs ≡ all
 
--- the number of one byte more
-pub number_more : (s : List ℕ) (i n b : ℕ) → i < length s → n ≡ number_of (take i s) → b ≡ get_or s i 0 → n * 256 + b ≡ number_of (take (i + 1) s)
-number_more s i n b h p q =
-    ap₂ (λ (x y : ℕ). x * 256 + y) p q ∙ sym (rw (add-one, take-suc s i 0 h) (number_snoc (take i s) (get_or s i 0)))
+taken : (n b P z : ℕ) → n * (P * 256) + (b * P + z) ≡ (n * 256 + b) * P + z
+taken n b P z = omega arith
 
-pub more_lt : (n i b : ℕ) → n < 256 ^ i → b < 256 → n * 256 + b < 256 ^ (i + 1)
-more_lt n i b h k = rw (add-one, pow-suc 256 i) (omega arith)
+-- the next byte is taken in
+pub left_next : (n b : ℕ) (bs : List ℕ) (all : ℕ) → Left n (b ∷ bs) all → Left (n * 256 + b) bs all
+unfolding number_of
+left_next n b bs all e = sym (ap (λ (p : ℕ). n * p + (b * 256 ^ length bs + number_of bs)) (pow-suc 256 (length bs)) ∙ taken n b (256 ^ length bs) (number_of bs)) ∙ e
+
+pub left_none : (n all : ℕ) → Left n [] all → n ≡ all
+unfolding number_of
+left_none n all e = omega arith
+
+-- and what is read so far of eight bytes or fewer fits 64 bits
+pub left_fits : (n : ℕ) (bs all : List ℕ) → Bytes all → Left n bs (number_of (take 8 all)) → n < 2 ^ 64
+left_fits n bs all s e =
+    let p : 1 ≤ 256 ^ length bs = pow_positive (length bs) in
+    let l : length (take 8 all) ≤ 8 = omega (arith, length-take 8 all) in
+    let q : 256 ^ length (take 8 all) ≤ 256 ^ 8 = pow-le-pow_right (omega arith) l in
+    omega (arith, mul-le-mul_left n p, number_lt (take 8 all) (bytes_take 8 all s))
 
 -- the last byte but j of a number goes to its place, and the higher ones are left to write
 pub bytes_of_store : (j n : ℕ) (out : List ℕ) → j < length out → bytes_of (suc j) n ++ drop (suc j) out ≡ bytes_of j (n / 256) ++ drop j (set out j (n % 256))

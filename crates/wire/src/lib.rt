@@ -9,25 +9,13 @@ ghost use Rattle.wire.specs.Numbers.{number_of, bytes_of};
 // As many bytes as a 64-bit number has.
 const WORD: usize = 8;
 
-// A byte, as a number to reckon with.
-fn wide(byte: u8) -> u64
-    ensures { result ≡ byte }
-{
-    byte as u64
-}
-
 // The number that the first 8 bytes make, or all of them where there are fewer.
 pub fn read_number(bytes: &[u8]) -> u64
     ensures { result ≡ number_of (take 8 bytes.now) }
 {
-    let mut number: u64 = 0;
-    let mut i = 0;
-    while i < WORD {
-        if bytes.len() <= i {
-            return number;
-        }
-        number = number * 256 + wide(bytes[i]);
-        i += 1;
+    let mut number = 0;
+    for &byte in bytes.iter().take(WORD) {
+        number = number * 256 + u64::from(byte);
     }
     number
 }
@@ -37,10 +25,9 @@ pub fn write_number(number: u64, out: &mut [u8])
     ensures { out.new ≡ bytes_of (length out.old) number }
 {
     let mut left = number;
-    let mut i = out.len();
-    while 0 < i {
-        i -= 1;
+    // By index: of bytes that an iterator lent from the back nothing is known after the loop.
+    for i in (0..out.len()).rev() {
         out[i] = (left % 256) as u8;
-        left = left / 256;
+        left /= 256;
     }
 }

@@ -12,7 +12,7 @@ returns-then-not-is_whole c =
     (sym c.is_whole.ensures ∙ c.if-not-is_whole.true)
 
 pub nearest-kept-requires : goal.nearest-kept-requires
-nearest-kept-requires c = ((is_key c.args.target c.well_formed.1.0.0 c.well_formed.1.0.1.1).long, sym c.is_whole.ensures ∙ c.if-not-is_whole.false)
+nearest-kept-requires c = sym c.is_whole.ensures ∙ c.if-not-is_whole.false
 
 pub returns-then-out-length : goal.returns-then-out-length
 returns-then-out-length c =

@@ -12,14 +12,14 @@ use Rattle.frame_reader.proofs.go_on.Goals as goal
 pub hold-requires : goal.hold-requires
 hold-requires c =
     let a = c.args in
-    let e = sym c.front_of-next.ensures ∙ c.in-Unfinished.is in
+    let e = sym c.front_of.ensures ∙ c.in-Unfinished.is in
     omega (arith, there_length a.held a.keep.now a.piece.now (omega arith), unfinished_bound (take a.held a.keep.now ++ a.piece.now) e)
 
 pub finish-requires : goal.finish-requires
 finish-requires c =
     let a = c.args in
     let there = take a.held a.keep.now ++ a.piece.now in
-    let e = sym c.front_of-next.ensures ∙ c.in-Whole.is in
+    let e = sym c.front_of.ensures ∙ c.in-Whole.is in
     let whole = long_of there _ e in
     let l = there_length a.held a.keep.now a.piece.now (omega arith) in
     let some = grown (take a.held a.keep.now) a.piece.now _ (search rules) e in
@@ -30,10 +30,10 @@ finish-requires c =
     }
 
 pub returns-in-Unfinished : goal.returns-in-Unfinished
-returns-in-Unfinished c = rw (sym c.front_of-next.ensures ∙ c.in-Unfinished.is) c.hold.ensures
+returns-in-Unfinished c = rw (sym c.front_of.ensures ∙ c.in-Unfinished.is) c.hold.ensures
 
 pub returns-in-BadLength : goal.returns-in-BadLength
-returns-in-BadLength c = rw (sym c.front_of-next.ensures ∙ c.in-BadLength.is) (record { value = c.refused.ensures; keep_after = refl })
+returns-in-BadLength c = rw (sym c.front_of.ensures ∙ c.in-BadLength.is) (record { value = c.refused.ensures; keep_after = refl })
 
 pub returns-in-Whole : goal.returns-in-Whole
-returns-in-Whole c = rw (sym c.front_of-next.ensures ∙ c.in-Whole.is) c.finish.ensures
+returns-in-Whole c = rw (sym c.front_of.ensures ∙ c.in-Whole.is) c.finish.ensures

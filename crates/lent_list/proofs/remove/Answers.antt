@@ -1,61 +1,30 @@
 -- `remove` meets its contract: each way out is a case of `CallLaws` of `lent_list_laws`. Assumes nothing.
 use borrow.Author.Rules.{rules}
-use mathlib.Core.Path.{◌≡◌, ◌∙◌, refl, sym, ap}
-use mathlib.Core.Bool.{Bool, true, false}
-use mathlib.Core.List.{List}
-use Prim.Native.Nat.{ℕ, ◌≤◌}
-use native.Mathlib.Omega.{arith}
-use lib.ListN.{length}
-use Rattle.wire.specs.Numbers.{Bytes}
+use mathlib.Core.Path.{◌∙◌, sym, ap}
+use Rattle.std.specs.Prelude.{Result}
+use Rattle.std.proofs.lemmas.Result.{err_from_is_err_and}
 use Rattle.wire.proofs.Numbers.{bytes_each}
-use Rattle.key.specs.declared.Key.{Key}
-use Rattle.nearest.specs.declared.Answer.{Answer}
-use Rattle.nearest.specs.declared.Answer.TheVariants.{Refused}
-use Rattle.nearest.specs.declared.Removed.{Removed}
+use Rattle.refusal.specs.declared.Refusal.{Refusal}
+use Rattle.nearest.specs.declared.Answered.{Answered}
 use Rattle.nearest.specs.Calls.{removed}
-use Rattle.nearest.proofs.RemoveLaws.{remove_refused}
-use Rattle.lent_list.specs.Change.{remove_answer}
-use Rattle.lent_list_laws.specs.Layout.{list_at, stored}
-use Rattle.lent_list_laws.specs.Calls.{Removes}
-use Rattle.lent_list_laws.proofs.CallLaws.{removes_short, removes_refused, removes_done}
+use Rattle.lent_list_laws.specs.Layout.{list_at}
+use Rattle.lent_list_laws.proofs.CallLaws.{removes_done}
+use Rattle.lent_list.proofs.StandingLaws.{stands, removes_not_standing}
 use Rattle.lent_list.proofs.remove.Goals as goal
 
-pub returns-then-memory-lt-BYTES : goal.returns-then-memory-lt-BYTES
-returns-then-memory-lt-BYTES c =
-    let h = c.if-memory-lt-BYTES.true in
-    removes_short c.args.key c.args.memory.now (bytes_each c.args.memory.now (λ i. search rules)) _ c.too_short.ensures (omega arith)
-
-pub returns-in-Refused : goal.returns-in-Refused
-returns-in-Refused c =
-    let h = c.if-memory-lt-BYTES.false in
-    let why = c.in-Refused.why in
-    let e = sym c.check-standing.ensures ∙ c.in-Refused.is in
-    removes_refused c.args.key c.args.memory.now (bytes_each c.args.memory.now (λ i. search rules)) (omega arith) (record { list = list_at c.args.memory.now; answer = Refused why })
-    (remove_refused (list_at c.args.memory.now) c.args.key why e) why refl
+pub returns-in_err-check : goal.returns-in_err-check
+returns-in_err-check c =
+    let m = c.args.memory.now in
+    let p = err_from_is_err_and c.from_residual.result c.from_residual.ensures.1 in
+    rw (p.1, p.2) (removes_not_standing m _ c.args.key (bytes_each m (λ i. search rules)) (sym c.check.ensures ∙ c.in_err-check.was))
 
 pub take_out-requires : goal.take_out-requires
-take_out-requires c =
-    let h = c.if-memory-lt-BYTES.false in
-    (omega arith, sym c.check-standing.ensures ∙ c.in_default.is)
-
--- what was taken out is what is removed
-taken : (key : Key) (m : List ℕ) → Bytes m → 850 ≤ length m → (r b : Bool) (left : List ℕ) → r ≡ b → remove_answer r ≡ (removed (list_at m) key).answer
-    → left ≡ stored (removed (list_at m) key).list m → Removes key m left (remove_answer b)
-taken key m bytes room r b left e a s =
-    let o = removed (list_at m) key in
-    removes_done key m bytes room (record { list = o.list; answer = remove_answer b })
-    (ap {B = Removed} (λ (x : Answer). record { list = o.list; answer = x }) (sym (ap remove_answer e) ∙ a)) left s
-
-pub returns-then-take_out : goal.returns-then-take_out
-unfolding remove_answer
-returns-then-take_out c =
-    let h = c.if-memory-lt-BYTES.false in
-    let x = c.take_out in
-    taken c.args.key c.args.memory.now (bytes_each c.args.memory.now (λ i. search rules)) (omega arith) _ true _ c.if-take_out.true x.ensures.result_value x.ensures.memory_after
+take_out-requires c = sym c.check.ensures ∙ c.in_ok-check.was
 
 pub returns : goal.returns
-unfolding remove_answer
 returns c =
-    let h = c.if-memory-lt-BYTES.false in
-    let x = c.take_out in
-    taken c.args.key c.args.memory.now (bytes_each c.args.memory.now (λ i. search rules)) (omega arith) _ false _ c.if-take_out.false x.ensures.result_value x.ensures.memory_after
+    let m = c.args.memory.now in
+    let s = stands m (sym c.check.ensures ∙ c.in_ok-check.was) in
+    let o = removed (list_at m) c.args.key in
+    removes_done c.args.key m (bytes_each m (λ i. search rules)) s.0 (record { list = o.list; answer = c.take_out.result })
+    (ap {B = Answered (Unit {0})} (λ (x : Result (Unit {0}) Refusal). record { list = o.list; answer = x }) c.take_out.ensures.answer) _ c.take_out.ensures.memory_after

@@ -1,27 +1,24 @@
 -- `packet_write::connect_notification` meets its contract: the number is judged, then the two bytes are put. Assumes nothing.
-use mathlib.Core.List.{[], ◌∷◌}
+use Rattle.std.proofs.Common.{[], ◌∷◌, leb}
+use borrow.Author.Tests.{leb-true, leb-false}
+use Rattle.refusal.specs.declared.Refusal.TheVariants.{NoSuchRoute}
+use Rattle.packet_laws.specs.Table.{number_right}
 use Rattle.packet_laws.specs.FromRelay.{FitsRelay, relay_bytes, connect_notice}
 use Rattle.packet_laws.specs.Judged.{relay_judged}
-use Rattle.packet_write.proofs.WriteLaws.{accepted_writes, refused_writes}
 use Rattle.packet_laws.proofs.Judged.{relay_connect_judged, relay_connect_number}
+use Rattle.packet_write.specs.Written.{passed}
+use Rattle.packet_write.proofs.WriteLaws.{accepted_writes, checked_writes}
 use Rattle.packet_write.proofs.connect_notification.Goals as goal
 
-pub returns-then-number-lt-FIRST : goal.returns-then-number-lt-FIRST
-unfolding FitsRelay relay_bytes
-returns-then-number-lt-FIRST c =
-    let a = c.args in
-    record {
-      fits = c.well_formed.0.1.1.0.1;
-      writes =
-          refused_writes (relay_judged (connect_notice a.number.0)) (2 ∷ a.number.0 ∷ []) a.out.now _ (relay_connect_number a.number.0 c.if-number-lt-FIRST.true);
-    }
-
 pub returns : goal.returns
-unfolding FitsRelay relay_bytes
+unfolding FitsRelay relay_bytes number_right
 returns c =
-    let a = c.args in
+    let n = c.args.number.0 in
+    let judged = relay_judged (connect_notice n) in
+    let bytes = 2 ∷ n ∷ [] in
     record {
       fits = c.well_formed.0.1.1.0.1;
       writes =
-          accepted_writes (relay_judged (connect_notice a.number.0)) (2 ∷ a.number.0 ∷ []) a.out.now _ _ _ (relay_connect_judged a.number.0 c.if-number-lt-FIRST.false) c.put_pair.ensures;
+          checked_writes judged bytes c.args.out.now _ _ (leb 16 n) NoSuchRoute passed (λ e. relay_connect_number n (leb-false 16 n e))
+          (λ e w. accepted_writes judged bytes c.args.out.now _ _ _ (relay_connect_judged n (leb-true 16 n e)) w) c.numbered.ensures;
     }

@@ -1,24 +1,25 @@
 -- `table::find` meets its contract: no place where the bytes do not fit, else the pass over the places listed. Assumes nothing.
-use mathlib.Core.Bool.{not}
-use mathlib.Core.Path.{sym, ◌∙◌, ap}
-use Rattle.table_laws.proofs.FitsLaws.{fits_table_lem, found_unfit, found_done}
-use Rattle.key.proofs.Owned.{is_key}
+use mathlib.Core.Path.{sym, ap, ap₂, ◌∙◌}
+use mathlib.Core.List.{List}
+use Prim.Native.Nat.{ℕ}
+use Rattle.table.specs.declared.Shape.{Shape}
+use native.Mathlib.Omega.{arith}
+use Rattle.table_laws.specs.Table.{place_below, find_key, key_at, listed}
+use Rattle.table_laws.proofs.FitsLaws.{found_unfit, found_fits}
+use Rattle.table_laws.proofs.PlaceBelow.{place_past}
 use Rattle.table.proofs.find.Goals as goal
 
-pub returns-then-not-fits : goal.returns-then-not-fits
-returns-then-not-fits c =
+pub returns-in_err-of : goal.returns-in_err-of
+returns-in_err-of c =
     let a = c.args in
-    sym (found_unfit a.places a.width a.table.now a.key.0 (sym c.fits.ensures ∙ c.if-not-fits.true))
-
-pub place_of-requires : goal.place_of-requires
-place_of-requires c =
-    let a = c.args in (
-      fits_table_lem a.places a.width a.table.now (sym c.fits.ensures ∙ c.if-not-fits.false),
-      (is_key a.key c.well_formed.1.1.1.0.0 c.well_formed.1.1.1.0.1.1).long,
-    )
+    let p = a.shape.places in
+    c.from_residual.ensures
+    ∙ sym (ap (place_below p) (found_unfit p a.shape.width a.table.now a.key.0 c.in_err-of.ensures) ∙ place_past p p (omega arith))
 
 pub returns : goal.returns
 returns c =
     let a = c.args in
-    found_done a.places a.width a.table.now a.key.0 _ c.fits.ensures (ap not c.if-not-fits.false)
-    _ c.place_of.ensures
+    let e = c.in_ok-of.ensures in
+    c.place_of.ensures
+    ∙ ap₂ (λ (s : Shape) (b : List ℕ). place_below s.places (find_key s.places (key_at s.places s.width b) a.key.0 (listed s.places b))) e.2 e.1
+    ∙ ap (place_below a.shape.places) (sym (found_fits a.shape.places a.shape.width a.table.now a.key.0 e.0))

@@ -7,13 +7,10 @@ use Rattle.table.proofs.free.Goals as goal
 pub returns-then-table-places : goal.returns-then-table-places
 returns-then-table-places c = let a = c.args in sym (freed_short a.places a.table.now c.if-table-places.true a.place)
 
-pub overflow_cast-table : goal.overflow_cast-table
-overflow_cast-table c = let g = c.type_inv.table 0 in omega arith
-
-pub returns-then-places-table : goal.returns-then-places-table
-returns-then-places-table c = let a = c.args in sym (freed_many a.places a.table.now c.if-places-table.true a.place)
+pub returns-then-places-from : goal.returns-then-places-from
+returns-then-places-from c = let a = c.args in sym (freed_many a.places a.table.now (omega arith) a.place)
 
 pub returns : goal.returns
 returns c =
     let a = c.args in
-    c.remove.ensures ∙ sym (freed_in_lem a.places a.table.now c.if-table-places.false c.if-places-table.false a.place)
+    c.remove.ensures ∙ sym (freed_in_lem a.places a.table.now c.if-table-places.false (omega arith) a.place)

@@ -1,21 +1,22 @@
 -- `table::key_at` meets its contract. Assumes nothing.
-use mathlib.Core.Path.{sym, ◌∙◌}
-use Rattle.table_laws.proofs.FitsLaws.{fits_table_lem, key_place, key_unfit, key_no_place}
+use mathlib.Core.Path.{sym, ap₂, ◌∙◌}
+use mathlib.Core.List.{List}
+use Prim.Native.Nat.{ℕ}
+use Rattle.table.specs.declared.Shape.{Shape}
+use Rattle.table_laws.specs.Table.{key_at as table_key}
+use Rattle.table_laws.proofs.FitsLaws.{key_place, key_unfit, key_no_place}
 use Rattle.table.proofs.key_at.Goals as goal
 
-pub returns-then-not-fits : goal.returns-then-not-fits
-returns-then-not-fits c =
-    let a = c.args in sym (key_unfit a.places a.width a.table.now a.place (sym c.fits.ensures ∙ c.if-not-fits.true))
+pub returns-in_default : goal.returns-in_default
+returns-in_default c = let a = c.args in sym (key_unfit a.shape.places a.shape.width a.table.now a.place c.in_default.ensures)
 
-pub returns-then-places-place : goal.returns-then-places-place
-returns-then-places-place c = let a = c.args in sym (key_no_place a.places a.width a.table.now a.place c.if-places-place.true)
-
-pub key_of-requires : goal.key_of-requires
-key_of-requires c =
-    let a = c.args in
-    (fits_table_lem a.places a.width a.table.now (sym c.fits.ensures ∙ c.if-not-fits.false), c.if-places-place.false)
+pub returns-then-shape-place : goal.returns-then-shape-place
+returns-then-shape-place c = let a = c.args in sym (key_no_place a.shape.places a.shape.width a.table.now a.place c.if-shape-place.true)
 
 pub returns : goal.returns
 returns c =
     let a = c.args in
-    c.key_of.ensures ∙ sym (key_place a.places a.width a.table.now a.place (sym c.fits.ensures ∙ c.if-not-fits.false) c.if-places-place.false)
+    let e = c.in-Some.ensures in
+    c.key_of.ensures
+    ∙ ap₂ (λ (s : Shape) (b : List ℕ). table_key s.places s.width b a.place) e.2 e.1
+    ∙ sym (key_place a.shape.places a.shape.width a.table.now a.place e.0 c.if-shape-place.false)

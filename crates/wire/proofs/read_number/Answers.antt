@@ -1,47 +1,38 @@
--- `wire::read_number` meets its contract. The invariant: the number so far is that of the bytes passed, and takes as many bytes.
--- Assumes nothing.
-use mathlib.Core.Path.{◌≡◌, ◌∙◌, refl, sym, ap}
-use Prim.Native.Nat.{ℕ}
+-- `wire::read_number` meets its contract. What is left is the front of what the slice's iterator has left. Assumes nothing.
+use mathlib.Core.Path.{◌≡◌}
+use mathlib.Core.List.{List, [], ◌∷◌}
+use Prim.Native.Nat.{ℕ, zero, suc, ◌+◌, ◌*◌, ◌<◌}
 use native.Mathlib.Omega.{arith}
-use lib.ListN.{take}
-use lib.Seq.{take_all}
-use Rattle.wire.specs.Numbers.{number_of}
-use Rattle.wire.proofs.Numbers.{seven_leave_room, number_more, more_lt}
+use native.Mathlib.Numerals.{add-one}
+use lib.ListN.{length, take}
+use Rattle.wire.proofs.Numbers.{Left, left_next, left_none, left_fits, bytes_each}
 use Rattle.wire.proofs.read_number.Goals as goal
 
-pub loop-i-init : goal.loop-i-init
-unfolding number_of
-loop-i-init c = (omega arith, omega arith, refl, omega arith)
+front_next : (n b i k all : ℕ) (bs rest : List ℕ) → bs ≡ b ∷ rest → k + 1 ≡ i → Left n (take i bs) all → Left (n * 256 + b) (take k rest) all
+front_next n b i k all bs rest e f h = left_next n b (take k rest) all (rw (e, ← f, add-one) at h)
 
-pub returns-then-bytes-i : goal.returns-then-bytes-i
-returns-then-bytes-i c =
-    let l = c.loop-i in
-    let a = c.args in
-    l.invariant.2 ∙ ap number_of (take_all l.i a.bytes.now (omega arith) ∙ sym (take_all 8 a.bytes.now (omega arith)))
+front_none : (n i all : ℕ) (bs : List ℕ) → (0 < i → length bs ≡ 0) → Left n (take i bs) all → n ≡ all
+front_none n zero all bs e h = left_none n all h
+front_none n (suc i) all [] e h = left_none n all h
+front_none n (suc i) all (b ∷ bs) e h = absurd (omega (arith, e (omega arith)))
 
 pub overflow_mul-number : goal.overflow_mul-number
 overflow_mul-number c =
-    let l = c.loop-i in let h = seven_leave_room l.number l.i l.invariant.3 c.loop-i-test.true in omega arith
+    let s = c.in-Some.ensures.steps in
+    let e = front_next c.loop-byte.number c.in-Some.field-0.now _ _ _ _ _ s.0 s.1 c.loop-byte.invariant in
+    omega (arith, left_fits _ _ _ (bytes_each c.args.bytes.now (λ i. (c.type_inv.bytes i).fits)) e)
 
 pub overflow_add-number : goal.overflow_add-number
 overflow_add-number c =
-    let l = c.loop-i in
-    let h = seven_leave_room l.number l.i l.invariant.3 c.loop-i-test.true in
-    omega (arith, c.type_inv.bytes l.i)
+    let s = c.in-Some.ensures.steps in
+    let e = front_next c.loop-byte.number c.in-Some.field-0.now _ _ _ _ _ s.0 s.1 c.loop-byte.invariant in
+    omega (arith, left_fits _ _ _ (bytes_each c.args.bytes.now (λ i. (c.type_inv.bytes i).fits)) e)
 
-pub loop-i-preserved : goal.loop-i-preserved
-loop-i-preserved c =
-    let l = c.loop-i in
-    let a = c.args in
-    let b = c.type_inv.bytes l.i in (
-      omega arith,
-      omega arith,
-      number_more a.bytes.now l.i l.number c.wide.result (omega arith) l.invariant.2 c.wide.ensures,
-      more_lt l.number l.i c.wide.result l.invariant.3 (omega (arith, b)),
-    )
+pub loop-byte-preserved : goal.loop-byte-preserved
+loop-byte-preserved c =
+    let s = c.in-Some.ensures.steps in
+    let e = front_next c.loop-byte.number c.in-Some.field-0.now _ _ _ _ _ s.0 s.1 c.loop-byte.invariant in
+    rw c.from.ensures e
 
 pub returns : goal.returns
-returns c =
-    let l = c.loop-i in
-    let e : l.i ≡ 8 = let h = l.invariant.0 in omega arith in
-    l.invariant.2 ∙ ap (λ (n : ℕ). number_of (take n c.args.bytes.now)) e
+returns c = front_none _ _ _ _ (λ h. (c.in-None.ensures.steps h).0) c.loop-byte.invariant

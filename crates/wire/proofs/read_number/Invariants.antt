@@ -1,14 +1,8 @@
--- `wire::read_number` meets its contract. The invariant: the number so far is that of the bytes passed, and takes as many bytes.
--- Assumes nothing.
-use mathlib.Core.Path.{◌≡◌}
-use Prim.Native.Nat.{◌-◌, ◌^◌, ◌<◌, ◌≤◌}
-use lib.ListN.{length, take}
+-- `wire::read_number` meets its contract. The invariant: the number so far, and the bytes left to read. Assumes nothing.
+use lib.ListN.{take}
 use Rattle.wire.specs.Numbers.{number_of}
+use Rattle.wire.proofs.Numbers.{Left}
 use Rattle.wire.proofs.read_number.Given as goal
 
-abbrev pub invariant-loop-i : goal.invariant-loop-i
-invariant-loop-i l =
-    (l.i ≤ 8) × (l.i ≤ length l.bytes) × (l.number ≡ number_of (take l.i l.bytes)) × (l.number < 256 ^ l.i)
-
-abbrev pub decreases-loop-i : goal.decreases-loop-i
-decreases-loop-i l = 8 - l.i
+abbrev pub invariant-loop-byte : goal.invariant-loop-byte
+invariant-loop-byte l = Left l.number (take l.byte-iterator.n l.byte-iterator.iter.rest.now) (number_of (take 8 l.bytes))

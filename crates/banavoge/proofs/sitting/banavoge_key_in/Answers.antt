@@ -24,5 +24,5 @@ returns c =
     let a = c.args in
     let whole = sym c.is_whole.ensures ∙ c.if-not-is_whole.false in
     let taken = sym c.is_taken.ensures ∙ c.if-not-is_taken.false in
-    let there = key_told 40 32 a.room.now a.seat whole taken c.key_in-found.result.0 c.key_in-found.ensures in
-    tells_key 40 32 a.room.now a.seat _ _ c.key_in-found.result.0 there refl
+    let there = key_told 40 32 a.room.now a.seat whole taken c.key_in.result.0 c.key_in.ensures in
+    tells_key 40 32 a.room.now a.seat _ _ c.key_in.result.0 there refl

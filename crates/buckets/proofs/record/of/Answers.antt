@@ -1,11 +1,8 @@
 -- `record::of` meets its contract: the port, the address, the family and the key are written over zeros. Assumes nothing.
-use mathlib.Core.Path.{◌≡◌, ◌∙◌, refl, ap}
+use mathlib.Core.Path.{◌≡◌, ◌∙◌, ap}
 use mathlib.Core.List.{List, [], ◌∷◌, ◌++◌, append-nil}
 use Prim.Native.Nat.{ℕ}
-use native.Mathlib.Omega.{arith}
-use lib.ListN.{replicate}
-use Rattle.key.proofs.Lent.{with_key_whole}
-use Rattle.node.proofs.Owned.{is_node}
+use Rattle.wire.proofs.TwoBytes.{to_two}
 use Rattle.buckets_laws.specs.Layout.{node_fields, node_record}
 use Rattle.buckets.proofs.record.of.Goals as goal
 
@@ -14,12 +11,7 @@ joined : {key k address a port p : List ℕ} (family : ℕ) → key ≡ k → ad
 joined {key} {k} {address} {a} {port} {p} family e f g =
     ap (λ (x : List ℕ). key ++ (family ∷ (address ++ x))) (append-nil port ∙ g) ∙ ap (λ (x : List ℕ). key ++ (family ∷ (x ++ p))) f ∙ ap (λ (x : List ℕ). x ++ (family ∷ (a ++ p))) e
 
-pub copy_from_slice-requires : goal.copy_from_slice-requires
-copy_from_slice-requires c = let l = (is_node c.args.node c.well_formed.0.0 c.well_formed.0.1.1).long in omega (arith, l)
-
 pub returns : goal.returns
 unfolding node_record node_fields
 returns c =
-    joined c.args.node.family (c.write.ensures ∙ with_key_whole c.args.node.key.0 (replicate 32 0) refl)
-    c.copy_from_slice.ensures.after
-    c.write_number.ensures
+    joined c.args.node.family c.copy_from_slice-3.ensures.after c.copy_from_slice-2.ensures.after (c.copy_from_slice.ensures.after ∙ c.to_be_bytes.ensures ∙ to_two c.args.node.port)

@@ -1,25 +1,21 @@
 -- `record::read` meets its contract: each part is that of the definition. Assumes nothing.
-use mathlib.Core.Path.{◌∙◌, ap}
-use native.Mathlib.Omega.{arith}
-use Rattle.wire.specs.Numbers.{number_of}
-use Rattle.wire.proofs.Numbers.{bytes_each}
+use Rattle.std.proofs.Common.{◌∙◌, sym, ap₂, ℕ, [], ◌∷◌, get_or, drop, arith}
+use lib.ListN.{length-drop}
+use lib.Seq.{get_or-drop}
+use mir.Syntax.{w16}
+use Rattle.std.specs.Int.{from_be_bytes}
+use Rattle.wire.proofs.TwoBytes.{from_two}
 use Rattle.node.proofs.NodeLaws.{same_value}
-use lib.ListN.{get_or}
 use Rattle.buckets_laws.specs.Layout.{record_node}
-use Rattle.buckets.proofs.RecordParts.{port_part, port_small, key_part}
+use Rattle.buckets.proofs.RecordParts.{key_part}
 use Rattle.buckets.proofs.record.read.Goals as goal
-
-pub overflow_cast-result : goal.overflow_cast-result
-overflow_cast-result c =
-    let b = c.args.bytes.now in
-    let e = c.read_number.ensures ∙ ap number_of (port_part b c.requires) in
-    let l = port_small b c.requires (bytes_each b (λ i. (c.type_inv.bytes i).fits)) in
-    omega arith
 
 pub returns : goal.returns
 unfolding record_node
 returns c =
     let b = c.args.bytes.now in
-    same_value (get_or b 32 0) _ _ _ _ c.read.result _ c.address.ensures
-    (c.read_number.ensures ∙ ap number_of (port_part b c.requires))
+    let l = length-drop 49 b in
+    let h = c.requires in
+    same_value (get_or b 32 0) _ _ _ _ c.read.result _ c.copy_from_slice.ensures.after
+    (c.from_be_bytes.ensures ∙ ap₂ (λ (x y : ℕ). from_be_bytes w16 (x ∷ y ∷ [])) (sym (get_or-drop 49 b 0 0)) (sym (get_or-drop 49 b 1 0)) ∙ from_two (drop 49 b) (omega arith))
     (c.read.ensures ∙ key_part b c.requires)

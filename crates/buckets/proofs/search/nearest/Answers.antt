@@ -1,25 +1,23 @@
 -- `search::nearest` meets its contract. The invariant: the nodes of the buckets passed are put in. Assumes nothing.
-use mathlib.Core.Path.{◌≡◌}
 use mathlib.Core.List.{[]}
 use native.Mathlib.Omega.{arith}
 use Rattle.buckets.proofs.KeptLaws.{none_passed, bucket_passed, buckets_passed}
 use Rattle.buckets.proofs.search.nearest.Goals as goal
 
 pub loop-bucket-init : goal.loop-bucket-init
-loop-bucket-init c = let a = c.args in (omega arith, none_passed a.memory.now a.target.now)
+loop-bucket-init c = let a = c.args in none_passed a.memory.now a.target.now
 
 pub with_bucket-kept-requires : goal.with_bucket-kept-requires
-with_bucket-kept-requires c = (c.loop-bucket.invariant.1.well, c.requires.0, c.requires.1, c.loop-bucket-test.true)
+with_bucket-kept-requires c = (c.loop-bucket.invariant.well, c.requires, c.loop-bucket-test.true)
 
 pub loop-bucket-preserved : goal.loop-bucket-preserved
 loop-bucket-preserved c =
     let a = c.args in
     let l = c.loop-bucket in
-    (omega arith, bucket_passed a.memory.now a.target.now [] l.bucket l.kept l.invariant.1 c.with_bucket-kept.result c.with_bucket-kept.ensures)
+    bucket_passed a.memory.now a.target.now [] l.bucket l.kept l.invariant c.with_bucket-kept.result c.with_bucket-kept.ensures
 
 pub returns : goal.returns
 returns c =
     let a = c.args in
     let l = c.loop-bucket in
-    let e : l.bucket ≡ 256 = let h = l.invariant.0 in let k = c.loop-bucket-test.false in omega arith in
-    buckets_passed a.memory.now a.target.now l.bucket e l.kept l.invariant.1
+    buckets_passed a.memory.now a.target.now l.bucket (omega arith) l.kept l.invariant

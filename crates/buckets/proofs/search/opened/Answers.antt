@@ -1,39 +1,13 @@
--- `search::opened` meets its contract. The invariant: the slots passed are those of the list with the start put in, and its next element is
--- carried. Assumes nothing.
-use mathlib.Core.Path.{◌≡◌, ◌∙◌, sym, ap, ap₂}
-use mathlib.Core.List.{List, ◌++◌}
-use Prim.Native.Nat.{ℕ, ◌+◌, ◌<◌, ◌≤◌}
+-- `search::opened` meets its contract. Assumes nothing.
+use mathlib.Core.Path.{ap, ◌∙◌}
+use mathlib.Core.List.{List}
+use Prim.Native.Nat.{ℕ}
 use native.Mathlib.Omega.{arith}
-use lib.ListN.{length, get_or, take, drop, set}
-use Rattle.lists.specs.Insert.{insert_at}
-use Rattle.lists.proofs.Shift.{at_in, open_begins, open_stored, open_carried}
+use lib.ListN.{set}
+use Rattle.table_laws.proofs.Shifted.{moved_up}
 use Rattle.buckets.proofs.search.opened.Goals as goal
-
-pub loop-i-init : goal.loop-i-init
-loop-i-init c =
-    let a = c.args in
-    let h : a.place ≤ length a.starts = omega arith in (
-      omega arith,
-      omega arith,
-      open_begins a.place a.start a.starts h,
-      sym (at_in a.place a.start a.starts 0 h),
-    )
-
-pub loop-i-preserved : goal.loop-i-preserved
-loop-i-preserved c =
-    let l = c.loop-i in
-    let a = c.args in
-    let h : l.i < length a.starts = omega arith in (
-      omega arith,
-      omega arith,
-      ap₂ (λ (x : List ℕ) (y : ℕ). set x l.i y) l.invariant.2 l.invariant.3
-          ∙ open_stored a.place a.start a.starts 0 l.i l.invariant.0 h,
-      ap (λ (x : List ℕ). get_or x l.i 0) l.invariant.2 ∙ open_carried a.place a.start a.starts 0 l.i l.invariant.0 h,
-    )
 
 pub returns : goal.returns
 returns c =
-    let l = c.loop-i in
     let a = c.args in
-    let k : l.i ≡ a.last + 1 = let i = l.invariant.1 in omega arith in
-    l.invariant.2 ∙ ap (λ (x : ℕ). take x (insert_at a.place a.start a.starts) ++ drop x a.starts) k
+    ap (λ (x : List ℕ). set x a.place a.start) c.copy_within.ensures.after ∙ moved_up a.starts a.place a.last c.requires.0 a.start 0 (omega arith)

@@ -8,8 +8,4 @@ use Rattle.buckets.specs.Kept.{node_at}
 use Rattle.buckets.proofs.search.position.Given as goal
 
 abbrev pub invariant-loop-i : goal.invariant-loop-i
-invariant-loop-i l =
-    (l.i ≤ l.initial.i) × (position l.target (node_key (node_at l.memory l.at)) (map (node_at l.memory) (take l.initial.i l.starts)) ≤ l.i)
-
-abbrev pub decreases-loop-i : goal.decreases-loop-i
-decreases-loop-i l = l.i
+invariant-loop-i l = position l.target (node_key (node_at l.memory l.at)) (map (node_at l.memory) (take l.kept.count l.kept.starts)) ≤ l.i

@@ -1,5 +1,6 @@
--- `search::with_node` meets its contract: by whether the node's place is behind the four, and by whether there is room. Assumes nothing.
-use Rattle.buckets.proofs.KeptLaws.{place_few, kept_stays, kept_grows, kept_full}
+-- `search::with_node` meets its contract: by whether the node's place is behind the four. Assumes nothing.
+use native.Mathlib.Omega.{arith}
+use Rattle.buckets.proofs.KeptLaws.{place_few, kept_stays, kept_put}
 use Rattle.buckets.proofs.search.with_node.Goals as goal
 
 pub returns-then-place-ge-MOST : goal.returns-then-place-ge-MOST
@@ -12,18 +13,12 @@ pub opened-requires : goal.opened-requires
 opened-requires c =
     let a = c.args in
     let p = c.position-place in
-    (place_few a.memory.now a.target.now a.kept c.requires.0 a.at c.requires.1 p.result p.ensures, c.if-count-lt-MOST.true)
-
-pub returns-then-count-lt-MOST : goal.returns-then-count-lt-MOST
-returns-then-count-lt-MOST c =
-    let a = c.args in
-    let p = c.position-place in
-    kept_grows a.memory.now a.target.now a.kept c.requires.0 a.at c.requires.1 p.result p.ensures c.if-count-lt-MOST.true
-    c.opened.result c.opened.ensures
+    let f = place_few a.memory.now a.target.now a.kept c.requires.0 a.at c.requires.1 p.result p.ensures in
+    (omega arith, omega arith)
 
 pub returns : goal.returns
 returns c =
     let a = c.args in
     let p = c.position-place in
-    kept_full a.memory.now a.target.now a.kept c.requires.0 a.at c.requires.1 p.result p.ensures c.if-count-lt-MOST.false
-    c.opened-2.result c.opened-2.ensures
+    kept_put a.memory.now a.target.now a.kept c.requires.0 a.at c.requires.1 p.result p.ensures c.min-last.result (omega arith)
+    c.opened.result c.opened.ensures

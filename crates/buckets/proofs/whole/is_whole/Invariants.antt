@@ -1,12 +1,8 @@
 -- `whole::is_whole` meets its contract. The invariant: the buckets passed are whole. Assumes nothing.
 use mathlib.Core.Path.{◌≡◌}
 use mathlib.Core.Bool.{true}
-use Prim.Native.Nat.{◌-◌, ◌≤◌}
 use Rattle.buckets_laws.specs.Whole.{whole_below}
 use Rattle.buckets.proofs.whole.is_whole.Given as goal
 
 abbrev pub invariant-loop-bucket : goal.invariant-loop-bucket
-invariant-loop-bucket l = (l.bucket ≤ 256) × (whole_below l.memory l.bucket ≡ true)
-
-abbrev pub decreases-loop-bucket : goal.decreases-loop-bucket
-decreases-loop-bucket l = 256 - l.bucket
+invariant-loop-bucket l = whole_below l.memory l.bucket ≡ true

@@ -1,31 +1,43 @@
 -- `frame_reader::joined::front_of` meets its contract: its tests are those of `front`, in their order. Assumes nothing.
+use mathlib.Core.Path.{◌≡◌, ◌∙◌, sym, ap}
+use mathlib.Core.Bool.{true, false}
+use mathlib.Core.List.{◌++◌}
 use native.Mathlib.Omega.{arith}
-use Rattle.frame_reader.proofs.JoinedLaws.{read_few, read_under, read_above, read_short, read_long}
+use lib.ListN.{length-append}
+use Rattle.std.proofs.lemmas.Bool.Decides.{nat_tests}
+use Rattle.frame.specs.Frames.{length_right}
+use Rattle.frame.proofs.FrontLaws.{front_few, front_wrong, front_short, front_long}
 use Rattle.frame_reader.proofs.joined.front_of.Goals as goal
 
-pub returns-then-there-lt-LENGTH_BYTES : goal.returns-then-there-lt-LENGTH_BYTES
-returns-then-there-lt-LENGTH_BYTES c = let a = c.args in read_few a.held a.keep.now a.piece.now (omega arith) (omega arith)
+pub returns-in_default : goal.returns-in_default
+returns-in_default c = sym (front_few (c.args.held.now ++ c.args.piece.now) c.in_default.ensures)
 
-pub returns-then-length-lt-SHORTEST_LENGTH : goal.returns-then-length-lt-SHORTEST_LENGTH
-returns-then-length-lt-SHORTEST_LENGTH c =
-    let a = c.args in
-    read_under a.held a.keep.now a.piece.now (omega arith) (omega arith)
-    c.byte_at.ensures c.wide.ensures c.byte_at-2.ensures c.wide-2.ensures (omega arith)
+pub returns-then-not-contains : goal.returns-then-not-contains
+unfolding length_right
+returns-then-not-contains c =
+    let there = c.args.held.now ++ c.args.piece.now in
+    let is = c.in-Some.ensures in
+    let a = c.if-not-contains.ensures.cases in
+    let d = c.new.ensures in
+    let wrong : length_right c.in-Some.length ≡ false = grind (arith, nat_tests, a, d) in
+    sym (front_wrong there (record { two = is.0; wrong = ap length_right (sym is.1) ∙ wrong }))
 
-pub returns-then-length-gt-LONGEST_LENGTH : goal.returns-then-length-gt-LONGEST_LENGTH
-returns-then-length-gt-LONGEST_LENGTH c =
-    let a = c.args in
-    read_above a.held a.keep.now a.piece.now (omega arith) (omega arith)
-    c.byte_at.ensures c.wide.ensures c.byte_at-2.ensures c.wide-2.ensures (omega arith)
-
-pub returns-then-there-size : goal.returns-then-there-size
-returns-then-there-size c =
-    let a = c.args in
-    read_short a.held a.keep.now a.piece.now (omega arith) (omega arith)
-    c.byte_at.ensures c.wide.ensures c.byte_at-2.ensures c.wide-2.ensures (omega arith) (omega arith) (omega arith)
+pub returns-then-held-piece : goal.returns-then-held-piece
+unfolding length_right
+returns-then-held-piece c =
+    let there = c.args.held.now ++ c.args.piece.now in
+    let is = c.in-Some.ensures in
+    let a = c.if-not-contains.ensures.cases in
+    let d = c.new.ensures in
+    let right : length_right c.in-Some.length ≡ true = grind (arith, nat_tests, a, d) in
+    sym (front_short there (record { two = is.0; right = ap length_right (sym is.1) ∙ right; lacks = omega (arith, length-append c.args.held.now c.args.piece.now) }))
 
 pub returns : goal.returns
+unfolding length_right
 returns c =
-    let a = c.args in
-    read_long a.held a.keep.now a.piece.now (omega arith) (omega arith)
-    c.byte_at.ensures c.wide.ensures c.byte_at-2.ensures c.wide-2.ensures (omega arith) (omega arith) (omega arith)
+    let there = c.args.held.now ++ c.args.piece.now in
+    let is = c.in-Some.ensures in
+    let a = c.if-not-contains.ensures.cases in
+    let d = c.new.ensures in
+    let right : length_right c.in-Some.length ≡ true = grind (arith, nat_tests, a, d) in
+    sym (front_long there _ (record { two = is.0; right = ap length_right (sym is.1) ∙ right; ends = omega arith; there = omega (arith, length-append c.args.held.now c.args.piece.now) }))

@@ -13,14 +13,8 @@ returns-then-memory-lt-BYTES c =
     let h = c.if-memory-lt-BYTES.true in
     simp (lt-leb 850 (length c.args.memory.now) (omega arith)) c.empty.ensures
 
-pub overflow_cast-result : goal.overflow_cast-result
-overflow_cast-result c = omega (arith, c.type_inv.memory 0, c.type_inv.memory 1)
-
-pub overflow_cast-result-2 : goal.overflow_cast-result-2
-overflow_cast-result-2 c = omega (arith, c.type_inv.memory 0, c.type_inv.memory 1)
-
 pub returns : goal.returns
 returns c =
     let m = c.args.memory.now in
     let h = c.if-memory-lt-BYTES.false in
-    list_read m c.read.result _ (omega arith) c.read.ensures c.read_all.ensures ∙ sym (loaded_whole m (omega arith))
+    rw (c.from.ensures, c.from-2.ensures) (list_read m c.read.result _ (omega arith) c.read.ensures c.read_all.ensures ∙ sym (loaded_whole m (omega arith)))

@@ -1,58 +1,34 @@
--- `search::place` meets its contract. The invariant: the nodes passed are nearer, and the rest decides. Assumes nothing.
-use mathlib.Core.Path.{◌≡◌, ◌∙◌, ap}
-use mathlib.Core.Bool.{Bool, true, false, cond}
-use mathlib.Core.List.{List}
-use Prim.Native.Nat.{ℕ, suc, ◌+◌, ◌*◌, ◌<◌, ◌≤◌}
-use native.Mathlib.Omega.{arith}
-use lib.ListN.{length, take, drop}
+-- `search::place` meets its contract. Assumes nothing.
+use Rattle.std.proofs.Common.{rules, ◌≡◌, ◌∙◌, ap, arith, List, ℕ, ◌*◌, ◌/◌, length, take, drop, get_or, not, position}
+use borrow.Author.Tests.{tests}
+use Rattle.std.proofs.lemmas.Iterator.Search.{position_from_yields_List}
+use Rattle.wire.proofs.Copy.{length_lent}
 use Rattle.key.specs.Keys.{nearer, key_of}
-use Rattle.key.proofs.Lent.{key_itself}
-use Rattle.nearest.specs.Slots.{position}
-use Rattle.nearest.proofs.Front.{no_node, front_next, front_end}
-use Rattle.nearest.proofs.Steps.{position_one, position_none}
-use Rattle.lent_list_laws.specs.Layout.{slots_at}
+use Rattle.node.specs.declared.Node.{Node}
+use Rattle.nearest.specs.Lists.{node_key}
+use Rattle.nearest.specs.Slots as slots
+use Rattle.nearest.proofs.Steps.{leading_counts}
+use Rattle.lent_list_laws.specs.Layout.{slots_at, list_at}
 use Rattle.lent_list_laws.proofs.SlotLaws.{slots_number}
-use Rattle.lent_list_laws.proofs.PartLaws.{key_lent}
-use Rattle.lent_list.proofs.search.place.Invariants.{rest}
+use Rattle.lent_list.proofs.Parts.{YieldsList-parts, position_parts, nearer_part}
+use Rattle.lent_list.proofs.StandingLaws.{held_slots}
 use Rattle.lent_list.proofs.search.place.Goals as goal
 
--- what the comparison of a node with the key tells
-one_more : (target slots key part : List ℕ) (count i : ℕ) (r b : Bool) → length target ≡ 32 → length slots ≡ 816 → count ≤ 16 → length key ≡ 32 → i < count
-    → part ≡ take 32 (drop (i * 51 + 19) slots) → r ≡ nearer (key_of target) (key_of part) (key_of key) → r ≡ b
-    → rest target slots count key i ≡ cond b (suc (rest target slots count key (i + 1))) 0
-one_more target slots key part count i r b ht hs hc hk h e q g =
-    let n = slots_number 16 slots in
-    let k = key_itself key hk in
-    let t = key_itself target ht in
-    let p = key_lent 16 i slots no_node (omega arith) (omega arith) part e in
-    ap (position target key) (front_next (slots_at 16 slots) count (omega arith) no_node i (omega arith))
-    ∙ position_one target key _ _ b (cc)
-
-pub loop-i-init : goal.loop-i-init
-loop-i-init c = (omega arith, omega arith)
-
-pub returns-then-not-nearer : goal.returns-then-not-nearer
-returns-then-not-nearer c =
-    let a = c.args in
-    let h = c.requires in
-    let e = one_more a.target.now a.slots.now a.key.now _ a.count c.loop-i.i _ false h.0 h.1 h.2 h.3 (omega arith) c.key_at.ensures c.nearer.ensures c.if-not-nearer.true in
-    let i = c.loop-i.invariant.1 in
-    omega arith
-
-pub loop-i-preserved : goal.loop-i-preserved
-loop-i-preserved c =
-    let a = c.args in
-    let h = c.requires in
-    let e = one_more a.target.now a.slots.now a.key.now _ a.count c.loop-i.i _ true h.0 h.1 h.2 h.3 (omega arith) c.key_at.ensures c.nearer.ensures c.if-not-nearer.false in
-    let i = c.loop-i.invariant.1 in
-    (omega arith, omega arith)
-
 pub returns : goal.returns
+unfolding list_at
 returns c =
-    let l = c.loop-i in
-    let a = c.args in
-    let n = slots_number 16 a.slots.now in
-    let e = ap (position a.target.now a.key.now) (front_end (slots_at 16 a.slots.now) a.count (omega arith) l.i c.loop-i-test.false)
-    ∙ position_none a.target.now a.key.now in
-    let i = l.invariant.1 in
-    omega arith
+    let m = c.args.list.memory.now in
+    let t = take 32 (drop 2 m) in
+    let s = c.held.result.now in
+    let k = c.args.key.now in
+    let e : c.position-further.result ≡ position (λ (x : Node). not (nearer t (node_key x) k)) (slots_at (length s / 51) s) =
+    position_from_yields_List (λ (part : List ℕ). not (nearer (key_of t) (key_of (take 32 (drop 19 part))) (key_of k))) _ _ c.position-further.result c.position-further.ensures.ran
+    (YieldsList-parts s (cc) (cc)) (λ x b q h. search (rules, tests))
+    ∙ position_parts _ (λ (x : Node). not (nearer t (node_key x) k)) (nearer_part t k (length_lent m 2 32 (let h = c.args.list.long in omega arith)) (search rules)) s in
+    let h = held_slots m c.args.list.few c.args.list.long s c.held.ensures in
+    let n = slots_number (length s / 51) s in
+    let f = leading_counts (λ (x : Node). nearer t (node_key x) k) (slots_at (length s / 51) s) in
+    let l = ap length c.held.ensures ∙ length_lent m 34 (get_or m 1 0 * 51) (let g = c.args.list.few in let r = c.args.list.long in omega arith) in
+    let q : length s / 51 ≡ get_or m 1 0 = omega arith in
+    let g = ap (slots.position t k) h in
+    cc

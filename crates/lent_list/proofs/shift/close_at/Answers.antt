@@ -1,5 +1,7 @@
 -- `shift::close_at` meets its contract. Assumes nothing.
 use borrow.Author.Rules.{rules}
+use native.Mathlib.Omega.{arith}
+use Rattle.std.proofs.lemmas.Grind.{common_steps}
 use mathlib.Core.Path.{◌∙◌, ap}
 use mathlib.Core.List.{◌∷◌, ◌++◌}
 use Prim.Native.Nat.{◌+◌}
@@ -19,5 +21,5 @@ returns c =
     let b = c.blank in
     c.write_at.ensures
     ∙ closed_bytes s h.0 (bytes_each s (λ i. search rules)) a.place a.last h.1 h.2 b.result
-    _ c.move_forward.ensures
+    _ (grind (arith, common_steps))
     ∙ ap (λ (n : Node). slots_bytes (take a.last (remove_at a.place (slots_at 16 s)) ++ (n ∷ drop (a.last + 1) (slots_at 16 s)))) b.ensures

@@ -1,35 +1,20 @@
--- `slots::all_known` meets its contract. The invariant: the nodes not yet passed decide. Assumes nothing.
-use mathlib.Core.Path.{◌∙◌, refl, sym, ap}
-use mathlib.Core.Bool.{true, false}
-use Prim.Native.Nat.{◌≤◌}
-use native.Mathlib.Omega.{arith}
-use lib.ListN.{length}
+-- `slots::all_known` meets its contract. Assumes nothing.
+use Rattle.std.proofs.Common.{rules, ◌≡◌, ◌∙◌, refl, ap, Bool, ◌&&◌, List, [], ◌∷◌}
+use borrow.Author.Tests.{tests}
+use Rattle.std.specs.List.{list_all}
+use Rattle.std.proofs.lemmas.Iterator.{YieldsList-from_slice}
+use Rattle.std.proofs.lemmas.Iterator.Search.{all_from_yields_List}
+use Rattle.node.specs.declared.Node.{Node}
+use Rattle.node.specs.Families.{known_family}
 use Rattle.nearest.specs.Lists.{all_known}
-use Rattle.nearest.proofs.Front.{front_next, front_end}
-use Rattle.nearest.proofs.Steps.{known_one, known_none}
 use Rattle.nearest.proofs.slots.all_known.Goals as goal
 
-pub loop-i-init : goal.loop-i-init
-loop-i-init c = (omega arith, refl)
-
-pub returns-then-not-known : goal.returns-then-not-known
-returns-then-not-known c =
-    let l = c.loop-i in
-    let h : c.args.count ≤ length c.args.nodes = omega arith in
-    sym (l.invariant.1 ∙ ap all_known (front_next c.args.nodes c.args.count h _ l.i c.loop-i-test.true)
-    ∙ known_one _ _ false (sym c.known.ensures ∙ c.if-not-known.true))
-
-pub loop-i-preserved : goal.loop-i-preserved
-loop-i-preserved c =
-    let l = c.loop-i in
-    let h : c.args.count ≤ length c.args.nodes = omega arith in (
-      omega arith,
-      l.invariant.1 ∙ ap all_known (front_next c.args.nodes c.args.count h _ l.i c.loop-i-test.true)
-          ∙ known_one _ _ true (sym c.known.ensures ∙ c.if-not-known.false),
-    )
+each_known : (ns : List Node) → list_all (λ (n : Node). known_family n.family) ns ≡ all_known ns
+unfolding all_known
+each_known [] = refl
+each_known (n ∷ ns) = ap (λ (x : Bool). known_family n.family && x) (each_known ns)
 
 pub returns : goal.returns
 returns c =
-    let l = c.loop-i in
-    let h : c.args.count ≤ length c.args.nodes = omega arith in
-    sym (l.invariant.1 ∙ ap all_known (front_end c.args.nodes c.args.count h l.i c.loop-i-test.false) ∙ known_none)
+    all_from_yields_List (λ (n : Node). known_family n.family) _ _ _ c.all.ensures.ran (YieldsList-from_slice c.args.nodes.now cc) (λ x b q k. search (rules, tests))
+    ∙ each_known c.args.nodes.now

@@ -1,109 +1,47 @@
--- `packet::client::read` meets its contract: each return is the check of the definition that failed first, or the packet. Assumes nothing.
-use mathlib.Core.Path.{◌≡◌, ◌∙◌, sym, ap}
-use mathlib.Core.Bool.{Bool, true, false}
-use mathlib.Core.List.{List}
-use Prim.Native.Nat.{ℕ, ◌-◌}
-use native.Mathlib.Omega.{arith}
-use lib.ListN.{length, get_or, take, drop, length-drop}
-use lib.Seq.{take_all}
-use Rattle.refusal.specs.declared.Refusal.TheVariants.{PacketSize, UnexpectedKind, WrongLength, ZeroPing, NoSuchRoute}
+-- `packet::client::read` meets its contract: the checks that both ends make, then the number's, and then what was read. Assumes nothing.
+use Rattle.std.proofs.Common.{rules, arith, ◌≡◌, ◌∙◌, sym, ap, true, ℕ, get_or, drop}
+use Rattle.std.specs.Prelude.{Err}
+use Rattle.refusal.specs.declared.Refusal.TheVariants.{NoSuchRoute}
 use Rattle.packet_laws.specs.Read.{packet, check}
-use Rattle.packet_laws.specs.Table.{kind_of, body_of, size_right, client_takes, length_right, ping_right, number_right}
+use Rattle.packet_laws.specs.Table.{kind_of, body_of, client_takes, number_right}
 use Rattle.packet_laws.specs.FromRelay.{from_relay, client_read}
-use Rattle.packet_laws.proofs.KindLaws.{size_bounds, length_two}
-use Rattle.packet_laws.proofs.CheckLaws.{Passes, fails_size, fails_kind, fails_length, fails_ping}
-use Rattle.packet.proofs.ClientLaws.{client_reads_refused, client_reads_packet}
+use Rattle.packet_laws.proofs.KindLaws.{length_two}
 use Rattle.packet_laws.proofs.ClientKinds.{client_fails_number}
+use Rattle.packet.specs.ClientReads.{shown_relay}
+use Rattle.packet.proofs.CheckedLaws.{kind_passes, kind_fails}
+use Rattle.packet.proofs.ClientLaws.{client_reads_refused, client_reads_packet}
 use Rattle.packet.proofs.client.read.Goals as goal
 
--- the checks passed so far, each by what its function answered
-sized : (b : List ℕ) (r : Bool) → r ≡ size_right (length b) → r ≡ true → size_right (length b) ≡ true
-sized b r p e = sym p ∙ e
-
-taken : (b : List ℕ) (r : Bool) → r ≡ client_takes (get_or b 0 0) → r ≡ true → client_takes (kind_of b) ≡ true
-unfolding kind_of
-taken b r p e = sym p ∙ e
-
-long : (b : List ℕ) (r : Bool) → r ≡ length_right (get_or b 0 0) (length b) → r ≡ true → length_right (kind_of b) (length b) ≡ true
-unfolding kind_of
-long b r p e = sym p ∙ e
-
--- the ping check is made of the bytes after the kind
-pinged : (b : List ℕ) (r t : Bool) → r ≡ ping_right (get_or b 0 0) (take (length b - 1) (drop 1 b)) → r ≡ t → ping_right (kind_of b) (body_of b) ≡ t
-unfolding kind_of body_of
-pinged b r t p e =
-    ap (ping_right (get_or b 0 0)) (sym (take_all (length b - 1) (drop 1 b) (let l = length-drop 1 b in omega arith))) ∙ sym p ∙ e
-
-pub returns-then-not-size_right : goal.returns-then-not-size_right
+pub returns-in_err-kind : goal.returns-in_err-kind
 unfolding client_read
-returns-then-not-size_right c =
+returns-in_err-kind c =
     let b = c.args.packet.now in
-    client_reads_refused b PacketSize
-    (fails_size client_takes b (check (number_right (kind_of b) (get_or b 1 0)) NoSuchRoute (packet (from_relay (kind_of b) (body_of b)))) (sym c.size_right.ensures ∙ c.if-not-size_right.true))
-
-pub bounds-packet-0 : goal.bounds-packet-0
-bounds-packet-0 c = let h = size_bounds _ (sized c.args.packet.now _ c.size_right.ensures c.if-not-size_right.false) in omega arith
-
-pub returns-then-not-client_takes : goal.returns-then-not-client_takes
-unfolding client_read kind_of
-returns-then-not-client_takes c =
-    let b = c.args.packet.now in
-    let s = sized b _ c.size_right.ensures c.if-not-size_right.false in
-    client_reads_refused b UnexpectedKind
-    (fails_kind client_takes b (check (number_right (kind_of b) (get_or b 1 0)) NoSuchRoute (packet (from_relay (kind_of b) (body_of b)))) s (sym c.client_takes.ensures ∙ c.if-not-client_takes.true))
-
-pub returns-then-not-length_right : goal.returns-then-not-length_right
-unfolding client_read kind_of
-returns-then-not-length_right c =
-    let b = c.args.packet.now in
-    let s = sized b _ c.size_right.ensures c.if-not-size_right.false in
-    let t = taken b _ c.client_takes.ensures c.if-not-client_takes.false in
-    client_reads_refused b WrongLength
-    (fails_length client_takes b (check (number_right (kind_of b) (get_or b 1 0)) NoSuchRoute (packet (from_relay (kind_of b) (body_of b)))) s t (sym c.length_right.ensures ∙ c.if-not-length_right.true))
-
-pub slice_bounds-ping_right-count : goal.slice_bounds-ping_right-count
-slice_bounds-ping_right-count c = let h = size_bounds _ (sized c.args.packet.now _ c.size_right.ensures c.if-not-size_right.false) in omega arith
-
-pub slice_bounds-ping_right-start : goal.slice_bounds-ping_right-start
-slice_bounds-ping_right-start c = let h = size_bounds _ (sized c.args.packet.now _ c.size_right.ensures c.if-not-size_right.false) in omega arith
-
-pub returns-then-not-ping_right : goal.returns-then-not-ping_right
-unfolding client_read
-returns-then-not-ping_right c =
-    let b = c.args.packet.now in
-    let s = sized b _ c.size_right.ensures c.if-not-size_right.false in
-    let t = taken b _ c.client_takes.ensures c.if-not-client_takes.false in
-    let l = long b _ c.length_right.ensures c.if-not-length_right.false in
-    client_reads_refused b ZeroPing
-    (fails_ping client_takes b (check (number_right (kind_of b) (get_or b 1 0)) NoSuchRoute (packet (from_relay (kind_of b) (body_of b)))) s t l (pinged b _ false c.ping_right.ensures c.if-not-ping_right.true))
+    let why = c.in_err-kind.field-0.0 in
+    let e : c.from_residual.result ≡ Err why = search rules in
+    let after = check (number_right (kind_of b) (get_or b 1 0)) NoSuchRoute (packet (from_relay (kind_of b) (body_of b))) in
+    rw e (client_reads_refused b why (kind_fails client_takes b after why (sym (c.checked.ensures client_takes (λ _ _ e. e)) ∙ c.in_err-kind.was)))
 
 pub bounds-packet-1 : goal.bounds-packet-1
-bounds-packet-1 c = let h = length_two _ _ (long c.args.packet.now _ c.length_right.ensures c.if-not-length_right.false) in omega arith
+bounds-packet-1 c =
+    let p = kind_passes client_takes c.args.packet.now c.in_ok-kind.kind (sym (c.checked.ensures client_takes (λ _ _ e. e)) ∙ c.in_ok-kind.was) in
+    let h = length_two _ _ p.1.long in
+    omega arith
 
 pub returns-then-not-number_right : goal.returns-then-not-number_right
-unfolding kind_of
 returns-then-not-number_right c =
-    let passed : Passes client_takes c.args.packet.now = record {
-      size = sized c.args.packet.now _ c.size_right.ensures c.if-not-size_right.false;
-      kind = taken c.args.packet.now _ c.client_takes.ensures c.if-not-client_takes.false;
-      long = long c.args.packet.now _ c.length_right.ensures c.if-not-length_right.false;
-      ping = pinged c.args.packet.now _ true c.ping_right.ensures c.if-not-ping_right.false;
-    } in
     let b = c.args.packet.now in
-    client_reads_refused b NoSuchRoute (client_fails_number b passed (sym c.number_right.ensures ∙ c.if-not-number_right.true))
+    let p = kind_passes client_takes b c.in_ok-kind.kind (sym (c.checked.ensures client_takes (λ _ _ e. e)) ∙ c.in_ok-kind.was) in
+    client_reads_refused b NoSuchRoute (client_fails_number b p.1 (ap (λ (k : ℕ). number_right k (get_or b 1 0)) (sym p.0) ∙ sym c.number_right.ensures ∙ c.if-not-number_right.true))
 
 pub shown-requires : goal.shown-requires
-unfolding kind_of
-shown-requires c = long c.args.packet.now _ c.length_right.ensures c.if-not-length_right.false
+shown-requires c =
+    let p = kind_passes client_takes c.args.packet.now c.in_ok-kind.kind (sym (c.checked.ensures client_takes (λ _ _ e. e)) ∙ c.in_ok-kind.was) in
+    rw p.0 p.1.long
 
 pub returns : goal.returns
-unfolding kind_of body_of
+unfolding body_of
 returns c =
-    let passed : Passes client_takes c.args.packet.now = record {
-      size = sized c.args.packet.now _ c.size_right.ensures c.if-not-size_right.false;
-      kind = taken c.args.packet.now _ c.client_takes.ensures c.if-not-client_takes.false;
-      long = long c.args.packet.now _ c.length_right.ensures c.if-not-length_right.false;
-      ping = pinged c.args.packet.now _ true c.ping_right.ensures c.if-not-ping_right.false;
-    } in
-    let n : number_right (kind_of c.args.packet.now) (get_or c.args.packet.now 1 0) ≡ true = sym c.number_right.ensures ∙ c.if-not-number_right.false in
-    client_reads_packet c.args.packet.now c.shown.result (record { both = passed; number = n }) c.shown.ensures
+    let b = c.args.packet.now in
+    let p = kind_passes client_takes b c.in_ok-kind.kind (sym (c.checked.ensures client_takes (λ _ _ e. e)) ∙ c.in_ok-kind.was) in
+    let n : number_right (kind_of b) (get_or b 1 0) ≡ true = ap (λ (k : ℕ). number_right k (get_or b 1 0)) (sym p.0) ∙ sym c.number_right.ensures ∙ c.if-not-number_right.false in
+    client_reads_packet b c.shown.result (record { both = p.1; number = n }) (c.shown.ensures ∙ ap (λ (k : ℕ). shown_relay (from_relay k (drop 1 b))) p.0)

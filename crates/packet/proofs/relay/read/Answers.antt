@@ -1,92 +1,28 @@
--- `packet::relay::read` meets its contract: each return is the check of the definition that failed first, or the packet. Assumes nothing.
-use mathlib.Core.Path.{◌≡◌, ◌∙◌, sym, ap}
-use mathlib.Core.Bool.{Bool, true, false}
-use mathlib.Core.List.{List}
-use Prim.Native.Nat.{ℕ, ◌-◌}
-use native.Mathlib.Omega.{arith}
-use lib.ListN.{length, get_or, take, drop, length-drop}
-use lib.Seq.{take_all}
-use Rattle.refusal.specs.declared.Refusal.TheVariants.{PacketSize, UnexpectedKind, WrongLength, ZeroPing}
+-- `packet::relay::read` meets its contract: the checks that both ends make, and then what was read. Assumes nothing.
+use Rattle.std.proofs.Common.{rules, ◌≡◌, ◌∙◌, sym, ap, ℕ, drop}
+use Rattle.std.specs.Prelude.{Err}
 use Rattle.packet_laws.specs.Read.{packet}
-use Rattle.packet_laws.specs.Table.{kind_of, body_of, size_right, relay_takes, length_right, ping_right}
+use Rattle.packet_laws.specs.Table.{kind_of, body_of, relay_takes}
 use Rattle.packet_laws.specs.FromClient.{from_client, relay_read}
-use Rattle.packet_laws.proofs.KindLaws.{size_bounds}
-use Rattle.packet_laws.proofs.CheckLaws.{Passes, fails_size, fails_kind, fails_length, fails_ping}
+use Rattle.packet.specs.RelayReads.{shown_client}
+use Rattle.packet.proofs.CheckedLaws.{kind_passes, kind_fails}
 use Rattle.packet.proofs.RelayLaws.{relay_reads_refused, relay_reads_packet}
 use Rattle.packet.proofs.relay.read.Goals as goal
 
--- the checks passed so far, each by what its function answered
-sized : (b : List ℕ) (r : Bool) → r ≡ size_right (length b) → r ≡ true → size_right (length b) ≡ true
-sized b r p e = sym p ∙ e
-
-taken : (b : List ℕ) (r : Bool) → r ≡ relay_takes (get_or b 0 0) → r ≡ true → relay_takes (kind_of b) ≡ true
-unfolding kind_of
-taken b r p e = sym p ∙ e
-
-long : (b : List ℕ) (r : Bool) → r ≡ length_right (get_or b 0 0) (length b) → r ≡ true → length_right (kind_of b) (length b) ≡ true
-unfolding kind_of
-long b r p e = sym p ∙ e
-
--- the ping check is made of the bytes after the kind
-pinged : (b : List ℕ) (r t : Bool) → r ≡ ping_right (get_or b 0 0) (take (length b - 1) (drop 1 b)) → r ≡ t → ping_right (kind_of b) (body_of b) ≡ t
-unfolding kind_of body_of
-pinged b r t p e =
-    ap (ping_right (get_or b 0 0)) (sym (take_all (length b - 1) (drop 1 b) (let l = length-drop 1 b in omega arith))) ∙ sym p ∙ e
-
-pub returns-then-not-size_right : goal.returns-then-not-size_right
+pub returns-in_err-kind : goal.returns-in_err-kind
 unfolding relay_read
-returns-then-not-size_right c =
-    let b = c.args.packet.now in
-    relay_reads_refused b PacketSize
-    (fails_size relay_takes b (packet (from_client (kind_of b) (body_of b))) (sym c.size_right.ensures ∙ c.if-not-size_right.true))
-
-pub bounds-packet-0 : goal.bounds-packet-0
-bounds-packet-0 c = let h = size_bounds _ (sized c.args.packet.now _ c.size_right.ensures c.if-not-size_right.false) in omega arith
-
-pub returns-then-not-relay_takes : goal.returns-then-not-relay_takes
-unfolding relay_read kind_of
-returns-then-not-relay_takes c =
-    let b = c.args.packet.now in
-    let s = sized b _ c.size_right.ensures c.if-not-size_right.false in
-    relay_reads_refused b UnexpectedKind
-    (fails_kind relay_takes b (packet (from_client (kind_of b) (body_of b))) s (sym c.relay_takes.ensures ∙ c.if-not-relay_takes.true))
-
-pub returns-then-not-length_right : goal.returns-then-not-length_right
-unfolding relay_read kind_of
-returns-then-not-length_right c =
-    let b = c.args.packet.now in
-    let s = sized b _ c.size_right.ensures c.if-not-size_right.false in
-    let t = taken b _ c.relay_takes.ensures c.if-not-relay_takes.false in
-    relay_reads_refused b WrongLength
-    (fails_length relay_takes b (packet (from_client (kind_of b) (body_of b))) s t (sym c.length_right.ensures ∙ c.if-not-length_right.true))
-
-pub slice_bounds-ping_right-count : goal.slice_bounds-ping_right-count
-slice_bounds-ping_right-count c = let h = size_bounds _ (sized c.args.packet.now _ c.size_right.ensures c.if-not-size_right.false) in omega arith
-
-pub slice_bounds-ping_right-start : goal.slice_bounds-ping_right-start
-slice_bounds-ping_right-start c = let h = size_bounds _ (sized c.args.packet.now _ c.size_right.ensures c.if-not-size_right.false) in omega arith
-
-pub returns-then-not-ping_right : goal.returns-then-not-ping_right
-unfolding relay_read
-returns-then-not-ping_right c =
-    let b = c.args.packet.now in
-    let s = sized b _ c.size_right.ensures c.if-not-size_right.false in
-    let t = taken b _ c.relay_takes.ensures c.if-not-relay_takes.false in
-    let l = long b _ c.length_right.ensures c.if-not-length_right.false in
-    relay_reads_refused b ZeroPing
-    (fails_ping relay_takes b (packet (from_client (kind_of b) (body_of b))) s t l (pinged b _ false c.ping_right.ensures c.if-not-ping_right.true))
+returns-in_err-kind c =
+    let e : c.from_residual.result ≡ Err c.in_err-kind.field-0.0 = search rules in
+    let f = kind_fails relay_takes c.args.packet.now (packet (from_client (kind_of c.args.packet.now) (body_of c.args.packet.now))) c.in_err-kind.field-0.0 (sym (c.checked.ensures relay_takes (λ _ _ e. e)) ∙ c.in_err-kind.was) in
+    rw e (relay_reads_refused c.args.packet.now c.in_err-kind.field-0.0 f)
 
 pub shown-requires : goal.shown-requires
-unfolding kind_of
-shown-requires c = long c.args.packet.now _ c.length_right.ensures c.if-not-length_right.false
+shown-requires c =
+    let p = kind_passes relay_takes c.args.packet.now c.in_ok-kind.kind (sym (c.checked.ensures relay_takes (λ _ _ e. e)) ∙ c.in_ok-kind.was) in
+    rw p.0 p.1.long
 
 pub returns : goal.returns
-unfolding kind_of body_of
+unfolding body_of
 returns c =
-    let passed : Passes relay_takes c.args.packet.now = record {
-      size = sized c.args.packet.now _ c.size_right.ensures c.if-not-size_right.false;
-      kind = taken c.args.packet.now _ c.relay_takes.ensures c.if-not-relay_takes.false;
-      long = long c.args.packet.now _ c.length_right.ensures c.if-not-length_right.false;
-      ping = pinged c.args.packet.now _ true c.ping_right.ensures c.if-not-ping_right.false;
-    } in
-    relay_reads_packet c.args.packet.now c.shown.result passed c.shown.ensures
+    let p = kind_passes relay_takes c.args.packet.now c.in_ok-kind.kind (sym (c.checked.ensures relay_takes (λ _ _ e. e)) ∙ c.in_ok-kind.was) in
+    relay_reads_packet c.args.packet.now c.shown.result p.1 (c.shown.ensures ∙ ap (λ (k : ℕ). shown_client (from_client k (drop 1 c.args.packet.now))) p.0)

@@ -1,35 +1,7 @@
--- `record::connected` meets its contract: the notification behind the place of the head, then the head. Assumes nothing.
-use borrow.Rule.Slice.PartMut.{same_len_mid}
-use Prim.Native.Nat.{ℕ, ◌-◌}
-use lib.ListN.{length}
+-- `record::connected` meets its contract: the packet that its closure writes. Assumes nothing.
+use Rattle.std.proofs.Common.{rules}
 use Rattle.packet_laws.specs.FromRelay.{connect_notice}
-use Rattle.records.proofs.WriteLaws.{behind_le, head_asked, record_written}
 use Rattle.records.proofs.record.connected.Goals as goal
 
-pub slice_bounds-connect_notification-count : goal.slice_bounds-connect_notification-count
-slice_bounds-connect_notification-count c =
-    let a = c.args in
-    behind_le (length a.out.now) a.at c.behind_head-start.result c.behind_head-start.ensures
-
-pub slice_bounds-connect_notification-start : goal.slice_bounds-connect_notification-start
-slice_bounds-connect_notification-start c =
-    let a = c.args in
-    behind_le (length a.out.now) a.at c.behind_head-start.result c.behind_head-start.ensures
-
-pub head-requires : goal.head-requires
-head-requires c =
-    let a = c.args in
-    let place = c.behind_head-start in
-    let w = c.connect_notification-written in
-    head_asked (connect_notice a.number.0) a.seat.0 a.at place.result a.out.now
-    w.new.out w.result place.ensures w.ensures _
-    (same_len_mid {X = ℕ} place.result (length a.out.now - place.result) a.out.now
-    w.new.out w.auto.out)
-
-pub returns : goal.returns
-returns c =
-    let a = c.args in
-    let w = c.connect_notification-written in
-    let place = c.behind_head-start in
-    record_written (connect_notice a.number.0) a.seat.0 a.at place.result a.out.now
-    w.new.out w.result place.ensures w.ensures _ _ c.head.ensures
+pub append-requires-clause-writer : goal.append-requires-clause-writer
+append-requires-clause-writer c = (connect_notice c.args.number.0, search rules)

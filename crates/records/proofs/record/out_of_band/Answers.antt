@@ -1,35 +1,7 @@
--- `record::out_of_band` meets its contract: the packet behind the place of the head, then the head. Assumes nothing.
-use borrow.Rule.Slice.PartMut.{same_len_mid}
-use Prim.Native.Nat.{ℕ, ◌-◌}
-use lib.ListN.{length}
+-- `record::out_of_band` meets its contract: the packet that its closure writes. Assumes nothing.
+use Rattle.std.proofs.Common.{rules}
 use Rattle.packet_laws.specs.FromRelay.{oob_received}
-use Rattle.records.proofs.WriteLaws.{behind_le, head_asked, record_written}
 use Rattle.records.proofs.record.out_of_band.Goals as goal
 
-pub slice_bounds-oob_received-count : goal.slice_bounds-oob_received-count
-slice_bounds-oob_received-count c =
-    let a = c.args in
-    behind_le (length a.out.now) a.at c.behind_head-start.result c.behind_head-start.ensures
-
-pub slice_bounds-oob_received-start : goal.slice_bounds-oob_received-start
-slice_bounds-oob_received-start c =
-    let a = c.args in
-    behind_le (length a.out.now) a.at c.behind_head-start.result c.behind_head-start.ensures
-
-pub head-requires : goal.head-requires
-head-requires c =
-    let a = c.args in
-    let place = c.behind_head-start in
-    let w = c.oob_received-written in
-    head_asked (oob_received a.key.0 a.«data».now) a.seat.0 a.at place.result a.out.now
-    w.new.out w.result place.ensures w.ensures _
-    (same_len_mid {X = ℕ} place.result (length a.out.now - place.result) a.out.now
-    w.new.out w.auto.out)
-
-pub returns : goal.returns
-returns c =
-    let a = c.args in
-    let w = c.oob_received-written in
-    let place = c.behind_head-start in
-    record_written (oob_received a.key.0 a.«data».now) a.seat.0 a.at place.result a.out.now
-    w.new.out w.result place.ensures w.ensures _ _ c.head.ensures
+pub append-requires-clause-writer : goal.append-requires-clause-writer
+append-requires-clause-writer c = (oob_received c.args.key.0 c.args.«data».now, search rules)

@@ -5,9 +5,9 @@ use Rattle.relay.proofs.arrive.step.Goals as goal
 pub take_seat-requires : goal.take_seat-requires
 take_seat-requires c =
     let a = c.args in
-    still_whole a.seats a.numbers a.memory.now c.requires.0 a.key.0 a.out.now _ _ _ c.leave_if_seated-written.ensures
+    still_whole a.sizes.seats a.sizes.numbers a.memory.now c.requires.0 a.key.0 a.out.now _ _ _ c.leave_if_seated-written.ensures
 
 pub returns : goal.returns
 returns c =
     let a = c.args in
-    arrives a.seats a.numbers a.memory.now c.requires.0 a.key.0 a.out.now _ _ _ c.leave_if_seated-written.ensures _ _ c.take_seat.ensures
+    arrives a.sizes.seats a.sizes.numbers a.memory.now c.requires.0 a.key.0 a.out.now _ _ _ c.leave_if_seated-written.ensures _ _ c.take_seat.ensures

@@ -1,43 +1,68 @@
 -- `carry::data` meets its contract: the number, then the peer. Assumes nothing.
-use borrow.Author.Tests.{not-true, not-false}
-use mathlib.Core.Path.{sym, ◌∙◌}
+use Rattle.std.proofs.Common.{◌≡◌, ◌∙◌, sym, ◌-◌, Some, None, Err, arith}
+use Rattle.refusal.specs.declared.Refusal.TheVariants.{NoSuchRoute, NotConnected}
+use Rattle.rules.specs.Room.{first_number, alone, joined}
 use Rattle.rules.specs.Outcome.{peer}
 use Rattle.room_laws.specs.View.{view_room, seat_held}
-use Rattle.room.specs.Numbers.{route_numbered, peer_of}
-use Rattle.room_laws.specs.Lookup.{peer_wanting}
+use Rattle.room.specs.Numbers.{route_numbered}
+use Rattle.room.proofs.PeersFound.{found_joined, found_alone}
+use Rattle.records.proofs.Fits.{data_fits}
 use Rattle.relay_laws.specs.Calls.{answer_of}
 use Rattle.relay.proofs.SeatedClient.{sits_numbered, wanted_free, wanted_wants, peer_is}
-use Rattle.room.proofs.PeersFound.{found_back, found_right}
-use Rattle.relay.proofs.CarryCases.{data_free, data_carried}
+use Rattle.relay.proofs.CarryCases.{data_free, data_carried, carry_alone, carry_joined}
 use Rattle.relay.proofs.carry.data.Goals as goal
 
-pub returns-then-not-wanted : goal.returns-then-not-wanted
+pub returns-in_err-wanted : goal.returns-in_err-wanted
 unfolding answer_of
-returns-then-not-wanted c =
+returns-in_err-wanted c =
     let a = c.args in
+    let s = a.sizes.seats in
+    let n = a.sizes.numbers in
     let b = a.memory.now in
-    let w = c.wanted_by-wanted in
-    let e = wanted_free (route_numbered a.seats a.numbers b a.seat.0 a.number.0) w.result w.ensures (not-true _ c.if-not-wanted.true) in
-    data_free a.seats a.numbers (view_room a.seats a.numbers b) a.seat.0 (seat_held a.seats a.numbers b a.seat.0 a.key.0) b a.out.now a.number.0 a.«data».now
-    (sym (sits_numbered a.seats a.numbers b c.requires.0 a.seat.0 a.key.0 c.requires.1 a.number.0) ∙ e)
+    let seat = a.client.seat.0 in
+    let key = a.client.key.0 in
+    let none : c.wanted_by.result ≡ None = grind arith in
+    let why : c.from_residual.result ≡ Err NoSuchRoute = grind arith in
+    rw why (data_free s n (view_room s n b) seat (seat_held s n b seat key) b a.out.now a.number.0 a.«data».now
+    (sym (sits_numbered s n b c.requires.0.0 seat key c.requires.0.1 a.number.0)
+    ∙ wanted_free (route_numbered s n b seat a.number.0) (sym c.wanted_by.ensures ∙ none)))
 
-pub to_peer-requires : goal.to_peer-requires
-to_peer-requires c =
+pub returns-in_err-peer : goal.returns-in_err-peer
+unfolding answer_of
+returns-in_err-peer c =
     let a = c.args in
-    let found = c.of-peer in
-    let wanted = c.wanted_by-wanted.result.key.0 in
-    let right = found_right (peer_wanting a.seats a.numbers a.memory.now a.seat.0 a.key.0 wanted) found.result found.ensures in
-    (right, c.requires.2, c.requires.3, c.requires.4)
+    let s = a.sizes.seats in
+    let n = a.sizes.numbers in
+    let b = a.memory.now in
+    let seat = a.client.seat.0 in
+    let key = a.client.key.0 in
+    let wanted = c.in_ok-wanted.wanted in
+    let some : c.wanted_by.result ≡ Some wanted = grind arith in
+    let none : c.of.result ≡ None = grind arith in
+    let why : c.from_residual-in_err-peer.result ≡ Err NotConnected = grind arith in
+    rw why (data_carried s n (view_room s n b) seat (seat_held s n b seat key) b a.out.now a.number.0 a.«data».now wanted.0
+    (sym (sits_numbered s n b c.requires.0.0 seat key c.requires.0.1 a.number.0)
+    ∙ wanted_wants (route_numbered s n b seat a.number.0) wanted (sym c.wanted_by.ensures ∙ some))
+    alone (sym (found_alone (peer (view_room s n b) seat key wanted.0) c.of.result (peer_is s n b c.requires.0.0 seat key wanted.0 c.of.result c.of.ensures) none))
+    _ _ (carry_alone s n b a.out.now seat a.«data».now))
 
 pub returns : goal.returns
+unfolding answer_of
 returns c =
     let a = c.args in
+    let s = a.sizes.seats in
+    let n = a.sizes.numbers in
     let b = a.memory.now in
-    let w = c.wanted_by-wanted in
-    let found = c.of-peer in
-    let e = wanted_wants (route_numbered a.seats a.numbers b a.seat.0 a.number.0) w.result w.ensures (not-false _ c.if-not-wanted.false) in
-    data_carried a.seats a.numbers (view_room a.seats a.numbers b) a.seat.0 (seat_held a.seats a.numbers b a.seat.0 a.key.0) b a.out.now a.number.0 a.«data».now
-    w.result.key.0 (sym (sits_numbered a.seats a.numbers b c.requires.0 a.seat.0 a.key.0 c.requires.1 a.number.0) ∙ e)
-    (peer_of found.result) (found_back (peer (view_room a.seats a.numbers b) a.seat.0 a.key.0 w.result.key.0) found.result
-    (peer_is a.seats a.numbers b c.requires.0 a.seat.0 a.key.0 w.result.key.0 found.result found.ensures))
-    _ _ (c.to_peer.ensures a.seats a.numbers b)
+    let seat = a.client.seat.0 in
+    let key = a.client.key.0 in
+    let wanted = c.in_ok-wanted.wanted in
+    let found = c.in_ok-peer.peer in
+    let some : c.wanted_by.result ≡ Some wanted = grind arith in
+    let is : c.of.result ≡ Some found = grind arith in
+    let right = found_joined (peer (view_room s n b) seat key wanted.0) c.of.result (peer_is s n b c.requires.0.0 seat key wanted.0 c.of.result c.of.ensures) found is in
+    data_carried s n (view_room s n b) seat (seat_held s n b seat key) b a.out.now a.number.0 a.«data».now wanted.0
+    (sym (sits_numbered s n b c.requires.0.0 seat key c.requires.0.1 a.number.0)
+    ∙ wanted_wants (route_numbered s n b seat a.number.0) wanted (sym c.wanted_by.ensures ∙ some))
+    (joined found.seat.0 (found.number.0 - first_number)) (sym right.0) _ _
+    (carry_joined s n b a.out.now seat a.«data».now found.seat.0 found.number.0 right.1 _ _
+    (data_fits found.number.0 a.«data».now right.1 c.requires.1 c.requires.2 (let long = c.requires.0.2 in omega arith) c.data-bytes.ensures))

@@ -8,15 +8,15 @@ pub returns-then-not-is_taken : goal.returns-then-not-is_taken
 unfolding answer_of
 returns-then-not-is_taken c =
     let a = c.args in
-    leave_none a.seats a.numbers a.memory.now c.requires.0 a.seat.0 (sym c.is_taken.ensures ∙ c.if-not-is_taken.true) a.out.now
+    leave_none a.sizes.seats a.sizes.numbers a.memory.now c.requires.0 a.seat.0 (sym c.is_taken.ensures ∙ c.if-not-is_taken.true) a.out.now
 
-pub depart-requires : goal.depart-requires
-depart-requires c =
+pub depart-bytes-requires : goal.depart-bytes-requires
+depart-bytes-requires c =
     let a = c.args in
     let t = c.is_taken in (
       c.requires.0,
       sym t.ensures ∙ c.if-not-is_taken.false,
-      leave_room a.seats a.numbers a.memory.now c.requires.0 a.seat.0 a.out.now c.requires.1,
+      leave_room a.sizes.seats a.sizes.numbers a.memory.now c.requires.0 a.seat.0 a.out.now c.requires.1,
     )
 
 pub returns : goal.returns
@@ -24,6 +24,6 @@ unfolding answer_of
 returns c =
     let a = c.args in
     let t = c.is_taken in
-    leave_made a.seats a.numbers a.memory.now c.requires.0 a.seat.0
+    leave_made a.sizes.seats a.sizes.numbers a.memory.now c.requires.0 a.seat.0
     (sym t.ensures ∙ c.if-not-is_taken.false) a.out.now _ _ _
-    c.depart.ensures
+    c.depart-bytes.ensures

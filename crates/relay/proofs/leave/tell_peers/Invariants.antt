@@ -1,6 +1,6 @@
 -- `leave::tell_peers` meets its contract. The invariant: the peers of the numbers passed are told. Assumes nothing.
 use mathlib.Core.Path.{◌≡◌}
-use Prim.Native.Nat.{◌-◌, ◌≤◌}
+use Prim.Native.Nat.{◌≤◌}
 use lib.ListN.{length, take}
 use Rattle.rules.specs.Outcome.{tell_peers}
 use Rattle.room_laws.specs.Layout.{routes_table}
@@ -10,10 +10,6 @@ use Rattle.relay.proofs.leave.tell_peers.Given as goal
 
 abbrev pub invariant-loop-place : goal.invariant-loop-place
 invariant-loop-place l =
-    (l.place ≤ l.numbers)
-    × (l.numbers ≤ 240)
+    (l.sizes.numbers ≤ 240)
     × (length l.out ≡ length l.initial.out)
-    × Appends (tell_peers (view_room l.seats l.numbers l.memory) l.seat.0 l.key.0 (take l.place (view_routes l.numbers (routes_table l.seats l.numbers l.memory l.seat.0)))) l.initial.out l.at l.next l.out
-
-abbrev pub decreases-loop-place : goal.decreases-loop-place
-decreases-loop-place l = l.numbers - l.place
+    × Appends (tell_peers (view_room l.sizes.seats l.sizes.numbers l.memory) l.client.seat.0 l.client.key.0 (take l.place (view_routes l.sizes.numbers (routes_table l.sizes.seats l.sizes.numbers l.memory l.client.seat.0)))) l.initial.out l.at l.next l.out

@@ -12,7 +12,7 @@ pub returns-then-not-is_taken : goal.returns-then-not-is_taken
 unfolding answer_of
 returns-then-not-is_taken c =
     let a = c.args in
-    from_empty_lem a.seats a.numbers a.memory.now c.requires.0 a.seat.0 a.out.now a.packet.now (sym c.is_taken.ensures ∙ c.if-not-is_taken.true)
+    from_empty_lem a.sizes.seats a.sizes.numbers a.memory.now c.requires.0 a.seat.0 a.out.now a.packet.now (sym c.is_taken.ensures ∙ c.if-not-is_taken.true)
 
 pub returns-in_default : goal.returns-in_default
 unfolding answer_of
@@ -20,23 +20,23 @@ returns-in_default c =
     let a = c.args in
     let b = a.memory.now in
     let key = c.key_in-key in
-    let sits = leave_sits a.seats a.numbers b c.requires.0 a.seat.0 c.is_taken.result c.is_taken.ensures c.if-not-is_taken.false key.result.0 key.ensures in
+    let sits = leave_sits a.sizes.seats a.sizes.numbers b c.requires.0 a.seat.0 c.is_taken.result c.is_taken.ensures c.if-not-is_taken.false key.result.0 key.ensures in
     let e = shows_refused (relay_read a.packet.now) c.refusal.result (sym (refusal_taken _ _ c.refusal.result c.in_default.is c.refusal.ensures) ∙ c.read-read.ensures.exact) in
-    let held = seat_held a.seats a.numbers b a.seat.0 key.result.0 in
-    from_seat a.seats a.numbers (view_room a.seats a.numbers b) a.seat.0 b a.out.now _ _ _ held a.packet.now sits
-    (turned_down a.seats a.numbers (view_room a.seats a.numbers b) a.seat.0 b a.out.now a.packet.now held (relay_read a.packet.now) c.refusal.result e)
+    let held = seat_held a.sizes.seats a.sizes.numbers b a.seat.0 key.result.0 in
+    from_seat a.sizes.seats a.sizes.numbers (view_room a.sizes.seats a.sizes.numbers b) a.seat.0 b a.out.now _ _ _ held a.packet.now sits
+    (turned_down a.sizes.seats a.sizes.numbers (view_room a.sizes.seats a.sizes.numbers b) a.seat.0 b a.out.now a.packet.now held (relay_read a.packet.now) c.refusal.result e)
 
 pub act-requires : goal.act-requires
 act-requires c =
     let a = c.args in
     let key = c.key_in-key in
-    let sits = leave_sits a.seats a.numbers a.memory.now c.requires.0 a.seat.0 c.is_taken.result c.is_taken.ensures c.if-not-is_taken.false key.result.0 key.ensures in
-    (c.requires.0, sits, sym c.in-Packet.is ∙ c.read-read.ensures.exact, c.requires.1)
+    let sits = leave_sits a.sizes.seats a.sizes.numbers a.memory.now c.requires.0 a.seat.0 c.is_taken.result c.is_taken.ensures c.if-not-is_taken.false key.result.0 key.ensures in
+    ((c.requires.0, sits, c.requires.1), sym c.in-Ok.is ∙ c.read-read.ensures.exact)
 
 pub returns : goal.returns
 returns c =
     let a = c.args in
     let b = a.memory.now in
     let key = c.key_in-key in
-    let sits = leave_sits a.seats a.numbers b c.requires.0 a.seat.0 c.is_taken.result c.is_taken.ensures c.if-not-is_taken.false key.result.0 key.ensures in
-    from_seat a.seats a.numbers (view_room a.seats a.numbers b) a.seat.0 b a.out.now _ _ _ (seat_held a.seats a.numbers b a.seat.0 key.result.0) a.packet.now sits c.act.ensures
+    let sits = leave_sits a.sizes.seats a.sizes.numbers b c.requires.0 a.seat.0 c.is_taken.result c.is_taken.ensures c.if-not-is_taken.false key.result.0 key.ensures in
+    from_seat a.sizes.seats a.sizes.numbers (view_room a.sizes.seats a.sizes.numbers b) a.seat.0 b a.out.now _ _ _ (seat_held a.sizes.seats a.sizes.numbers b a.seat.0 key.result.0) a.packet.now sits c.act.ensures

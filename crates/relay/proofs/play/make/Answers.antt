@@ -32,9 +32,9 @@ returns-in-Arrive c =
     let a = c.args in
     let stored = a.calls.now in
     let r = arrive_read stored (subst (Reads stored) c.in-Arrive.is c.requires.1) in
-    let key = c.read in
+    let key = c.read-key in
     let same = key_read stored key.result.0 r.long key.ensures in
-    makes a.seats a.numbers stored a.memory.now a.out.now _ _ _ (arrive key.result.0) (r.first ∙ ap (λ (x : List ℕ). call (arrive x)) (sym same))
+    makes a.sizes.seats a.sizes.numbers stored a.memory.now a.out.now _ _ _ (arrive key.result.0) (r.first ∙ ap (λ (x : List ℕ). call (arrive x)) (sym same))
     c.step.ensures
 
 pub returns-in-Leave : goal.returns-in-Leave
@@ -42,7 +42,7 @@ returns-in-Leave c =
     let a = c.args in
     let stored = a.calls.now in
     let seat = c.in-Leave.seat in
-    makes a.seats a.numbers stored a.memory.now a.out.now _ _ _ (leave seat.0)
+    makes a.sizes.seats a.sizes.numbers stored a.memory.now a.out.now _ _ _ (leave seat.0)
     (leave_read stored seat (subst (Reads stored) c.in-Leave.is c.requires.1)) c.step-in-Leave.ensures
 
 pub returns-in-Packet : goal.returns-in-Packet
@@ -52,5 +52,5 @@ returns-in-Packet c =
     let seat = c.in-Packet.seat in
     let size = c.in-Packet.size in
     let r = packet_read stored seat size (subst (Reads stored) c.in-Packet.is c.requires.1) in
-    makes a.seats a.numbers stored a.memory.now a.out.now _ _ _ (packet_call seat.0 (take (4 + size - 4) (drop 4 stored)))
+    makes a.sizes.seats a.sizes.numbers stored a.memory.now a.out.now _ _ _ (packet_call seat.0 (take (4 + size - 4) (drop 4 stored)))
     (r.first ∙ ap (λ (n : ℕ). call (packet_call seat.0 (take n (drop 4 stored)))) (sym (add-sub_cancel_left 4 size))) c.step-in-Packet.ensures

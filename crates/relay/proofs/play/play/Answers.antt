@@ -8,9 +8,6 @@ returns-then-not-is_whole c =
     let a = c.args in
     play_not_whole 40 32 a.allowance a.calls.now a.memory.now a.out.now (sym c.is_whole.ensures ∙ c.if-not-is_whole.true)
 
-pub play_all-requires : goal.play_all-requires
-play_all-requires c = sym c.is_whole.ensures ∙ c.if-not-is_whole.false
-
 pub returns : goal.returns
 returns c =
     let a = c.args in

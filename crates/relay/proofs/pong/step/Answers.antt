@@ -9,7 +9,7 @@ unfolding answer_of
 returns-then-outstanding-number c =
     let a = c.args in
     let o = c.outstanding in
-    pong_clears a.seats a.numbers a.memory.now c.requires a.seat.0 a.number (sym o.ensures ∙ c.if-outstanding-number.true) _
+    pong_clears a.sizes.seats a.sizes.numbers a.memory.now c.requires a.seat.0 a.number (sym o.ensures ∙ c.if-outstanding-number.true) _
     c.clear_ping.ensures
 
 pub returns-else-outstanding-number : goal.returns-else-outstanding-number
@@ -17,4 +17,4 @@ unfolding answer_of
 returns-else-outstanding-number c =
     let a = c.args in
     let o = c.outstanding in
-    pong_passes a.seats a.numbers a.memory.now c.requires a.seat.0 a.number (λ q. c.if-outstanding-number.false (o.ensures ∙ q))
+    pong_passes a.sizes.seats a.sizes.numbers a.memory.now c.requires a.seat.0 a.number (λ q. c.if-outstanding-number.false (o.ensures ∙ q))

@@ -9,6 +9,6 @@ pub returns : goal.returns
 unfolding answer_of
 returns c =
     let a = c.args in
-    let w = c.response-written in
+    let w = c.response-bytes in
     carries_answer a.seat.0 a.number.0 a.wanted.0 a.out.now w.result w.new.out
     (response_fits a.number.0 a.wanted.0 c.requires.1 (let long = c.requires.0 in omega arith) w.ensures)

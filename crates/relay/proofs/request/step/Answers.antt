@@ -14,25 +14,25 @@ returns-then-equals c =
     let a = c.args in
     let same = c.equals in
     let w = c.answer_only in
-    request_own a.seats a.numbers a.memory.now a.seat.0 a.key.0 a.wanted.0 same.result same.ensures c.if-equals.true
+    request_own a.sizes.seats a.sizes.numbers a.memory.now a.client.seat.0 a.client.key.0 a.wanted.0 same.result same.ensures c.if-equals.true
     a.out.now (answer_of w.result) w.new.out w.ensures
 
-pub answer_only-requires-in-At : goal.answer_only-requires-in-At
-answer_only-requires-in-At c =
+pub answer_only-requires-in-Some : goal.answer_only-requires-in-Some
+answer_only-requires-in-Some c =
     let a = c.args in
     let look = c.number_of in
-    let old = c.in-At in
-    (c.requires.2, given old.old.0 (number_right_lem (route_wanting a.seats a.numbers a.memory.now a.seat.0 a.wanted.0) look.result look.ensures old.old old.is))
+    let old = c.in-Some in
+    (c.requires.2, given old.old.0 (number_right_lem (route_wanting a.sizes.seats a.sizes.numbers a.memory.now a.client.seat.0 a.wanted.0) look.result look.ensures old.old old.is))
 
-pub returns-in-At : goal.returns-in-At
+pub returns-in-Some : goal.returns-in-Some
 unfolding answer_of
-returns-in-At c =
+returns-in-Some c =
     let a = c.args in
     let same = c.equals in
     let look = c.number_of in
-    let old = c.in-At in
-    let w = c.answer_only-in-At in
-    request_old a.seats a.numbers a.memory.now a.seat.0 a.key.0 a.wanted.0 c.requires.0 c.requires.1
+    let old = c.in-Some in
+    let w = c.answer_only-in-Some in
+    request_old a.sizes.seats a.sizes.numbers a.memory.now a.client.seat.0 a.client.key.0 a.wanted.0 c.requires.0 c.requires.1
     same.result same.ensures c.if-equals.false a.out.now w.new.out look.result look.ensures
     old.old old.is (answer_of w.result) w.ensures
 
@@ -47,16 +47,16 @@ returns-in_default-lowest_free c =
     let look = c.number_of in
     let look-free = c.lowest_free in
     let w = c.answer_only-in_default-lowest_free in
-    request_full a.seats a.numbers a.memory.now a.seat.0 a.key.0 a.wanted.0 c.requires.0 c.requires.1
+    request_full a.sizes.seats a.sizes.numbers a.memory.now a.client.seat.0 a.client.key.0 a.wanted.0 c.requires.0 c.requires.1
     same.result same.ensures c.if-equals.false a.out.now w.new.out look.result look.ensures c.in_default.is
     look-free.result look-free.ensures c.in_default-lowest_free.is (answer_of w.result) w.ensures
 
-pub give-requires : goal.give-requires
-give-requires c =
+pub give-bytes-requires : goal.give-bytes-requires
+give-bytes-requires c =
     let a = c.args in
     let look = c.lowest_free in
-    let number = c.in-At-lowest_free in
-    (c.requires.0, c.requires.2, number_right_lem (lowest_route a.seats a.numbers a.memory.now a.seat.0) look.result look.ensures number.number number.is)
+    let number = c.in-Some-lowest_free in
+    ((c.requires.0, c.requires.2), number_right_lem (lowest_route a.sizes.seats a.sizes.numbers a.memory.now a.client.seat.0) look.result look.ensures number.number number.is)
 
 pub returns : goal.returns
 unfolding answer_of
@@ -65,8 +65,8 @@ returns c =
     let same = c.equals in
     let look = c.number_of in
     let look-free = c.lowest_free in
-    let number = c.in-At-lowest_free in
-    let g = c.give in
-    request_given a.seats a.numbers a.memory.now a.seat.0 a.key.0 a.wanted.0 c.requires.0 c.requires.1
+    let number = c.in-Some-lowest_free in
+    let g = c.give-bytes in
+    request_given a.sizes.seats a.sizes.numbers a.memory.now a.client.seat.0 a.client.key.0 a.wanted.0 c.requires.0 c.requires.1
     same.result same.ensures c.if-equals.false a.out.now g.new.out look.result look.ensures
     c.in_default.is look-free.result look-free.ensures g.result number.number number.is g.new.memory g.ensures

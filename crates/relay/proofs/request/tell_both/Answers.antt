@@ -6,19 +6,19 @@ use Rattle.relay.proofs.RequestCases.{connected_next, tells_nobody, tells_both}
 use Rattle.room.proofs.PeersFound.{joined_right}
 use Rattle.relay.proofs.request.tell_both.Goals as goal
 
-pub returns-in-Joined : goal.returns-in-Joined
-returns-in-Joined c =
+pub returns-in_default : goal.returns-in_default
+returns-in_default c =
+    let a = c.args in
+    tells_nobody a.seat.0 a.number.0 a.peer c.in_default.is a.out.now a.at
+
+pub returns : goal.returns
+returns c =
     let a = c.args in
     let w = c.connected-next in
-    let p = c.in-Joined in
-    let theirs = joined_right a.peer p.other p.theirs p.is c.requires.2 in
-    let first = connected_fits a.number.0 c.requires.1 (omega arith) w.ensures in
+    let other = c.in-Some.peer in
+    let theirs = joined_right a.peer other c.in-Some.is c.requires.2 in
+    let first = connected_fits a.number.0 c.requires.1 (let long = c.requires.0 in omega arith) w.ensures in
     let next = connected_next a.seat.0 a.number.0 a.out.now a.at w.result w.new.out first in
-    let same = appends_length _ a.out.now a.at w.result w.new.out first (omega arith) in
-    tells_both a.seat.0 a.number.0 a.peer p.other p.theirs p.is theirs
-    a.out.now a.at w.result c.connected.result w.new.out c.connected.new.out (omega arith) first (connected_fits p.theirs.0 theirs (omega arith) c.connected.ensures)
-
-pub returns-in-Alone : goal.returns-in-Alone
-returns-in-Alone c =
-    let a = c.args in
-    tells_nobody a.seat.0 a.number.0 a.peer c.in-Alone.is a.out.now a.at
+    let same = appends_length _ a.out.now a.at w.result w.new.out first (let long = c.requires.0 in omega arith) in
+    tells_both a.seat.0 a.number.0 a.peer other c.in-Some.is theirs a.out.now a.at w.result c.connected.result w.new.out c.connected.new.out
+    (let long = c.requires.0 in omega arith) first (connected_fits other.number.0 theirs (let long = c.requires.0 in omega arith) c.connected.ensures)

@@ -20,14 +20,13 @@ pub loop-place-init : goal.loop-place-init
 unfolding leavers
 loop-place-init c =
     let a = c.args in
-    let room = view_room a.seats a.numbers a.memory.now in (
-      omega arith,
-      whole_few_seats a.seats a.numbers a.memory.now c.requires.0,
+    let room = view_room a.sizes.seats a.sizes.numbers a.memory.now in (
+      whole_few_seats a.sizes.seats a.sizes.numbers a.memory.now c.requires.0,
       refl,
       refl,
       c.requires.0,
       refl,
-      begun a.seats a.numbers (leave_each room (leavers a.time room)) a.memory.now a.out.now 0,
+      begun a.sizes.seats a.sizes.numbers (leave_each room (leavers a.time room)) a.memory.now a.out.now 0,
     )
 
 -- what is written so far is at most what all the departures take
@@ -44,36 +43,29 @@ pub put_out_one-at-requires : goal.put_out_one-at-requires
 put_out_one-at-requires c =
     let a = c.args in
     let l = c.loop-place in
-    (l.invariant.4, omega (arith, l.invariant.5, c.requires.1), omega (arith, l.invariant.2, c.requires.2, written a.seats a.numbers a.time a.memory.now a.out.now c.requires.0 l.memory l.out l.at l.place l.invariant.6))
+    (l.invariant.3, omega (arith, l.invariant.4, c.requires.1), omega (arith, l.invariant.1, c.requires.2, written a.sizes.seats a.sizes.numbers a.time a.memory.now a.out.now c.requires.0 l.memory l.out l.at l.place l.invariant.5))
 
 pub loop-place-preserved : goal.loop-place-preserved
 loop-place-preserved c =
     let a = c.args in
     let l = c.loop-place in
     let p = c.put_out_one-at in
-    let room = view_room a.seats a.numbers a.memory.now in
-    let goes = leaves_goes a.seats a.numbers (leave_each room (leavers a.time room)) a.memory.now a.out.now 0 (omega arith) l.memory l.invariant.4 l.place (omega arith)
-    l.out l.at _ p.result _ a.time l.invariant.6 p.ensures in
-    let within = written a.seats a.numbers a.time a.memory.now a.out.now c.requires.0 _ _ p.result (l.place + 1) goes.so_far in (
-      omega arith,
-      l.invariant.1,
+    let room = view_room a.sizes.seats a.sizes.numbers a.memory.now in
+    let goes = leaves_goes a.sizes.seats a.sizes.numbers (leave_each room (leavers a.time room)) a.memory.now a.out.now 0 (omega arith) l.memory l.invariant.3 l.place (omega arith)
+    l.out l.at _ p.result _ a.time l.invariant.5 p.ensures in
+    let within = written a.sizes.seats a.sizes.numbers a.time a.memory.now a.out.now c.requires.0 _ _ p.result (l.place + 1) goes.so_far in (
+      l.invariant.0,
       appends_length _ a.out.now 0 p.result _ goes.so_far.writes (let h = c.requires.2 in omega arith),
-      goes.long ∙ l.invariant.3,
+      goes.long ∙ l.invariant.2,
       goes.whole,
-      goes.clock ∙ l.invariant.5,
+      goes.clock ∙ l.invariant.4,
       goes.so_far,
     )
-
-pub shape_of-memory : goal.shape_of-memory
-shape_of-memory c = c.loop-place.invariant.3
-
-pub shape_of-out : goal.shape_of-out
-shape_of-out c = c.loop-place.invariant.2
 
 pub returns : goal.returns
 returns c =
     let a = c.args in
     let l = c.loop-place in
-    let room = view_room a.seats a.numbers a.memory.now in
-    let ended = leaves_ended a.seats a.numbers l.memory l.invariant.4 a.time l.place (omega arith) in
-    done a.seats a.numbers (leave_each room (leavers a.time room)) a.memory.now a.out.now 0 _ l.memory l.out l.at ended.0 ended.1 l.invariant.6
+    let room = view_room a.sizes.seats a.sizes.numbers a.memory.now in
+    let ended = leaves_ended a.sizes.seats a.sizes.numbers l.memory l.invariant.3 a.time l.place (omega arith) in
+    done a.sizes.seats a.sizes.numbers (leave_each room (leavers a.time room)) a.memory.now a.out.now 0 _ l.memory l.out l.at ended.0 ended.1 l.invariant.5

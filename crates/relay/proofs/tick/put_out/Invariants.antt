@@ -2,7 +2,7 @@
 -- clock as it was. Assumes nothing.
 use mathlib.Core.Path.{◌≡◌}
 use mathlib.Core.Bool.{true}
-use Prim.Native.Nat.{◌-◌, ◌≤◌}
+use Prim.Native.Nat.{◌≤◌}
 use lib.ListN.{length}
 use Rattle.rules.specs.Outcome.{leave_each, leavers}
 use Rattle.room_laws.specs.View.{view_room}
@@ -13,14 +13,10 @@ use Rattle.relay.proofs.tick.put_out.Given as goal
 
 abbrev pub invariant-loop-place : goal.invariant-loop-place
 invariant-loop-place l =
-    (l.place ≤ l.seats)
-    × (l.seats ≤ 40)
+    (l.sizes.seats ≤ 40)
     × (length l.out ≡ length l.initial.out)
     × (length l.memory ≡ length l.initial.memory)
-    × (room_whole l.seats l.numbers l.memory ≡ true)
-    × ((view_room l.seats l.numbers l.memory).clock ≡ (view_room l.seats l.numbers l.initial.memory).clock)
-    × SoFar l.seats l.numbers (leave_each (view_room l.seats l.numbers l.initial.memory) (leavers l.time (view_room l.seats l.numbers l.initial.memory))) l.initial.memory l.initial.out 0
-    (leaves_from l.seats l.numbers l.memory l.time l.place) l.memory l.out l.at
-
-abbrev pub decreases-loop-place : goal.decreases-loop-place
-decreases-loop-place l = l.seats - l.place
+    × (room_whole l.sizes.seats l.sizes.numbers l.memory ≡ true)
+    × ((view_room l.sizes.seats l.sizes.numbers l.memory).clock ≡ (view_room l.sizes.seats l.sizes.numbers l.initial.memory).clock)
+    × SoFar l.sizes.seats l.sizes.numbers (leave_each (view_room l.sizes.seats l.sizes.numbers l.initial.memory) (leavers l.time (view_room l.sizes.seats l.sizes.numbers l.initial.memory))) l.initial.memory l.initial.out 0
+    (leaves_from l.sizes.seats l.sizes.numbers l.memory l.time l.place) l.memory l.out l.at
