@@ -6,11 +6,14 @@ use mathlib.Core.List.{List, [], ◌∷◌, ◌++◌}
 use Prim.Native.Nat.{ℕ}
 use lib.ListN.{replicate}
 use Rattle.wire.specs.Numbers.{number_of}
+use Rattle.std.specs.Prelude.{Err}
+use Rattle.refusal.specs.declared.Refusal.{Refusal}
 use Rattle.refusal.specs.declared.Refusal.TheVariants.{OutputTooShort, BadFrame}
 use Rattle.frame.specs.declared.Front.TheVariants.{Unfinished, BadLength, Whole}
+use Rattle.frame.specs.declared.Reader.{Reader}
 use Rattle.frame.specs.declared.Shown.TheVariants.{More, InPiece, InKeep}
 use Rattle.frame.specs.Frames.{length_of, length_right, front_with, front, unfinished, bad, parted, parted_by, frames_of, concatenated}
-use Rattle.frame.specs.Reader.{reader_holding, shows, refuses, read_frame}
+use Rattle.frame.specs.Reader.{Outcome, reader_holding, shows, read_frame}
 
 -- ---- lengths
 
@@ -103,25 +106,29 @@ pub in_the_keep : read_frame (reader_holding 3) (holds (0 ∷ 17 ∷ 5 ∷ []) 2
 unfolding read_frame front front_with length_right length_of number_of
 in_the_keep = refl
 
+-- a refusal, written out: none of the piece is used
+abbrev refused : Refusal → Reader → List ℕ → Outcome
+refused why reader keep = record { read = record { shown = Err why; reader = reader; used = 0 }; keep = keep }
+
 -- a bad length, of which the first byte came before
-pub bad_length_cut : read_frame (reader_holding 1) (holds (0 ∷ []) 2049) (16 ∷ 5 ∷ []) ≡ refuses BadFrame (reader_holding 2051) (holds (0 ∷ []) 2049)
+pub bad_length_cut : read_frame (reader_holding 1) (holds (0 ∷ []) 2049) (16 ∷ 5 ∷ []) ≡ refused BadFrame (reader_holding 2051) (holds (0 ∷ []) 2049)
 unfolding read_frame front front_with length_right length_of number_of
 bad_length_cut = refl
 
 -- a reader that holds a whole frame, one with a bad length, and one that was left so by 18
-pub whole_held : read_frame (reader_holding 19) (holds frame 2031) [] ≡ refuses BadFrame (reader_holding 2051) (holds frame 2031)
+pub whole_held : read_frame (reader_holding 19) (holds frame 2031) [] ≡ refused BadFrame (reader_holding 2051) (holds frame 2031)
 unfolding read_frame front front_with length_right length_of number_of
 whole_held = refl
 
-pub bad_held : read_frame (reader_holding 2) (holds (0 ∷ 16 ∷ []) 2048) frame ≡ refuses BadFrame (reader_holding 2051) (holds (0 ∷ 16 ∷ []) 2048)
+pub bad_held : read_frame (reader_holding 2) (holds (0 ∷ 16 ∷ []) 2048) frame ≡ refused BadFrame (reader_holding 2051) (holds (0 ∷ 16 ∷ []) 2048)
 unfolding read_frame front front_with length_right length_of number_of
 bad_held = refl
 
-pub broken_held : read_frame (reader_holding 2051) keep frame ≡ refuses BadFrame (reader_holding 2051) keep
+pub broken_held : read_frame (reader_holding 2051) keep frame ≡ refused BadFrame (reader_holding 2051) keep
 unfolding read_frame front front_with length_right length_of number_of
 broken_held = refl
 
 -- a keep of 2,049 bytes, with a reader that was left so by 18: 10 is checked first, and the reader is as before
-pub short_keep : read_frame (reader_holding 2051) (replicate 2049 7) frame ≡ refuses OutputTooShort (reader_holding 2051) (replicate 2049 7)
+pub short_keep : read_frame (reader_holding 2051) (replicate 2049 7) frame ≡ refused OutputTooShort (reader_holding 2051) (replicate 2049 7)
 unfolding read_frame
 short_keep = refl

@@ -4,8 +4,10 @@
 // in lent memory. Where keys come from, and the secret half of each, stay with the host.
 #![tactic(auto)]
 
-ghost use Rattle.std.specs.Prelude.{◌≡◌};
-ghost use Rattle.key.specs.Keys.{same_key, nearer, key_of, with_key};
+ghost use Rattle.std.specs.Prelude.{◌≡◌, Some, take};
+ghost use Rattle.wire.specs.Numbers.{number_of};
+ghost use Rattle.key.specs.Keys.{IsKey, same_key, nearer, key_of, with_key};
+ghost use Rattle.key.specs.Text.{key_text};
 
 pub mod in_place;
 
@@ -47,12 +49,22 @@ impl Key {
             out[..Key::BYTES].copy_from_slice(&self.0);
         }
     }
+
+    // What is printed of a key: the number of its first eight bytes. It is lent no reference, since of a key behind one no proof learns that it is bytes.
+    fn shown(self) -> u64
+        ensures number { result ≡ number_of (take 8 self.0) }
+        ensures fits { IsKey self.0 }
+    {
+        wire::read_number(&self.0)
+    }
 }
 
 // The first eight bytes: enough for a person to tell keys apart.
 impl fmt::Display for Key {
+    ghost output = { λ key. Some (key_text key.0) };
+
     fn fmt<W: fmt::Write>(&self, f: &mut fmt::Formatter<W>) -> fmt::Result {
-        let front = wire::read_number(&self.0);
+        let front = self.shown();
         write!(f, "key {front:016x}..")
     }
 }

@@ -79,20 +79,28 @@ stepped place count (shows n) = (refl, refl)
 stepped place count ends = (refl, refl)
 stepped place count (refuses why) = (refl, refl)
 
--- the end and a refusal leave the walker as it was
-pub no_node_stays : (list : List ℕ) (place count : ℕ) (answer : Answer) → Steps list place count answer → ((next : Next) → answer ≡ Ok (Some next) → ⊥)
-    → (place_answered place answer ≡ place) × (count_answered count answer ≡ count)
-unfolding place_answered count_answered
-no_node_stays list place count (Ok (Some next)) is h = absurd (h next refl)
-no_node_stays list place count (Ok None) is h = (refl, refl)
-no_node_stays list place count (Err why) is h = (refl, refl)
-
 -- after any answer the walker stands where the step of the lent list puts it, and has shown as many
 pub answered_after : (list : List ℕ) (place count : ℕ) (answer : Answer) → Steps list place count answer
     → (place_answered place answer ≡ place_after (step_of list place count) place) × (count_answered count answer ≡ count_after (step_of list place count) count)
 answered_after list place count answer is =
     let e = stepped place count (step_of list place count) in
     (ap (place_answered place) is.exact ∙ e.0, ap (count_answered count) is.exact ∙ e.1)
+
+-- an answer that shows no node moves no walker
+answer_stays : (place count : ℕ) (answer : Answer) → ((next : Next) → answer ≡ Ok (Some next) → ⊥) → (place_answered place answer ≡ place) × (count_answered count answer ≡ count)
+unfolding place_answered count_answered
+answer_stays place count (Ok (Some next)) h = absurd (h next refl)
+answer_stays place count (Ok None) h = (refl, refl)
+answer_stays place count (Err why) h = (refl, refl)
+
+-- the end and a refusal leave the walker as it was: by the answer, and by the step of the lent list
+pub no_node_stays : (list : List ℕ) (place count : ℕ) (answer : Answer) → Steps list place count answer → ((next : Next) → answer ≡ Ok (Some next) → ⊥)
+    → ((place_answered place answer ≡ place) × (count_answered count answer ≡ count))
+    × ((place_after (step_of list place count) place ≡ place) × (count_after (step_of list place count) count ≡ count))
+no_node_stays list place count answer is h =
+    let s = answer_stays place count answer h in
+    let e = answered_after list place count answer is in
+    (s, (sym e.0 ∙ s.0, sym e.1 ∙ s.1))
 
 -- ---- by the reader's answer
 

@@ -5,6 +5,9 @@
 // lent packet.
 #![tactic(auto)]
 
+ghost use Rattle.std.specs.Prelude.{Some};
+ghost use Rattle.packet.specs.Text.{number_text};
+
 pub mod client;
 pub mod kind;
 mod parts;
@@ -22,6 +25,8 @@ impl ConnectionNumber {
 }
 
 impl fmt::Display for ConnectionNumber {
+    ghost output = { λ number. Some (number_text number.0) };
+
     fn fmt<W: fmt::Write>(&self, f: &mut fmt::Formatter<W>) -> fmt::Result {
         let number = self.0;
         write!(f, "number {number}")

@@ -7,14 +7,16 @@ use mathlib.Core.Bool.{Bool, true, false, cond, not}
 use lib.Dec.{leb, eqb}
 use Rattle.std.proofs.lemmas.Bool.Decides.{nat_tests}
 use lib.Seq.{take-append_seam}
-use lib.ListN.{length, take, drop, set}
+use lib.ListN.{length, take, drop, set, length-set}
 use borrow.Author.Tests.{le-leb, lt-leb}
 use Rattle.std.specs.Prelude.{Result, Ok, Err}
 use Rattle.std.specs.Int.{to_be_bytes}
 use Rattle.std.proofs.Math.Nat.{div-div-eq-div-mul}
 use mir.Syntax.{w64}
 use Rattle.wire.specs.Numbers.{bytes_of}
-use Rattle.wire.proofs.Copy.{written_first, written_part}
+use Rattle.wire.proofs.Copy.{written_first, written_part, length_lent}
+use Rattle.key.specs.Keys.{with_key}
+use Rattle.key.proofs.Lent.{with_key_whole}
 use Rattle.refusal.specs.declared.Refusal.{Refusal}
 use Rattle.refusal.specs.declared.Refusal.TheVariants.{OutputTooShort}
 use Rattle.packet_laws.specs.Read.{Read, packet, refused, check}
@@ -110,3 +112,28 @@ written_pieces out head rest k m n room e f =
     ap (λ (l : List ℕ). take (1 + length head) l ++ (rest ++ drop n (drop (1 + length head) l))) second
     ∙ written_part (k ∷ head) rest out (1 + length head) n (omega arith)
     ∙ ap (λ (j : ℕ). (k ∷ (head ++ rest)) ++ drop (1 + length head + j) out) f
+
+-- ---- a byte and a key, and what is copied behind them; a byte, and what is copied behind it
+
+-- an output whose first byte is set, and whose next 32 come back from a call that writes a key
+abbrev pub with_kind_and_key : List ℕ → ℕ → List ℕ → List ℕ
+with_kind_and_key out k new = take 1 (set out 0 k) ++ (new ++ drop 32 (drop 1 (set out 0 k)))
+
+module _ (out new key : List ℕ) (k : ℕ) (room : 33 ≤ length out) (e : new ≡ with_key key (take 32 (drop 1 (set out 0 k)))) where
+  pub written_key : with_kind_and_key out k new ≡ (k ∷ key) ++ drop 33 out
+  written_key =
+      let m : new ≡ key = e ∙ with_key_whole key _ (length_lent (set out 0 k) 1 32 (simp length-set room)) in
+      ap₂ (λ (x l : List ℕ). take 1 l ++ (x ++ drop 32 (drop 1 l))) m (written_first out k (omega arith)) ∙ written_part (k ∷ []) key out 1 32 refl
+
+  pub written_key_and_bytes : (copied bytes : List ℕ) (m : ℕ) → length key ≡ 32 → m ≡ length bytes → 33 + length bytes ≤ length out
+      → copied ≡ bytes
+      → take 33 (with_kind_and_key out k new) ++ (copied ++ drop m (drop 33 (with_kind_and_key out k new))) ≡ (k ∷ (key ++ bytes)) ++ drop (33 + length bytes) out
+  written_key_and_bytes copied bytes m h q all f =
+      ap₂ (λ (x l : List ℕ). take 33 l ++ (x ++ drop m (drop 33 l))) f written_key ∙ written_part (k ∷ key) bytes out 33 m (omega arith)
+      ∙ ap (λ (n : ℕ). (k ∷ (key ++ bytes)) ++ drop (33 + n) out) q
+
+pub written_byte_and_bytes : (out copied bytes : List ℕ) (k m : ℕ) → m ≡ length bytes → 1 + length bytes ≤ length out → copied ≡ bytes
+    → take 1 (set out 0 k) ++ (copied ++ drop m (drop 1 (set out 0 k))) ≡ (k ∷ bytes) ++ drop (1 + length bytes) out
+written_byte_and_bytes out copied bytes k m q all f =
+    ap₂ (λ (x l : List ℕ). take 1 l ++ (x ++ drop m (drop 1 l))) f (written_first out k (omega arith)) ∙ written_part (k ∷ []) bytes out 1 m refl
+    ∙ ap (λ (n : ℕ). (k ∷ bytes) ++ drop (1 + n) out) q

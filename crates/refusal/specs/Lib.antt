@@ -1,2 +1,3 @@
--- What a reader must believe of this crate: which number each refusal has.
+-- What a reader must believe of this crate: which number each refusal has, and its words.
 pub mod Numbers
+pub mod Text

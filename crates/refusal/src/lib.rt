@@ -3,8 +3,9 @@
 // One enum serves the whole library, so that a host prints every refusal by one table.
 #![tactic(auto)]
 
-ghost use Rattle.std.specs.Prelude.{◌≡◌};
+ghost use Rattle.std.specs.Prelude.{◌≡◌, Some};
 ghost use Rattle.refusal.specs.Numbers.{refusal_number};
+ghost use Rattle.refusal.specs.Text.{refusal_text};
 
 use std::{error, fmt};
 
@@ -47,6 +48,8 @@ impl Refusal {
 // 18 to 20. An arrival's output is worded as a tick's, by document 02's "arrival checks 10 (2,048)"; and 2, which no call gives any more, has "retired"
 // before it.
 impl fmt::Display for Refusal {
+    ghost output = { λ why. Some (refusal_text why) };
+
     fn fmt<W: fmt::Write>(&self, f: &mut fmt::Formatter<W>) -> fmt::Result {
         f.write_str(match self {
             Refusal::RoomFull => "arrival with all 40 seats taken, of a key not seated",

@@ -3,7 +3,7 @@
 ghost use Rattle.std.specs.Prelude.{◌≡◌, true, false, ◌+◌, ◌-◌, ◌≤◌, length, IfSome, MatchOption};
 ghost use Rattle.rules.specs.Room.{first_number};
 ghost use Rattle.rules.specs.Outcome.{seat_taken, seat_emptied, clock_set, ping_sent, ping_answered};
-ghost use Rattle.room_laws.specs.Layout.{seat_bytes, seat_start, routes_start, routes_end};
+ghost use Rattle.room_laws.specs.Layout.{ping_start, outstanding_start, routes_start, routes_end};
 ghost use Rattle.room_laws.specs.Lookup.{has_seat};
 ghost use Rattle.room_laws.specs.Store.{store};
 ghost use Rattle.room.specs.Numbers.{given_number, freed_number};
@@ -94,13 +94,13 @@ pub fn set_clock(memory: &mut [u8], sizes: Sizes, time: u64)
     }
 }
 
-// Where a seat stands, if memory has it.
+// Where the ping of a seat stands, its time and its number, if memory has the seat.
 #[tactic(auto, unfolding(room_laws::specs::Lookup::has_seat))]
-fn seat_start(memory: &[u8], sizes: Sizes, seat: Seat) -> Option<usize>
-    ensures is { MatchOption result (has_seat sizes.seats sizes.numbers memory.now seat.0 ≡ false) (λ at. (has_seat sizes.seats sizes.numbers memory.now seat.0 ≡ true) × (at ≡ seat_start sizes.seats sizes.numbers seat.0)) }
-    ensures within { IfSome result (λ at. at + seat_bytes sizes.numbers ≤ length memory.now) }
+fn ping_places(memory: &[u8], sizes: Sizes, seat: Seat) -> Option<(usize, usize)>
+    ensures is { MatchOption result (has_seat sizes.seats sizes.numbers memory.now seat.0 ≡ false) (λ places. (has_seat sizes.seats sizes.numbers memory.now seat.0 ≡ true) × (places ≡ (ping_start sizes.seats sizes.numbers seat.0, outstanding_start sizes.seats sizes.numbers seat.0))) }
+    ensures within { IfSome result (λ places. (places.0 + 8 ≤ length memory.now) × (places.1 + 8 ≤ length memory.now)) }
 {
-    Lent::new(memory, sizes)?.seat_start(seat)
+    Lent::new(memory, sizes)?.ping_places(seat)
 }
 
 // A seat was pinged at a time, with a number.
@@ -108,9 +108,9 @@ fn seat_start(memory: &[u8], sizes: Sizes, seat: Seat) -> Option<usize>
 pub fn set_ping(memory: &mut [u8], sizes: Sizes, seat: Seat, time: u64, number: u64)
     ensures { memory.new ≡ store sizes.seats sizes.numbers memory.old (ping_sent seat.0 time number) }
 {
-    if let Some(start) = seat_start(memory, sizes, seat) {
-        layout::write_word(memory, start + layout::PING_IN_SEAT, time);
-        layout::write_word(memory, start + layout::OUTSTANDING_IN_SEAT, number);
+    if let Some((at, then)) = ping_places(memory, sizes, seat) {
+        layout::write_word(memory, at, time);
+        layout::write_word(memory, then, number);
     }
 }
 
@@ -119,7 +119,7 @@ pub fn set_ping(memory: &mut [u8], sizes: Sizes, seat: Seat, time: u64, number: 
 pub fn clear_ping(memory: &mut [u8], sizes: Sizes, seat: Seat)
     ensures { memory.new ≡ store sizes.seats sizes.numbers memory.old (ping_answered seat.0) }
 {
-    if let Some(start) = seat_start(memory, sizes, seat) {
-        layout::write_word(memory, start + layout::OUTSTANDING_IN_SEAT, 0);
+    if let Some((_, then)) = ping_places(memory, sizes, seat) {
+        layout::write_word(memory, then, 0);
     }
 }

@@ -6,7 +6,7 @@
 ghost use Rattle.std.specs.Prelude.{◌≡◌, true, false, ◌+◌, ◌<◌, ◌≤◌, length, IfSome, MatchOption, SomeIff};
 ghost use Rattle.table_laws.specs.Bytes.{splice};
 ghost use Rattle.table_laws.specs.Table.{key_of_place};
-ghost use Rattle.room_laws.specs.Layout.{seat_bytes, room_bytes, sizes_right, fits_room, seat_table, seat_start, routes_start, routes_end, routes_table};
+ghost use Rattle.room_laws.specs.Layout.{seat_bytes, room_bytes, sizes_right, fits_room, seat_table, seat_start, ping_start, outstanding_start, routes_start, routes_end, routes_table};
 ghost use Rattle.room_laws.specs.View.{word_at, number_at, clock_in, seat_ping};
 ghost use Rattle.room_laws.specs.Whole.{header_right};
 ghost use Rattle.room_laws.specs.Store.{word_of, new_seat, MakesEmpty};
@@ -34,9 +34,9 @@ const WORD: usize = 8;
 pub(crate) const SEATS_START: usize = CLOCK_START + WORD;
 
 // Where the time of the last ping stands in a seat's record: behind its key. The number of the ping that is outstanding follows, and then the table of routes.
-pub(crate) const PING_IN_SEAT: usize = Key::BYTES;
+const PING_IN_SEAT: usize = Key::BYTES;
 
-pub(crate) const OUTSTANDING_IN_SEAT: usize = PING_IN_SEAT + WORD;
+const OUTSTANDING_IN_SEAT: usize = PING_IN_SEAT + WORD;
 
 pub(crate) const ROUTES_IN_SEAT: usize = OUTSTANDING_IN_SEAT + WORD;
 
@@ -190,6 +190,15 @@ impl<'a> Lent<'a> {
             return None;
         }
         Some(SEATS_START + (1 + self.sizes.seats + place * seat_bytes(self.sizes)))
+    }
+
+    // Where the time of the last ping of a seat stands, and the number of the ping that is outstanding.
+    pub(crate) fn ping_places(self, seat: Seat) -> Option<(usize, usize)>
+        ensures is { let r = self.entry in SomeIff result (seat.0 < r.sizes.seats) (ping_start r.sizes.seats r.sizes.numbers seat.0, outstanding_start r.sizes.seats r.sizes.numbers seat.0) }
+        ensures within { let r = self.entry in IfSome result (λ places. (places.0 + 8 ≤ length r.memory.now) × (places.1 + 8 ≤ length r.memory.now)) }
+    {
+        let start = self.seat_start(seat)?;
+        Some((start + PING_IN_SEAT, start + OUTSTANDING_IN_SEAT))
     }
 
     // The time of the last ping of a seat.

@@ -4,11 +4,11 @@ use mathlib.Core.List.{List, []}
 use Prim.Native.Nat.{ℕ, ◌+◌, ◌≤◌}
 use native.Mathlib.Omega.{arith}
 use lib.ListN.{length, get_or, take, drop, length-append}
-use borrow.Author.Tests.{le-leb, eq-eqb}
+use borrow.Author.Tests.{le-leb, eq-eqb, ne_eqb}
 use Rattle.wire.specs.Numbers.{number_of, bytes_of}
 use Rattle.wire.proofs.Numbers.{length_bytes_of}
 use Rattle.rules.specs.Call.{arrive, leave, packet_call}
-use Rattle.stored.specs.Stored.{stored_form, stored_bytes, call, formed, headed, first_call}
+use Rattle.stored.specs.Stored.{stored_form, stored_bytes, call, none, formed, headed, first_call}
 
 -- ---- how many bytes a stored call has
 
@@ -48,6 +48,23 @@ module _ (code seat : ℕ) (given : List ℕ) where
   pub packet_sent : code ≡ 2 → formed code seat given ≡ call (packet_call seat given)
   unfolding formed
   packet_sent c = rw c
+
+  -- "no other form is one"
+  pub arrival_seated : code ≡ 0 → (seat ≡ 0 → ⊥) → formed code seat given ≡ none
+  unfolding formed
+  arrival_seated c s = simp (eq-eqb code 0 c, ne_eqb seat 0 s)
+
+  pub arrival_no_key : code ≡ 0 → seat ≡ 0 → (length given ≡ 32 → ⊥) → formed code seat given ≡ none
+  unfolding formed
+  arrival_no_key c s l = simp (eq-eqb code 0 c, eq-eqb seat 0 s, ne_eqb (length given) 32 l)
+
+  pub departure_given : code ≡ 1 → (length given ≡ 0 → ⊥) → formed code seat given ≡ none
+  unfolding formed
+  departure_given c l = rw c (simp (ne_eqb (length given) 0 l))
+
+  pub no_form : (code ≡ 0 → ⊥) → (code ≡ 1 → ⊥) → (code ≡ 2 → ⊥) → formed code seat given ≡ none
+  unfolding formed
+  no_form a b c = simp (ne_eqb code 0 a, ne_eqb code 1 b, ne_eqb code 2 c)
 
 -- ---- the front of bytes
 

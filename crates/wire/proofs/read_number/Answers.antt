@@ -32,7 +32,8 @@ pub loop-byte-preserved : goal.loop-byte-preserved
 loop-byte-preserved c =
     let s = c.in-Some.ensures.steps in
     let e = front_next c.loop-byte.number c.in-Some.field-0.now _ _ _ _ _ s.0 s.1 c.loop-byte.invariant in
-    rw c.from.ensures e
+    let read : c.from.result ≡ c.in-Some.field-0.now = grind arith in
+    rw read e
 
 pub returns : goal.returns
 returns c = front_none _ _ _ _ (λ h. (c.in-None.ensures.steps h).0) c.loop-byte.invariant
