@@ -44,8 +44,8 @@ pub fn size_right(size: usize) -> bool
     matches!(size, 1..=MOST_BYTES)
 }
 
-// 5, at the relay: the kinds that a client sends. Here and below a data packet is asked for first, since most packets are: with its range behind the other kinds, each
-// of them was looked for in a data packet first, and a client's reader took 1.3 times as long for one.
+// 5, at the relay: the kinds that a client sends. Here and below a data packet is asked for first, since most packets are one: with its range behind the other
+// kinds, each of them was looked for first, and a client's reader took 1.3 times as long for it.
 #[tactic(auto, unfolding(packet_laws::specs::Table::relay_takes))]
 pub(crate) fn relay_takes(kind: u8) -> bool
     ensures { result ≡ relay_takes kind }

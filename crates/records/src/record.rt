@@ -26,8 +26,10 @@ fn append<F: FnOnce(&mut [u8]) -> Result<usize, Refusal>>(
         return at;
     };
     out[at] = seat.0;
-    wire::write_number(size as u64, &mut out[at + 1..start]);
-    start + size
+    // A packet was written, so `start` is this end; said so, the compiler knows that the length has two bytes, and writes them without a loop.
+    let end = at + HEAD;
+    wire::write_number(size as u64, &mut out[at + 1..end]);
+    end + size
 }
 
 // A connect notification for a seat.

@@ -45,8 +45,12 @@ pub(crate) fn data(
     ensures { Acts sizes client (routed_data number.0 «data».now) memory.now out.old (answer_of result) memory.now out.new }
 {
     let seat = client.seat;
-    let wanted = lookup::wanted_by(memory, sizes, seat, number).ok_or(Refusal::NoSuchRoute)?;
-    let peer = peer::of(memory, sizes, seat, client.key, wanted).ok_or(Refusal::NotConnected)?;
+    let Some(wanted) = lookup::wanted_by(memory, sizes, seat, number) else {
+        return Err(Refusal::NoSuchRoute);
+    };
+    let Some(peer) = peer::of(memory, sizes, seat, client.key, wanted) else {
+        return Err(Refusal::NotConnected);
+    };
     let bytes = record::data(out, 0, peer.seat, peer.number, data);
     Ok(Accepted { seat, bytes })
 }

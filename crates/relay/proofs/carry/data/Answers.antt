@@ -1,6 +1,5 @@
 -- `carry::data` meets its contract: the number, then the peer. Assumes nothing.
-use Rattle.std.proofs.Common.{◌≡◌, ◌∙◌, sym, ◌-◌, Some, None, Err, arith}
-use Rattle.refusal.specs.declared.Refusal.TheVariants.{NoSuchRoute, NotConnected}
+use Rattle.std.proofs.Common.{◌≡◌, ◌∙◌, sym, ◌-◌, Some, None, arith}
 use Rattle.rules.specs.Room.{first_number, alone, joined}
 use Rattle.rules.specs.Outcome.{peer}
 use Rattle.room_laws.specs.View.{view_room, seat_held}
@@ -12,9 +11,9 @@ use Rattle.relay.proofs.SeatedClient.{sits_numbered, wanted_free, wanted_wants, 
 use Rattle.relay.proofs.CarryCases.{data_free, data_carried, carry_alone, carry_joined}
 use Rattle.relay.proofs.carry.data.Goals as goal
 
-pub returns-in_err-wanted : goal.returns-in_err-wanted
+pub returns-in_default : goal.returns-in_default
 unfolding answer_of
-returns-in_err-wanted c =
+returns-in_default c =
     let a = c.args in
     let s = a.sizes.seats in
     let n = a.sizes.numbers in
@@ -22,29 +21,27 @@ returns-in_err-wanted c =
     let seat = a.client.seat.0 in
     let key = a.client.key.0 in
     let none : c.wanted_by.result ≡ None = grind arith in
-    let why : c.from_residual.result ≡ Err NoSuchRoute = grind arith in
-    rw why (data_free s n (view_room s n b) seat (seat_held s n b seat key) b a.out.now a.number.0 a.«data».now
+    data_free s n (view_room s n b) seat (seat_held s n b seat key) b a.out.now a.number.0 a.«data».now
     (sym (sits_numbered s n b c.requires.0.0 seat key c.requires.0.1 a.number.0)
-    ∙ wanted_free (route_numbered s n b seat a.number.0) (sym c.wanted_by.ensures ∙ none)))
+    ∙ wanted_free (route_numbered s n b seat a.number.0) (sym c.wanted_by.ensures ∙ none))
 
-pub returns-in_err-peer : goal.returns-in_err-peer
+pub returns-in_default-of : goal.returns-in_default-of
 unfolding answer_of
-returns-in_err-peer c =
+returns-in_default-of c =
     let a = c.args in
     let s = a.sizes.seats in
     let n = a.sizes.numbers in
     let b = a.memory.now in
     let seat = a.client.seat.0 in
     let key = a.client.key.0 in
-    let wanted = c.in_ok-wanted.wanted in
+    let wanted = c.in-Some.wanted in
     let some : c.wanted_by.result ≡ Some wanted = grind arith in
     let none : c.of.result ≡ None = grind arith in
-    let why : c.from_residual-in_err-peer.result ≡ Err NotConnected = grind arith in
-    rw why (data_carried s n (view_room s n b) seat (seat_held s n b seat key) b a.out.now a.number.0 a.«data».now wanted.0
+    data_carried s n (view_room s n b) seat (seat_held s n b seat key) b a.out.now a.number.0 a.«data».now wanted.0
     (sym (sits_numbered s n b c.requires.0.0 seat key c.requires.0.1 a.number.0)
     ∙ wanted_wants (route_numbered s n b seat a.number.0) wanted (sym c.wanted_by.ensures ∙ some))
     alone (sym (found_alone (peer (view_room s n b) seat key wanted.0) c.of.result (peer_is s n b c.requires.0.0 seat key wanted.0 c.of.result c.of.ensures) none))
-    _ _ (carry_alone s n b a.out.now seat a.«data».now))
+    _ _ (carry_alone s n b a.out.now seat a.«data».now)
 
 pub returns : goal.returns
 unfolding answer_of
@@ -55,8 +52,8 @@ returns c =
     let b = a.memory.now in
     let seat = a.client.seat.0 in
     let key = a.client.key.0 in
-    let wanted = c.in_ok-wanted.wanted in
-    let found = c.in_ok-peer.peer in
+    let wanted = c.in-Some.wanted in
+    let found = c.in-Some-of.peer in
     let some : c.wanted_by.result ≡ Some wanted = grind arith in
     let is : c.of.result ≡ Some found = grind arith in
     let right = found_joined (peer (view_room s n b) seat key wanted.0) c.of.result (peer_is s n b c.requires.0.0 seat key wanted.0 c.of.result c.of.ensures) found is in
